@@ -1,0 +1,72 @@
+-- What is printed is read back, and a text is read byte by byte.
+use Rattle.std.proofs.Common.{◌≡◌, ℕ, ◌+◌, ◌*◌, ◌/◌, ◌%◌, ◌<◌, ◌≢◌, Bool, true, false, cond, ltb, subst, List, [], ◌∷◌, ◌++◌, length, get_or, drop, Option, Some, None, refl, sym, ap, ◌∙◌, arith, append_assoc, inl, inr}
+use Rattle.std.specs.Option.{option_map}
+use Rattle.std.specs.List.{All}
+use Rattle.std.specs.Char.{digit_value}
+use Rattle.std.proofs.lemmas.List.Elements.{All-head, All-tail}
+use Rattle.std.proofs.lemmas.Bool.{cases_eq, cond-true, cond-false, lt-ltb, ne_eqb}
+use Rattle.std.proofs.lemmas.Bool.Decides.{nat_tests}
+use Rattle.geo_cluster.specs.Escapes.{hex_digit, is_printable, escaped_byte, escaped, turn, turn_escape, unescaped_on, unescaped_from, unescaped}
+use Rattle.geo_cluster.specs.declared.script.escape.Spot.{Spot}
+use Rattle.geo_cluster.specs.declared.script.escape.Spot.TheVariants.{Between, Backslash, Hex, HexDigit}
+use Rattle.geo_cluster.specs.declared.script.escape.Turn.{Turn}
+use Rattle.geo_cluster.specs.declared.script.escape.Turn.TheVariants.{Gives, Leads, Fails}
+
+-- what a text spells, behind bytes that were spelt before it
+abbrev pub behind : List ℕ → Option (List ℕ) → Option (List ℕ)
+behind done more = option_map (λ bytes. done ++ bytes) more
+
+-- a digit that was printed is read as its value
+hex_read : (n : ℕ) → n < 16 → digit_value (hex_digit n) ≡ n
+hex_read n h = grind (arith, nat_tests)
+
+turn_hex : (n : ℕ) → n < 16 → turn Hex (hex_digit n) ≡ Leads (HexDigit n)
+turn_hex n h = ap (λ v. cond (ltb v 16) (Leads (HexDigit v)) Fails) (hex_read n h) ∙ cond-true _ _ _ (lt-ltb n 16 h)
+
+turn_hex_digit : (high n : ℕ) → n < 16 → turn (HexDigit high) (hex_digit n) ≡ Gives (16 * high + n)
+turn_hex_digit high n h = ap (λ v. cond (ltb v 16) (Gives (16 * high + v)) Fails) (hex_read n h) ∙ cond-true _ _ _ (lt-ltb n 16 h)
+
+-- a byte that is printed by its two digits is read back
+hex_read_back : (b : ℕ) (rest : List ℕ) → b < 256 → unescaped (92 ∷ 120 ∷ hex_digit (b / 16) ∷ hex_digit (b % 16) ∷ rest) ≡ option_map (λ bytes. b ∷ bytes) (unescaped rest)
+hex_read_back b rest h =
+    let high : b / 16 < 16 = omega arith in
+    let low : b % 16 < 16 = omega arith in
+    let whole : 16 * (b / 16) + b % 16 ≡ b = omega arith in
+    ap (λ t. unescaped_on t (λ s. unescaped_from s (hex_digit (b % 16) ∷ rest))) (turn_hex (b / 16) high)
+    ∙ ap (λ t. unescaped_on t (λ s. unescaped_from s rest)) (turn_hex_digit (b / 16) (b % 16) low)
+    ∙ ap (λ v. option_map (λ bytes. v ∷ bytes) (unescaped rest)) whole
+
+printed_hex : (b : ℕ) → b ≢ 92 → b ≢ 13 → b ≢ 10 → is_printable b ≡ false → escaped_byte b ≡ 92 ∷ 120 ∷ hex_digit (b / 16) ∷ hex_digit (b % 16) ∷ []
+printed_hex b x y z h = cond-false _ _ _ (ne_eqb b 92 x) ∙ cond-false _ _ _ (ne_eqb b 13 y) ∙ cond-false _ _ _ (ne_eqb b 10 z) ∙ cond-false _ _ _ h
+
+printed_self : (b : ℕ) → b ≢ 92 → b ≢ 13 → b ≢ 10 → is_printable b ≡ true → escaped_byte b ≡ b ∷ []
+printed_self b x y z h = cond-false _ _ _ (ne_eqb b 92 x) ∙ cond-false _ _ _ (ne_eqb b 13 y) ∙ cond-false _ _ _ (ne_eqb b 10 z) ∙ cond-true _ _ _ h
+
+abbrev IsReadBack : ℕ → List ℕ → Type 0
+IsReadBack b rest = unescaped (escaped_byte b ++ rest) ≡ option_map (λ bytes. b ∷ bytes) (unescaped rest)
+
+self_read_back : (b : ℕ) (rest : List ℕ) → b ≢ 92 → unescaped (b ∷ rest) ≡ option_map (λ bytes. b ∷ bytes) (unescaped rest)
+self_read_back b rest x = ap (λ t. unescaped_on t (λ s. unescaped_from s rest)) (cond-false _ _ _ (ne_eqb b 92 x))
+
+other_read : (b : ℕ) (rest : List ℕ) → b < 256 → b ≢ 92 → b ≢ 13 → b ≢ 10 → (t : Bool) → is_printable b ≡ t → IsReadBack b rest
+other_read b rest h x y z true e = ap (λ (s : List ℕ). unescaped (s ++ rest)) (printed_self b x y z e) ∙ self_read_back b rest x
+other_read b rest h x y z false e = ap (λ (s : List ℕ). unescaped (s ++ rest)) (printed_hex b x y z e) ∙ hex_read_back b rest h
+
+byte_read : (b : ℕ) (rest : List ℕ) → b < 256 → IsReadBack b rest
+byte_read b rest h = elim (cases_eq b 92) [
+  | inl e ↦ subst (λ v. IsReadBack v rest) (sym e) refl
+  | inr x ↦ elim (cases_eq b 13) [
+    | inl e ↦ subst (λ v. IsReadBack v rest) (sym e) refl
+    | inr y ↦ elim (cases_eq b 10) [
+      | inl e ↦ subst (λ v. IsReadBack v rest) (sym e) refl
+      | inr z ↦ other_read b rest h x y z (is_printable b) refl
+    ]
+  ]
+]
+
+-- what is printed is read back as it was
+pub read_back : (bytes : List ℕ) → All (λ b. b < 256) bytes → unescaped (escaped bytes) ≡ Some bytes
+read_back [] h = refl
+read_back (b ∷ bs) h =
+    byte_read b (escaped bs) (All-head (λ b. b < 256) b bs h)
+    ∙ ap (λ o. option_map (λ bytes. b ∷ bytes) o) (read_back bs (All-tail (λ b. b < 256) b bs h))

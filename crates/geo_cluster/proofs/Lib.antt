@@ -1,0 +1,7 @@
+pub mod Digits
+pub mod Escaping
+pub mod Stages
+pub mod Seats
+pub mod Cutting
+pub mod Playing
+pub mod Reading

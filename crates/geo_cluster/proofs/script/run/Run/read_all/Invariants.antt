@@ -1,0 +1,15 @@
+use Rattle.std.proofs.Common.{◌≡◌, ◌*◌, ◌≤◌, ◌++◌, List, ℕ, [], vec_len}
+use Rattle.std.specs.Io.KnownBytes.{Consumes}
+use Rattle.geo_cluster.specs.Lines.{ended_in, left_in}
+use Rattle.geo_cluster.specs.Runs.{Advances}
+use Rattle.geo_cluster.proofs.script.run.Run.read_all.Given as goal
+
+abbrev pub invariant-loop-read : goal.invariant-loop-read
+invariant-loop-read g l = record {
+  input : List ℕ;
+  read : Consumes (g.R.Read.remaining l.fn.reader.inner) (g.R.Read.remaining l.reader.inner) input;
+  left : l.self.unfinished.items ≡ left_in [] input;
+  advances : Advances l.fn.self l.self (ended_in [] input) (g.W.Write.contents l.fn.writer.inner) (g.W.Write.contents l.writer.inner);
+  few : l.self.lines ≤ l._read * 16384;
+  room : vec_len l.buffer ≡ 16384;
+}

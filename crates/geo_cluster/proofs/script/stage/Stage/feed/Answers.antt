@@ -1,0 +1,20 @@
+use Rattle.std.proofs.Common.{rules, ap, ◌∙◌}
+use Rattle.geo_cluster.specs.Scenes.{Scene}
+use Rattle.geo_cluster.proofs.Stages.{get_at, set_at}
+use Rattle.geo_cluster.proofs.script.stage.Stage.feed.Goals as goal
+
+pub returns-clause-carried : goal.returns-clause-carried
+returns-clause-carried c =
+    let posts = c.args.self.now.posts.items in
+    let found = c.in-Some.ensures in (
+      found.0,
+      record {
+        post = c.index_mut.result.now;
+        next = c.answer.new.self;
+        answer = c.in_ok-answer.answer.items;
+        is_post = get_at posts c.args.site c.in-Some.at c.index_mut.result.now found.1 found.2 c.index_mut.ensures.value;
+        answers = c.in_ok-answer.ensures.answers;
+        prints = search rules;
+        rest = ap (λ ps. record { moment = c.args.self.now.moment; posts = ps; parcels = c.args.self.now.parcels.items }) (set_at posts c.args.site c.in-Some.at c.answer.new.self found.1);
+      },
+    )

@@ -1,0 +1,11 @@
+pub mod Numbers
+pub mod Escapes
+pub mod Cuts
+pub mod Sayings
+pub mod Reads
+pub mod Lines
+pub mod Prints
+pub mod Answering
+pub mod Posts
+pub mod Scenes
+pub mod Runs

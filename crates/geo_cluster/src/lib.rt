@@ -1,0 +1,18 @@
+//! The program's parts above a site: what `geocache script` does.
+//!
+//! A script sets up sites, hands each client's bytes to its site, and carries parcels between sites. Here stand the lines of
+//! a script and what they say, the escapes in which bytes are written, and [`run_script`], which carries lines out: what it
+//! writes is what the lines of its input print, up to the first bad line. The crate stands on sites, parcels and the text
+//! protocol, and knows nothing of sockets or threads.
+#![tactic(auto)]
+
+pub mod script;
+
+pub use script::escape::{escape, unescape};
+pub use script::fault::ScriptFault;
+pub use script::line::Line;
+pub use script::parse::{is_skipped, parse_line};
+pub use script::run::run_script;
+
+#[cfg(test)]
+mod tests;

@@ -1,0 +1,125 @@
+//! The escapes in which a script writes bytes that can't stand for themselves.
+ghost use Rattle.std.specs.Prelude.{◌≡◌, ◌<◌, ◌≤◌, ◌++◌, IfOk, OnOk, MatchOption};
+ghost use Rattle.std.specs.Option.{option_map};
+ghost use Rattle.std.specs.Char.{digit_value};
+ghost use Rattle.geo_cluster.specs.Escapes.{escaped, escaped_byte, unescaped, hex_digit, turn, IsSmall, LeadsToSmall};
+
+use std::alloc::{AllocError, Global};
+
+/// Where in a text its reader stands: between two bytes, behind a backslash, behind `\x`, or behind `\x` and a digit.
+#[derive(Clone, Copy)]
+enum Spot {
+    Between,
+    Backslash,
+    Hex,
+    HexDigit(u8),
+}
+
+/// What a byte does at a spot: it ends the spelling of a byte, leads on, or can't stand there.
+enum Turn {
+    Gives(u8),
+    Leads(Spot),
+    Fails,
+}
+
+/// The lower-case digit that writes a number below 16.
+fn hex_letter(n: u8) -> u8
+    requires { n < 16 }
+    ensures { result ≡ hex_digit n }
+{
+    if n < 10 { b'0' + n } else { b'a' + (n - 10) }
+}
+
+/// Appends one byte as it is printed.
+fn push_escaped(out: &mut Vec<u8>, byte: u8) -> Result<(), AllocError>
+    ensures { OnOk result (out.new.items ≡ out.old.items ++ escaped_byte byte) }
+{
+    match byte {
+        b'\\' => out.extend_from_slice(b"\\\\"),
+        b'\r' => out.extend_from_slice(b"\\r"),
+        b'\n' => out.extend_from_slice(b"\\n"),
+        b' '..=b'~' => {
+            out.push(byte)?;
+            Ok(())
+        }
+        _ => {
+            let digits = [b'\\', b'x', hex_letter(byte / 16), hex_letter(byte % 16)];
+            out.extend_from_slice(&digits)
+        }
+    }
+}
+
+/// Bytes as they are printed: `\r`, `\n` and `\\` for these three, `\xhh` in lower case for what is no printable ASCII, and
+/// the other bytes as they are.
+pub fn escape(alloc: Global, bytes: &[u8]) -> Result<Vec<u8>, AllocError>
+    ensures text { IfOk result (λ text. text.items ≡ escaped bytes.now) }
+    ensures back { IfOk result (λ text. unescaped text.items ≡ Some bytes.now) }
+{
+    let mut out = Vec::new(alloc);
+    for byte in bytes {
+        push_escaped(&mut out, *byte)?;
+    }
+    Ok(out)
+}
+
+/// The value of a hexadecimal digit, in either case.
+fn hex_value(byte: u8) -> Option<u8>
+    ensures { MatchOption result (16 ≤ digit_value byte) (λ n. (n ≡ digit_value byte) × (n < 16)) }
+{
+    let value = (byte as char).to_digit(16)?;
+    Some(value as u8)
+}
+
+fn turn_of(spot: Spot, byte: u8) -> Turn
+    requires { IsSmall spot }
+    ensures turn { result ≡ turn spot byte }
+    ensures small { LeadsToSmall result }
+{
+    match spot {
+        Spot::Between => {
+            if byte == b'\\' {
+                Turn::Leads(Spot::Backslash)
+            } else {
+                Turn::Gives(byte)
+            }
+        }
+        Spot::Backslash => match byte {
+            b'\\' => Turn::Gives(b'\\'),
+            b'r' => Turn::Gives(b'\r'),
+            b'n' => Turn::Gives(b'\n'),
+            b'x' => Turn::Leads(Spot::Hex),
+            _ => Turn::Fails,
+        },
+        Spot::Hex => match hex_value(byte) {
+            Some(high) => Turn::Leads(Spot::HexDigit(high)),
+            None => Turn::Fails,
+        },
+        Spot::HexDigit(high) => match hex_value(byte) {
+            Some(low) => Turn::Gives(16 * high + low),
+            None => Turn::Fails,
+        },
+    }
+}
+
+/// The bytes that a text spells, None where a backslash doesn't begin one of the four escapes. Hexadecimal digits are read
+/// in either case, and every other byte stands for itself.
+pub fn unescape(alloc: Global, text: &[u8]) -> Result<Option<Vec<u8>>, AllocError>
+    ensures { IfOk result (λ o. option_map (λ v. v.items) o ≡ unescaped text.now) }
+{
+    let mut bytes = Vec::new(alloc);
+    let mut spot = Spot::Between;
+    for byte in text {
+        match turn_of(spot, *byte) {
+            Turn::Gives(given) => {
+                bytes.push(given)?;
+                spot = Spot::Between;
+            }
+            Turn::Leads(next) => spot = next,
+            Turn::Fails => return Ok(None),
+        }
+    }
+    match spot {
+        Spot::Between => Ok(Some(bytes)),
+        _ => Ok(None),
+    }
+}

@@ -1,0 +1,116 @@
+//! What a line of a script says.
+ghost use Rattle.std.specs.Prelude.{◌≡◌, ◌≤◌, None, Some, MatchOption, IfOk, IfSome};
+ghost use Rattle.std.specs.Option.{option_map, option_and_then};
+ghost use Rattle.geo_cluster.specs.Sayings.{cut_of, site_of, moment_of, parcel_of, client_said, send_said, take_said, said, skips, SaysAt, SaysSites};
+ghost use Rattle.geo_cluster.specs.Reads.{said_by, IsInRange};
+
+use crate::script::cut::cut_at;
+use crate::script::escape::unescape;
+use crate::script::line::Line;
+use crate::script::number::{count, number};
+use geo_stamp::MOST_SITES;
+use std::alloc::{AllocError, Global};
+
+/// The latest moment of a script: 2^40 seconds.
+pub const LAST_MOMENT: u64 = 1 << 40;
+
+/// A site's number, or a number of sites.
+fn site_number(word: &[u8]) -> Option<u8>
+    ensures number { result ≡ site_of word.now }
+    ensures range { IfSome result (λ n. (1 ≤ n) × (n ≤ 16)) }
+{
+    let n = count(word, MOST_SITES as u64)?;
+    Some(n as u8)
+}
+
+fn client_line(alloc: Global, args: &[u8]) -> Result<Option<Line>, AllocError>
+    ensures said { IfOk result (λ o. option_map said_by o ≡ option_and_then client_said (cut_of args.now)) }
+    ensures range { IfOk result (λ o. IfSome o (λ l. IsInRange l)) }
+{
+    let Some((site, text)) = cut_at(b' ', args) else {
+        return Ok(None);
+    };
+    let Some(site) = site_number(site) else {
+        return Ok(None);
+    };
+    let Some(text) = unescape(alloc, text)? else {
+        return Ok(None);
+    };
+    Ok(Some(Line::Client { site, text }))
+}
+
+fn send_line(args: &[u8]) -> Option<Line>
+    ensures said { option_map said_by result ≡ option_and_then send_said (cut_of args.now) }
+    ensures range { IfSome result (λ l. IsInRange l) }
+{
+    let (from, to) = cut_at(b' ', args)?;
+    let from = site_number(from)?;
+    let to = site_number(to)?;
+    if from == to {
+        return None;
+    }
+    Some(Line::Send { from, to })
+}
+
+fn take_line(args: &[u8]) -> Option<Line>
+    ensures said { option_map said_by result ≡ option_and_then take_said (cut_of args.now) }
+    ensures range { IfSome result (λ l. IsInRange l) }
+{
+    let (site, parcel) = cut_at(b' ', args)?;
+    let site = site_number(site)?;
+    let parcel = number(parcel, u64::MAX)?;
+    Some(Line::Take { site, parcel })
+}
+
+fn at_line(args: &[u8]) -> Option<Line>
+    ensures said { option_map said_by result ≡ option_map (λ n. SaysAt n) (moment_of args.now) }
+    ensures range { IfSome result (λ l. IsInRange l) }
+{
+    let moment = count(args, LAST_MOMENT)?;
+    Some(Line::At(moment))
+}
+
+fn sites_line(args: &[u8]) -> Option<Line>
+    ensures said { option_map said_by result ≡ option_map (λ n. SaysSites n) (site_of args.now) }
+    ensures range { IfSome result (λ l. IsInRange l) }
+{
+    let sites = site_number(args)?;
+    Some(Line::Sites(sites))
+}
+
+/// What a line says, without its line end: None where it is a bad line, whatever sites and parcels there are. Words are
+/// separated by exactly one space; a client's text is the rest of its line, and begins behind one.
+pub fn parse_line(alloc: Global, line: &[u8]) -> Result<Option<Line>, AllocError>
+    ensures said { IfOk result (λ o. option_map said_by o ≡ said line.now) }
+    ensures range { IfOk result (λ o. IfSome o (λ l. IsInRange l)) }
+{
+    let Some((name, args)) = cut_at(b' ', line) else {
+        return Ok(None);
+    };
+    if name == b"client".as_slice() {
+        return client_line(alloc, args);
+    }
+    if name == b"send".as_slice() {
+        return Ok(send_line(args));
+    }
+    if name == b"take".as_slice() {
+        return Ok(take_line(args));
+    }
+    if name == b"at".as_slice() {
+        return Ok(at_line(args));
+    }
+    if name == b"sites".as_slice() {
+        return Ok(sites_line(args));
+    }
+    Ok(None)
+}
+
+/// Whether a line is skipped: an empty one, or one that begins with `#`.
+pub fn is_skipped(line: &[u8]) -> bool
+    ensures { result ≡ skips line.now }
+{
+    match line.first() {
+        None => true,
+        Some(byte) => *byte == b'#',
+    }
+}

@@ -1,0 +1,194 @@
+//! A script from its first byte to its last.
+ghost use Rattle.std.specs.Prelude.{◌≡◌, ℕ, ◌+◌, ◌^◌, ◌<◌, ◌≤◌, List, [], ◌∷◌, ◌++◌, length, take, vec_len, IfErr, IfOk, IfSome, OnOk};
+ghost use Rattle.std.specs.Io.KnownBytes.{Appends};
+ghost use Rattle.geo_cluster.specs.Lines.{ended_in, left_in, lines_of};
+ghost use Rattle.geo_cluster.specs.Runs.{Performs, Ends};
+
+use crate::script::cut::cut_at;
+use crate::script::fault::ScriptFault;
+use crate::script::parse::{is_skipped, parse_line};
+use crate::script::stage::Stage;
+use geo_grammar::Device;
+use std::alloc::{AllocError, Global};
+use std::hash::RandomState;
+use std::io::{Read, Write};
+use std::mem;
+
+/// After so many reads an input that hasn't ended is given up.
+const MOST_READS: u64 = 1 << 48;
+
+/// How many bytes a read asks for.
+const PIECE: usize = 16_384;
+
+/// How many bytes of output are collected before they are written.
+const BATCH: usize = 65_536;
+
+fn piece_buffer(alloc: Global) -> Result<Vec<u8>, AllocError>
+    ensures { IfOk result (λ v. vec_len v ≡ PIECE) }
+{
+    vec![in alloc; 0u8; PIECE]
+}
+
+/// A script that is being read.
+#[derive(Drop)]
+struct Run {
+    stage: Stage,
+    /// The bytes behind the last line end.
+    unfinished: Vec<u8>,
+    /// How many lines have ended.
+    lines: u64,
+    /// What was printed and isn't written yet.
+    out: Vec<u8>,
+}
+
+impl Run {
+    ghost use Rattle.geo_cluster.specs.Scenes.{scene_of};
+    ghost use Rattle.geo_cluster.specs.Runs.{PlaysLine, EndsAtLine, IsFresh, Advances, Stops};
+
+    fn new(alloc: Global, hasher: RandomState) -> Run
+        ensures { IsFresh result }
+    {
+        Run {
+            stage: Stage::new(alloc, hasher),
+            unfinished: Vec::new(alloc),
+            lines: 0,
+            out: Vec::new(alloc),
+        }
+    }
+
+    /// Writes what was printed and waits. After a failed write nothing waits any more.
+    fn flush<W: Write>(&mut self, alloc: Global, writer: &mut Device<W>) -> Result<(), ScriptFault>
+        ensures ok { OnOk result (Appends (W.contents writer.old.inner) (W.contents writer.new.inner) self.old.out.items) }
+        ensures err { IfErr result (λ e. (e ≡ ScriptFault.Write) × ((n : ℕ) × Appends (W.contents writer.old.inner) (W.contents writer.new.inner) (take n self.old.out.items))) }
+        ensures empty { self.new.out.items ≡ [] }
+        ensures rest { self.new ≡ record self.old { out = self.new.out } }
+    {
+        let out = mem::replace(&mut self.out, Vec::new(alloc));
+        write_all(writer, out.as_slice())
+    }
+
+    /// Carries out a line that has come whole, and is counted already.
+    fn play_line(&mut self, alloc: Global, line: &[u8]) -> Result<(), ScriptFault>
+        ensures ok { OnOk result ((text : List ℕ) × PlaysLine (scene_of self.old.stage) line.now text (scene_of self.new.stage) × (self.new.out.items ≡ self.old.out.items ++ text)) }
+        ensures err { IfErr result (λ e. (self.new.out.items ≡ self.old.out.items) × EndsAtLine e (scene_of self.old.stage) line.now self.old.lines) }
+        ensures rest { (self.new.lines ≡ self.old.lines) × (self.new.unfinished.items ≡ self.old.unfinished.items) }
+    {
+        if is_skipped(line) {
+            return Ok(());
+        }
+        let Some(line) = parse_line(alloc, line)? else {
+            return Err(ScriptFault::BadLine(self.lines));
+        };
+        let Some(text) = self.stage.carry_out(alloc, line)? else {
+            return Err(ScriptFault::BadLine(self.lines));
+        };
+        self.out.extend_from_slice(text.as_slice())?;
+        Ok(())
+    }
+
+    /// Ends the unfinished line by what stands before a line end, and carries it out.
+    fn end_line<W: Write>(
+        &mut self,
+        alloc: Global,
+        writer: &mut Device<W>,
+        front: &[u8],
+    ) -> Result<(), ScriptFault>
+        requires { self.old.lines + 1 < 2 ^ 64 }
+        ensures ok { OnOk result (Advances self.old self.new ((self.old.unfinished.items ++ front.now) ∷ []) (W.contents writer.old.inner) (W.contents writer.new.inner)) }
+        ensures err { IfErr result (λ e. Stops e self.old ((self.old.unfinished.items ++ front.now) ∷ []) (W.contents writer.old.inner) (W.contents writer.new.inner) self.new.out.items) }
+        ensures ended { OnOk result ((self.new.unfinished.items ≡ []) × (self.new.lines ≡ self.old.lines + 1)) }
+    {
+        self.unfinished.extend_from_slice(front)?;
+        let line = mem::replace(&mut self.unfinished, Vec::new(alloc));
+        self.lines += 1;
+        self.play_line(alloc, line.as_slice())?;
+        if self.out.len() >= BATCH {
+            self.flush(alloc, writer)?;
+        }
+        Ok(())
+    }
+
+    /// Carries out the lines that end in a piece, and keeps what stands behind the last.
+    fn take_piece<W: Write>(
+        &mut self,
+        alloc: Global,
+        writer: &mut Device<W>,
+        piece: &[u8],
+    ) -> Result<(), ScriptFault>
+        requires { self.old.lines + length piece.now < 2 ^ 64 }
+        ensures ok { OnOk result (Advances self.old self.new (ended_in self.old.unfinished.items piece.now) (W.contents writer.old.inner) (W.contents writer.new.inner)) }
+        ensures err { IfErr result (λ e. Stops e self.old (ended_in self.old.unfinished.items piece.now) (W.contents writer.old.inner) (W.contents writer.new.inner) self.new.out.items) }
+        ensures left { OnOk result (self.new.unfinished.items ≡ left_in self.old.unfinished.items piece.now) }
+        ensures few { OnOk result (self.new.lines ≤ self.old.lines + length piece.now) }
+    {
+        let mut rest = piece;
+        while let Some((front, back)) = cut_at(b'\n', rest) {
+            self.end_line(alloc, writer, front)?;
+            rest = back;
+        }
+        self.unfinished.extend_from_slice(rest)?;
+        Ok(())
+    }
+
+    /// Reads and carries out lines up to the end of the input. What stands behind the last line end is a line too.
+    fn read_all<R: Read, W: Write>(
+        &mut self,
+        alloc: Global,
+        reader: &mut Device<R>,
+        writer: &mut Device<W>,
+    ) -> Result<(), ScriptFault>
+        requires { IsFresh self.old }
+        ensures ok { OnOk result (IfSome (R.remaining reader.old.inner) (λ input. Advances self.old self.new (lines_of input) (W.contents writer.old.inner) (W.contents writer.new.inner))) }
+        ensures err { IfErr result (λ e. IfSome (R.remaining reader.old.inner) (λ input. Stops e self.old (lines_of input) (W.contents writer.old.inner) (W.contents writer.new.inner) self.new.out.items)) }
+    {
+        let mut buffer = piece_buffer(alloc)?;
+        for _read in 0..MOST_READS {
+            let Ok(count) = reader.read(buffer.as_mut_slice()) else {
+                return Err(ScriptFault::Read);
+            };
+            if count == 0 {
+                if !self.unfinished.is_empty() {
+                    self.end_line(alloc, writer, b"")?;
+                }
+                return Ok(());
+            }
+            let (piece, _) = buffer.split_at(count);
+            self.take_piece(alloc, writer, piece)?;
+            self.flush(alloc, writer)?;
+        }
+        Err(ScriptFault::Read)
+    }
+}
+
+/// Writes all bytes, or a beginning of them where a write fails.
+fn write_all<W: Write>(writer: &mut Device<W>, bytes: &[u8]) -> Result<(), ScriptFault>
+    ensures ok { OnOk result (Appends (W.contents writer.old.inner) (W.contents writer.new.inner) bytes.now) }
+    ensures err { IfErr result (λ e. (e ≡ ScriptFault.Write) × ((n : ℕ) × Appends (W.contents writer.old.inner) (W.contents writer.new.inner) (take n bytes.now))) }
+{
+    let mut at = 0;
+    while at < bytes.len() {
+        let (_, rest) = bytes.split_at(at);
+        match writer.write(rest) {
+            Ok(count) => at += count,
+            Err(_) => return Err(ScriptFault::Write),
+        }
+    }
+    Ok(())
+}
+
+/// Runs a script: reads its lines, carries each out before the next is looked at, and writes what they print. A fault ends
+/// the run, and what was printed before it is written first. The hasher is for the keys of all sites.
+pub fn run_script<R: Read, W: Write>(
+    alloc: Global,
+    hasher: RandomState,
+    reader: &mut Device<R>,
+    writer: &mut Device<W>,
+) -> Result<(), ScriptFault>
+    ensures ok { OnOk result (IfSome (R.remaining reader.old.inner) (λ input. Performs (lines_of input) (W.contents writer.old.inner) (W.contents writer.new.inner))) }
+    ensures err { IfErr result (λ e. IfSome (R.remaining reader.old.inner) (λ input. Ends e (lines_of input) (W.contents writer.old.inner) (W.contents writer.new.inner))) }
+{
+    let mut run = Run::new(alloc, hasher);
+    let outcome = run.read_all(alloc, reader, writer);
+    run.flush(alloc, writer)?;
+    outcome
+}

@@ -1,0 +1,148 @@
+//! The sites of a script, their clients, and the parcels between them.
+ghost use Rattle.std.specs.Prelude.{◌≡◌, ◌≢◌, ◌+◌, ◌^◌, ◌<◌, ◌≤◌, ◌==◌, not, [], length, vec_len, true, false, None, Some, MatchOption, IfOk, IfSome, IfNone};
+ghost use Rattle.geo_cluster.specs.Reads.{said_by, IsInRange};
+ghost use Rattle.geo_cluster.specs.Sayings.{SaysSites, SaysAt, SaysClient, SaysSend, SaysTake};
+ghost use Rattle.geo_cluster.specs.Posts.{AreNumbered, AreOpened};
+
+use crate::script::line::Line;
+use crate::script::post::Post;
+use crate::script::texts::{answer_line, parcel_line};
+use geo_delta::Parcel;
+use geo_lattice::Twin;
+use std::alloc::{AllocError, Global};
+use std::hash::RandomState;
+
+/// As many sites as are asked for.
+fn open_posts(alloc: Global, hasher: RandomState, sites: u8) -> Result<Vec<Post>, AllocError>
+    requires { sites ≤ 16 }
+    ensures many { IfOk result (λ posts. length posts.items ≡ sites) }
+    ensures opened { IfOk result (λ posts. AreOpened sites posts.items) }
+{
+    let mut posts = Vec::new(alloc);
+    for index in 0..sites {
+        posts.push(Post::open(alloc, hasher, index + 1, sites)?)?;
+    }
+    Ok(posts)
+}
+
+/// What a script has set up so far: its sites, by their numbers from 1, the parcels that were cut, by their numbers from 0,
+/// and the moment.
+#[derive(Drop)]
+pub struct Stage {
+    hasher: RandomState,
+    moment: u64,
+    posts: Vec<Post>,
+    parcels: Vec<Parcel>,
+    ghost timely: { moment ≤ 2 ^ 40 },
+    ghost numbered: { AreNumbered posts.items },
+}
+
+impl Stage {
+    ghost use Rattle.geo_cluster.specs.Scenes.{opening, scene_of, has_site, can_carry, Carries};
+
+    /// No sites yet, and the moment 1.
+    pub fn new(alloc: Global, hasher: RandomState) -> Stage
+        ensures { scene_of result ≡ opening }
+    {
+        Stage {
+            hasher,
+            moment: 1,
+            posts: Vec::new(alloc),
+            parcels: Vec::new(alloc),
+        }
+    }
+
+    /// Carries out a line, and answers what it prints. None where it can't be carried out: a bad line, which has no effect.
+    /// Want of memory may leave the line half done.
+    pub fn carry_out(&mut self, alloc: Global, line: Line) -> Result<Option<Vec<u8>>, AllocError>
+        requires { IsInRange line }
+        ensures bad { IfOk result (λ o. IfNone o ((can_carry (scene_of self.old) (said_by line) ≡ false) × (scene_of self.new ≡ scene_of self.old))) }
+        ensures carried { IfOk result (λ o. IfSome o (λ text. (can_carry (scene_of self.old) (said_by line) ≡ true) × Carries (scene_of self.old) (said_by line) text.items (scene_of self.new))) }
+    {
+        match line {
+            Line::Sites(count) => self.set_up(alloc, count),
+            Line::At(moment) => Ok(self.set_moment(alloc, moment)),
+            Line::Client { site, text } => self.feed(alloc, site, text.as_slice()),
+            Line::Send { from, to } => self.send(alloc, from, to),
+            Line::Take { site, parcel } => self.take(alloc, site, parcel),
+        }
+    }
+
+    /// Where a site stands, None where there is none of this number.
+    fn place(&self, site: u8) -> Option<usize>
+        ensures { MatchOption result (has_site (scene_of self.now) site ≡ false) (λ at. (has_site (scene_of self.now) site ≡ true) × (at + 1 ≡ site) × (at < length self.now.posts.items)) }
+    {
+        let number = site as usize;
+        if number == 0 || number > self.posts.len() {
+            return None;
+        }
+        Some(number - 1)
+    }
+
+    fn set_up(&mut self, alloc: Global, count: u8) -> Result<Option<Vec<u8>>, AllocError>
+        requires least { 1 ≤ count }
+        requires most { count ≤ 16 }
+        ensures bad { IfOk result (λ o. IfNone o ((can_carry (scene_of self.old) (SaysSites count) ≡ false) × (scene_of self.new ≡ scene_of self.old))) }
+        ensures carried { IfOk result (λ o. IfSome o (λ text. (can_carry (scene_of self.old) (SaysSites count) ≡ true) × Carries (scene_of self.old) (SaysSites count) text.items (scene_of self.new))) }
+    {
+        if !self.posts.is_empty() {
+            return Ok(None);
+        }
+        self.posts = open_posts(alloc, self.hasher, count)?;
+        Ok(Some(Vec::new(alloc)))
+    }
+
+    fn set_moment(&mut self, alloc: Global, moment: u64) -> Option<Vec<u8>>
+        requires { moment ≤ 2 ^ 40 }
+        ensures bad { IfNone result ((can_carry (scene_of self.old) (SaysAt moment) ≡ false) × (scene_of self.new ≡ scene_of self.old)) }
+        ensures carried { IfSome result (λ text. (can_carry (scene_of self.old) (SaysAt moment) ≡ true) × Carries (scene_of self.old) (SaysAt moment) text.items (scene_of self.new)) }
+    {
+        if self.posts.is_empty() {
+            return None;
+        }
+        self.moment = moment;
+        Some(Vec::new(alloc))
+    }
+
+    fn feed(&mut self, alloc: Global, site: u8, bytes: &[u8]) -> Result<Option<Vec<u8>>, AllocError>
+        ensures bad { IfOk result (λ o. IfNone o ((can_carry (scene_of self.old) (SaysClient site bytes.now) ≡ false) × (scene_of self.new ≡ scene_of self.old))) }
+        ensures carried { IfOk result (λ o. IfSome o (λ text. (can_carry (scene_of self.old) (SaysClient site bytes.now) ≡ true) × Carries (scene_of self.old) (SaysClient site bytes.now) text.items (scene_of self.new))) }
+    {
+        let Some(at) = self.place(site) else {
+            return Ok(None);
+        };
+        let answer = self.posts[at].answer(alloc, self.moment, bytes)?;
+        Ok(Some(answer_line(alloc, site, answer.as_slice())?))
+    }
+
+    fn send(&mut self, alloc: Global, from: u8, to: u8) -> Result<Option<Vec<u8>>, AllocError>
+        requires { from ≢ to }
+        ensures bad { IfOk result (λ o. IfNone o ((can_carry (scene_of self.old) (SaysSend from to) ≡ false) × (scene_of self.new ≡ scene_of self.old))) }
+        ensures carried { IfOk result (λ o. IfSome o (λ text. (can_carry (scene_of self.old) (SaysSend from to) ≡ true) × Carries (scene_of self.old) (SaysSend from to) text.items (scene_of self.new))) }
+    {
+        let Some(at) = self.place(from) else {
+            return Ok(None);
+        };
+        if self.place(to).is_none() {
+            return Ok(None);
+        }
+        let parcel = self.posts[at].send(alloc, to)?;
+        let text = parcel_line(alloc, self.parcels.len())?;
+        self.parcels.push(parcel)?;
+        Ok(Some(text))
+    }
+
+    fn take(&mut self, alloc: Global, site: u8, parcel: u64) -> Result<Option<Vec<u8>>, AllocError>
+        ensures bad { IfOk result (λ o. IfNone o ((can_carry (scene_of self.old) (SaysTake site parcel) ≡ false) × (scene_of self.new ≡ scene_of self.old))) }
+        ensures carried { IfOk result (λ o. IfSome o (λ text. (can_carry (scene_of self.old) (SaysTake site parcel) ≡ true) × Carries (scene_of self.old) (SaysTake site parcel) text.items (scene_of self.new))) }
+    {
+        let Some(at) = self.place(site) else {
+            return Ok(None);
+        };
+        if parcel >= self.parcels.len() as u64 {
+            return Ok(None);
+        }
+        let parcel = self.parcels[parcel as usize].twin(alloc)?;
+        Ok(Some(self.posts[at].take(alloc, parcel)?))
+    }
+}

@@ -1,0 +1,49 @@
+//! What the lines of a script print.
+ghost use Rattle.std.specs.Prelude.{◌≡◌, IfOk};
+ghost use Rattle.geo_cluster.specs.Prints.{client_text, parcel_text, refused_text, taken_text};
+
+use crate::script::escape::escape;
+use itoa::Buffer;
+use std::alloc::{AllocError, Global};
+
+/// `S> ` and what a site answered to its client's bytes, escaped.
+pub fn answer_line(alloc: Global, site: u8, answer: &[u8]) -> Result<Vec<u8>, AllocError>
+    ensures { IfOk result (λ text. text.items ≡ client_text site answer.now) }
+{
+    let mut buffer = Buffer::new();
+    let mut text = Vec::from_slice(alloc, buffer.format(site).as_bytes())?;
+    text.extend_from_slice(b"> ")?;
+    let escaped = escape(alloc, answer)?;
+    text.extend_from_slice(escaped.as_slice())?;
+    text.extend_from_slice(b"\n")?;
+    Ok(text)
+}
+
+/// `parcel K`, the number of a parcel that was cut.
+pub fn parcel_line(alloc: Global, number: usize) -> Result<Vec<u8>, AllocError>
+    ensures { IfOk result (λ text. text.items ≡ parcel_text number) }
+{
+    let mut buffer = Buffer::new();
+    let mut text = Vec::from_slice(alloc, b"parcel ")?;
+    text.extend_from_slice(buffer.format(number).as_bytes())?;
+    text.extend_from_slice(b"\n")?;
+    Ok(text)
+}
+
+/// `taken`, for a parcel that was taken.
+pub fn taken_line(alloc: Global) -> Result<Vec<u8>, AllocError>
+    ensures { IfOk result (λ text. text.items ≡ taken_text) }
+{
+    Vec::from_slice(alloc, b"taken\n")
+}
+
+/// `refused N`, for a parcel that was refused, with the cause's number.
+pub fn refused_line(alloc: Global, cause: u8) -> Result<Vec<u8>, AllocError>
+    ensures { IfOk result (λ text. text.items ≡ refused_text cause) }
+{
+    let mut buffer = Buffer::new();
+    let mut text = Vec::from_slice(alloc, b"refused ")?;
+    text.extend_from_slice(buffer.format(cause).as_bytes())?;
+    text.extend_from_slice(b"\n")?;
+    Ok(text)
+}

@@ -1,0 +1,14 @@
+//! Parcels: what one site tells another of what was written.
+//!
+//! A parcel is a delta of the sender's state (Almeida et al. 2018): the records that the receiver may lack, never a value. It
+//! stands on versions and stamps, and knows nothing of held values, requests or links.
+#![tactic(auto)]
+
+mod cutting;
+mod parcel;
+
+pub use cutting::cut;
+pub use parcel::Parcel;
+
+#[cfg(test)]
+mod tests;

@@ -1,0 +1,43 @@
+-- The first word of a line.
+use Rattle.std.proofs.Common.{◌≡◌, ℕ, ◌+◌, ◌<◌, ◌≤◌, true, false, List, [], ◌∷◌, ◌++◌, length, get_or, take, drop, filter, refl, sym, ap, ◌∙◌, arith, inl, inr}
+use Rattle.std.specs.List.{All}
+use Rattle.std.proofs.lemmas.Bool.{cases_lt, cond-true, ne_eqb}
+use Rattle.std.proofs.lemmas.List.{take_all, take-append-drop, length-take, get_or-take, drop_all, drop_more, at_drop_more}
+use Rattle.std.proofs.lemmas.List.Elements.{All-from_get_or}
+use Rattle.std.proofs.lemmas.List.Splits.{slice_split_none, slice_split_at}
+use Rattle.geo_grammar.specs.Words.{is_space, is_filled, words_of}
+
+abbrev IsLong : List ℕ → Type 0
+IsLong w = All (λ x. is_space x ≡ false) w
+
+pub is_filled_from : (w : List ℕ) → 0 < length w → is_filled w ≡ true
+is_filled_from [] h = absurd (omega arith)
+is_filled_from (b ∷ bs) h = refl
+
+split_word : (w rest : List ℕ) → IsLong w → is_filled w ≡ true → words_of (w ++ 32 ∷ rest) ≡ w ∷ words_of (32 ∷ rest)
+split_word w rest h e = ap (filter is_filled) (slice_split_at is_space w 32 rest h refl) ∙ cond-true (is_filled w) _ _ e
+
+lone_word : (w : List ℕ) → IsLong w → is_filled w ≡ true → words_of w ≡ w ∷ []
+lone_word w h e = ap (filter is_filled) (slice_split_none is_space w h) ∙ cond-true (is_filled w) _ _ e
+
+-- a space before a word is ignored
+pub words_space : (line : List ℕ) (i : ℕ) → i < length line → get_or line i 0 ≡ 32 → words_of (drop (i + 1) line) ≡ words_of (drop i line)
+words_space line i h e = sym (at_drop_more words_of line i 0 h ∙ ap (λ b. words_of (b ∷ drop (i + 1) line)) e)
+
+long_take : (line : List ℕ) (n : ℕ) → n ≤ length line → ((k : ℕ) → k < n → get_or line k 0 ≡ 32 → ⊥) → IsLong (take n line)
+long_take line n h none = All-from_get_or (λ x. is_space x ≡ false) (take n line) 0 (λ i lt.
+    let low : i < n = omega (arith, length-take n line) in
+    ne_eqb (get_or (take n line) i 0) 32 (λ e. none i low (sym (get_or-take n line i 0 low) ∙ e)))
+
+-- the first word ends where a space or the line's end is
+pub first_word : (line : List ℕ) (n : ℕ) → 0 < n → n ≤ length line → ((k : ℕ) → k < n → get_or line k 0 ≡ 32 → ⊥) → (n < length line → get_or line n 0 ≡ 32) → words_of line ≡ take n line ∷ words_of (drop n line)
+first_word line n pos fits none ends =
+    let long : IsLong (take n line) = long_take line n fits none in
+    let filled : is_filled (take n line) ≡ true = is_filled_from (take n line) (omega (arith, length-take n line)) in
+    elim (cases_lt n (length line)) [
+      | inl lt ↦
+          let e : drop n line ≡ 32 ∷ drop (n + 1) line = drop_more line n 0 lt ∙ ap (λ b. b ∷ drop (n + 1) line) (ends lt) in
+          ap words_of (sym (take-append-drop n line) ∙ ap (λ (t : List ℕ). take n line ++ t) e) ∙ split_word (take n line) (drop (n + 1) line) long filled ∙ ap (λ (t : List ℕ). take n line ∷ words_of t) (sym e)
+      | inr le ↦
+          ap words_of (sym (take_all n line le)) ∙ lone_word (take n line) long filled ∙ ap (λ (t : List ℕ). take n line ∷ words_of t) (sym (drop_all n line le))
+    ]

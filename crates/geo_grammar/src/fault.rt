@@ -1,0 +1,60 @@
+//! What is wrong with bytes that are no request.
+ghost use Rattle.std.specs.Prelude.{◌≡◌};
+ghost use Rattle.geo_grammar.specs.Replies.{fault_bytes};
+ghost use Rattle.geo_grammar.specs.Faults.{line_fault, block_fault};
+
+/// Why bytes are no request. Each is answered by [`fault_text`].
+#[derive(Clone, Copy, Debug, PartialEq, Eq)]
+pub enum Fault {
+    /// A line without a word, or whose first word names no command.
+    Unknown,
+    /// A command line of the wrong form.
+    BadLine,
+    /// A data block that is not followed by `\r\n`.
+    BadData,
+}
+
+/// The text that answers a fault, with its line end (memcached's protocol.txt, "Error strings").
+pub fn fault_text(fault: Fault) -> &'static [u8]
+    ensures { result.now ≡ fault_bytes fault }
+{
+    match fault {
+        Fault::Unknown => b"ERROR\r\n",
+        Fault::BadLine => b"CLIENT_ERROR bad command line format\r\n",
+        Fault::BadData => b"CLIENT_ERROR bad data chunk\r\n",
+    }
+}
+
+/// What can be wrong with a command line.
+#[derive(Clone, Copy, Debug, PartialEq, Eq)]
+pub enum LineFault {
+    Unknown,
+    BadLine,
+}
+
+impl LineFault {
+    pub fn fault(self) -> Fault
+        ensures { result ≡ line_fault self }
+    {
+        match self {
+            LineFault::Unknown => Fault::Unknown,
+            LineFault::BadLine => Fault::BadLine,
+        }
+    }
+}
+
+/// What can be wrong with a data block.
+#[derive(Clone, Copy, Debug, PartialEq, Eq)]
+pub enum BlockFault {
+    BadData,
+}
+
+impl BlockFault {
+    pub fn fault(self) -> Fault
+        ensures { result ≡ block_fault self }
+    {
+        match self {
+            BlockFault::BadData => Fault::BadData,
+        }
+    }
+}

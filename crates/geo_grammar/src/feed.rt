@@ -1,0 +1,104 @@
+//! A piece taken from where a reader stands. What an `Err` leaves is what was there: all that can fail comes first.
+ghost use Rattle.std.specs.Prelude.{◌≡◌, ◌++◌, IfOk, OnOk, OnErr};
+ghost use Rattle.geo_grammar.specs.Places.{IsPlace, start_place, items_from, place_after};
+ghost use Rattle.geo_grammar.specs.States.{IsBlock, place_of, finished};
+
+use crate::block::{BlockCut, cut_block};
+use crate::fault::Fault;
+use crate::item::Item;
+use crate::state::State;
+use crate::step::{cut_line, run};
+use std::alloc::{AllocError, Global};
+use std::mem;
+
+/// Reads a piece from another state on, and goes there.
+fn feed_from(
+    alloc: Global,
+    state: &mut State,
+    from: State,
+    piece: &[u8],
+) -> Result<Vec<Item>, AllocError>
+    requires from { IsPlace (place_of from) }
+    requires old { IsPlace (place_of state.old) }
+    ensures items { IfOk result (λ out. out.items ≡ items_from (place_of from) piece.now) }
+    ensures next { OnOk result (place_of state.new ≡ place_after (place_of from) piece.now) }
+    ensures place { IsPlace (place_of state.new) }
+    ensures err { OnErr result (place_of state.new ≡ place_of state.old) }
+{
+    let mut out = Vec::new(alloc);
+    let next = run(alloc, from, piece, &mut out)?;
+    *state = next;
+    Ok(out)
+}
+
+/// Ends a data block with its last bytes, and reads what follows its line end.
+fn feed_last(
+    alloc: Global,
+    state: &mut State,
+    front: &[u8],
+    rest: &[u8],
+) -> Result<Vec<Item>, AllocError>
+    requires block { IsBlock state.old }
+    requires old { IsPlace (place_of state.old) }
+    ensures items { IfOk result (λ out. out.items ≡ finished state.old front.now ++ items_from start_place rest.now) }
+    ensures next { OnOk result (place_of state.new ≡ place_after start_place rest.now) }
+    ensures place { IsPlace (place_of state.new) }
+    ensures err { OnErr result (place_of state.new ≡ place_of state.old) }
+{
+    let mut out = Vec::new(alloc);
+    // Keeps the place of the block's request, which takes its data only when nothing can fail any more.
+    out.push(Item::Fault(Fault::BadData))?;
+    let next = run(alloc, State::Line(Vec::new(alloc)), rest, &mut out)?;
+    let State::Data { got, .. } = state else {
+        unreachable!()
+    };
+    got.extend_from_slice(front)?;
+    let State::Data { head, got, .. } = mem::replace(state, next) else {
+        unreachable!()
+    };
+    out[0] = Item::Request(head.request(got));
+    Ok(out)
+}
+
+/// Takes the next piece, and gives the items that end in it.
+pub fn feed_state(alloc: Global, state: &mut State, piece: &[u8]) -> Result<Vec<Item>, AllocError>
+    requires { IsPlace (place_of state.old) }
+    ensures items { IfOk result (λ out. out.items ≡ items_from (place_of state.old) piece.now) }
+    ensures next { OnOk result (place_of state.new ≡ place_after (place_of state.old) piece.now) }
+    ensures place { IsPlace (place_of state.new) }
+    ensures err { OnErr result (place_of state.new ≡ place_of state.old) }
+{
+    match state {
+        State::Line(seen) => {
+            if cut_line(piece).is_none() {
+                seen.extend_from_slice(piece)?;
+                return Ok(Vec::new(alloc));
+            }
+            let seen = Vec::from_slice(alloc, seen.as_slice())?;
+            feed_from(alloc, state, State::Line(seen), piece)
+        }
+        State::Data {
+            head,
+            got,
+            returned,
+        } => match cut_block(head, got.as_slice(), *returned, piece) {
+            BlockCut::Open {
+                front,
+                returned: now,
+            } => {
+                got.extend_from_slice(front)?;
+                *returned = now;
+                Ok(Vec::new(alloc))
+            }
+            BlockCut::Good { front, rest } => feed_last(alloc, state, front, rest),
+            BlockCut::Bad { rest } => feed_from(alloc, state, State::bad_data(), rest),
+        },
+        State::Skip { left, fault } => {
+            let from = State::Skip {
+                left: *left,
+                fault: *fault,
+            };
+            feed_from(alloc, state, from, piece)
+        }
+    }
+}

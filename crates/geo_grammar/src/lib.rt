@@ -1,0 +1,37 @@
+//! The text protocol: requests read from bytes that come in any pieces, and the texts of their answers.
+//!
+//! A [`Reader`] is fed pieces as they come and gives each request or fault with the piece that brings its last byte;
+//! [`render`] and [`fault_text`] are the bytes of an answer. Both follow the text part of memcached's protocol.txt.
+//! `specs/` says twice what a text means: whole, by lines and blocks, and byte by byte from where a reader stands; the two
+//! are proved equal. The crate stands on keys and lists, and knows nothing of sites, values held or sockets; a [`Device`]
+//! is any std reader or writer that remembers its first error.
+#![tactic(auto)]
+
+mod block;
+mod device;
+mod fault;
+mod feed;
+mod item;
+mod laws;
+mod line;
+mod reader;
+mod reply;
+mod request;
+mod state;
+mod step;
+mod texts;
+mod value;
+mod words;
+
+pub use device::Device;
+pub use fault::{Fault, fault_text};
+pub use item::Item;
+pub use laws::{items_of_parts, items_of_text, read_all};
+pub use reader::Reader;
+pub use reply::{Found, Reply};
+pub use request::{Request, Verb};
+pub use texts::{push_answer, render};
+pub use value::ValueBytes;
+
+#[cfg(test)]
+mod tests;

@@ -1,0 +1,203 @@
+//! One step of a reader: what a part of a piece does.
+ghost use Rattle.std.specs.Prelude.{◌≡◌, ◌++◌, ◌+◌, ◌<◌, ◌≤◌, ◌∷◌, [], length, MatchOption, IfSome, IfOk, OnOk};
+ghost use Rattle.std.specs.Option.{option_to_list};
+ghost use Rattle.geo_grammar.specs.Places.{InLine, Skips, IsPlace, NoEnd, line_turn, items_from, place_after};
+ghost use Rattle.geo_grammar.specs.Blocks.{block_place};
+ghost use Rattle.geo_grammar.specs.States.{TurnLeads, place_of};
+
+use crate::block::{BlockCut, cut_block};
+use crate::fault::BlockFault;
+use crate::item::Item;
+use crate::line::{Head, Line, read_line};
+use crate::state::State;
+use memchr::memchr;
+use std::alloc::{AllocError, Global};
+
+/// What a part of a piece does: an item or none, the state behind it, and the rest of the piece.
+#[derive(Drop)]
+struct Turn<'a> {
+    item: Option<Item>,
+    state: State,
+    rest: &'a [u8],
+}
+
+/// The bytes before the first line end, and those behind it; None where there is none.
+pub fn cut_line(piece: &[u8]) -> Option<(&[u8], &[u8])>
+    ensures end { MatchOption result (NoEnd piece.now) (λ x. NoEnd x.0.now × (piece.now ≡ x.0.now ++ 10 ∷ x.1.now)) }
+    ensures shorter { IfSome result (λ x. length x.0.now + length x.1.now < length piece.now) }
+{
+    let Some(at) = memchr(b'\n', piece) else {
+        return None;
+    };
+    let (front, _) = piece.split_at(at);
+    let (_, rest) = piece.split_at(at + 1);
+    Some((front, rest))
+}
+
+/// What the end of a line does.
+fn line_end<'a>(alloc: Global, line: &[u8], rest: &'a [u8]) -> Result<Turn<'a>, AllocError>
+    ensures gives { IfOk result (λ t. option_to_list t.item ≡ (line_turn line.now).gives) }
+    ensures next { IfOk result (λ t. place_of t.state ≡ (line_turn line.now).next) }
+    ensures place { IfOk result (λ t. IsPlace (place_of t.state)) }
+    ensures rest { IfOk result (λ t. t.rest.now ≡ rest.now) }
+{
+    let (item, state) = match read_line(alloc, line)? {
+        Line::Whole(request) => (Some(Item::Request(request)), State::Line(Vec::new(alloc))),
+        Line::Bad(fault) => (
+            Some(Item::Fault(fault.fault())),
+            State::Line(Vec::new(alloc)),
+        ),
+        Line::Storage(head) => {
+            let got = Vec::with_capacity(alloc, head.size)?;
+            (
+                None,
+                State::Data {
+                    head,
+                    got,
+                    returned: false,
+                },
+            )
+        }
+    };
+    Ok(Turn { item, state, rest })
+}
+
+fn line_step<'a>(alloc: Global, mut seen: Vec<u8>, piece: &'a [u8]) -> Result<Turn<'a>, AllocError>
+    requires { 0 < length piece.now }
+    ensures leads { IfOk result (λ t. TurnLeads (InLine seen.items) piece.now t) }
+    ensures place { IfOk result (λ t. IsPlace (place_of t.state)) }
+    ensures shorter { IfOk result (λ t. length t.rest.now < length piece.now) }
+{
+    let Some((front, rest)) = cut_line(piece) else {
+        seen.extend_from_slice(piece)?;
+        return Ok(Turn {
+            item: None,
+            state: State::Line(seen),
+            rest: &[],
+        });
+    };
+    if seen.is_empty() {
+        let turn = line_end(alloc, front, rest)?;
+        return Ok(turn);
+    }
+    seen.extend_from_slice(front)?;
+    let turn = line_end(alloc, seen.as_slice(), rest)?;
+    Ok(turn)
+}
+
+fn skip_step<'a>(alloc: Global, left: usize, fault: BlockFault, piece: &'a [u8]) -> Turn<'a>
+    requires { 0 < length piece.now }
+    ensures leads { TurnLeads (Skips left fault) piece.now result }
+    ensures place { IsPlace (place_of result.state) }
+    ensures shorter { length result.rest.now < length piece.now }
+{
+    if piece.len() <= left {
+        return Turn {
+            item: None,
+            state: State::Skip {
+                left: left - piece.len(),
+                fault,
+            },
+            rest: &[],
+        };
+    }
+    let (_, tail) = piece.split_at(left);
+    let Some((_, rest)) = cut_line(tail) else {
+        return Turn {
+            item: None,
+            state: State::Skip { left: 0, fault },
+            rest: &[],
+        };
+    };
+    Turn {
+        item: Some(Item::Fault(fault.fault())),
+        state: State::Line(Vec::new(alloc)),
+        rest,
+    }
+}
+
+fn block_step<'a>(
+    alloc: Global,
+    head: Head,
+    mut got: Vec<u8>,
+    returned: bool,
+    piece: &'a [u8],
+) -> Result<Turn<'a>, AllocError>
+    requires place { IsPlace (block_place head got.items returned) }
+    requires some { 0 < length piece.now }
+    ensures leads { IfOk result (λ t. TurnLeads (block_place head got.items returned) piece.now t) }
+    ensures place { IfOk result (λ t. IsPlace (place_of t.state)) }
+    ensures shorter { IfOk result (λ t. length t.rest.now < length piece.now) }
+{
+    match cut_block(&head, got.as_slice(), returned, piece) {
+        BlockCut::Open { front, returned } => {
+            got.extend_from_slice(front)?;
+            let state = State::Data {
+                head,
+                got,
+                returned,
+            };
+            Ok(Turn {
+                item: None,
+                state,
+                rest: &[],
+            })
+        }
+        BlockCut::Good { front, rest } => {
+            got.extend_from_slice(front)?;
+            Ok(Turn {
+                item: Some(Item::Request(head.request(got))),
+                state: State::Line(Vec::new(alloc)),
+                rest,
+            })
+        }
+        BlockCut::Bad { rest } => Ok(skip_step(alloc, 0, BlockFault::BadData, rest)),
+    }
+}
+
+fn step<'a>(alloc: Global, state: State, piece: &'a [u8]) -> Result<Turn<'a>, AllocError>
+    requires place { IsPlace (place_of state) }
+    requires some { 0 < length piece.now }
+    ensures leads { IfOk result (λ t. TurnLeads (place_of state) piece.now t) }
+    ensures place { IfOk result (λ t. IsPlace (place_of t.state)) }
+    ensures shorter { IfOk result (λ t. length t.rest.now < length piece.now) }
+{
+    match state {
+        State::Line(seen) => line_step(alloc, seen, piece),
+        State::Data {
+            head,
+            got,
+            returned,
+        } => block_step(alloc, head, got, returned, piece),
+        State::Skip { left, fault } => Ok(skip_step(alloc, left, fault, piece)),
+    }
+}
+
+/// Reads a piece from a state on: appends its items, and gives the state behind it.
+pub fn run(
+    alloc: Global,
+    state: State,
+    piece: &[u8],
+    out: &mut Vec<Item>,
+) -> Result<State, AllocError>
+    requires { IsPlace (place_of state) }
+    ensures items { OnOk result (out.new.items ≡ out.old.items ++ items_from (place_of state) piece.now) }
+    ensures next { IfOk result (λ s. place_of s ≡ place_after (place_of state) piece.now) }
+    ensures place { IfOk result (λ s. IsPlace (place_of s)) }
+{
+    let mut state = state;
+    let mut rest = piece;
+    while !rest.is_empty() {
+        let Turn {
+            item,
+            state: next,
+            rest: after,
+        } = step(alloc, state, rest)?;
+        if let Some(item) = item {
+            out.push(item)?;
+        }
+        state = next;
+        rest = after;
+    }
+    Ok(state)
+}

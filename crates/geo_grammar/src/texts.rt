@@ -1,0 +1,90 @@
+//! The texts of answers.
+ghost use Rattle.std.specs.Prelude.{◌≡◌, ◌++◌, decimal, IfOk, OnOk};
+ghost use Rattle.std.specs.List.{flat_map};
+ghost use Rattle.geo_grammar.specs.Replies.{answer_bytes, reply_bytes, found_bytes, head_bytes, unique_bytes};
+
+use crate::reply::{Found, Reply};
+use crate::request::Request;
+use itoa::Buffer;
+use std::alloc::{AllocError, Global};
+
+fn push_number(out: &mut Vec<u8>, number: u64) -> Result<(), AllocError>
+    ensures { OnOk result (out.new.items ≡ out.old.items ++ decimal number) }
+{
+    let mut buffer = Buffer::new();
+    out.extend_from_slice(buffer.format(number).as_bytes())
+}
+
+fn push_head(out: &mut Vec<u8>, found: &Found) -> Result<(), AllocError>
+    ensures { OnOk result (out.new.items ≡ out.old.items ++ head_bytes found.now) }
+{
+    out.extend_from_slice(b"VALUE ")?;
+    out.extend_from_slice(found.key.bytes())?;
+    out.extend_from_slice(b" ")?;
+    push_number(out, found.flags as u64)?;
+    out.extend_from_slice(b" ")?;
+    push_number(out, found.bytes.len() as u64)
+}
+
+fn push_unique(out: &mut Vec<u8>, unique: Option<u64>) -> Result<(), AllocError>
+    ensures { OnOk result (out.new.items ≡ out.old.items ++ unique_bytes unique) }
+{
+    let Some(number) = unique else {
+        return Ok(());
+    };
+    out.extend_from_slice(b" ")?;
+    push_number(out, number)
+}
+
+fn push_found(out: &mut Vec<u8>, found: &Found) -> Result<(), AllocError>
+    ensures { OnOk result (out.new.items ≡ out.old.items ++ found_bytes found.now) }
+{
+    push_head(out, found)?;
+    push_unique(out, found.unique)?;
+    out.extend_from_slice(b"\r\n")?;
+    out.extend_from_slice(found.bytes.as_slice())?;
+    out.extend_from_slice(b"\r\n")
+}
+
+fn push_all(out: &mut Vec<u8>, values: &[Found]) -> Result<(), AllocError>
+    ensures { OnOk result (out.new.items ≡ out.old.items ++ flat_map found_bytes values.now) }
+{
+    for found in values {
+        push_found(out, found)?;
+    }
+    Ok(())
+}
+
+fn push_reply(out: &mut Vec<u8>, reply: &Reply) -> Result<(), AllocError>
+    ensures { OnOk result (out.new.items ≡ out.old.items ++ reply_bytes reply.now) }
+{
+    match reply {
+        Reply::Stored => out.extend_from_slice(b"STORED\r\n"),
+        Reply::Values(values) => {
+            push_all(out, values.as_slice())?;
+            out.extend_from_slice(b"END\r\n")
+        }
+        Reply::TooLarge => out.extend_from_slice(b"SERVER_ERROR object too large for cache\r\n"),
+        Reply::ClockEnded => out.extend_from_slice(b"SERVER_ERROR clock ended\r\n"),
+        Reply::OutOfMemory => out.extend_from_slice(b"SERVER_ERROR out of memory\r\n"),
+    }
+}
+
+/// Appends the bytes that answer a request by a reply, none where the request wants no answer.
+pub fn push_answer(out: &mut Vec<u8>, request: &Request, reply: &Reply) -> Result<(), AllocError>
+    ensures { OnOk result (out.new.items ≡ out.old.items ++ answer_bytes request.now reply.now) }
+{
+    if request.is_noreply() {
+        return Ok(());
+    }
+    push_reply(out, reply)
+}
+
+/// The bytes that answer a request by a reply, none where the request wants no answer (memcached's protocol.txt).
+pub fn render(alloc: Global, request: &Request, reply: &Reply) -> Result<Vec<u8>, AllocError>
+    ensures { IfOk result (λ out. out.items ≡ answer_bytes request.now reply.now) }
+{
+    let mut out = Vec::new(alloc);
+    push_answer(&mut out, request, reply)?;
+    Ok(out)
+}

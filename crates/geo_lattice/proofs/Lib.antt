@@ -1,0 +1,6 @@
+pub mod Entries
+pub mod Joining
+pub mod Missing
+pub mod Listed
+pub mod Changed
+pub mod Listing

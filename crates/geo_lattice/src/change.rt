@@ -1,0 +1,25 @@
+//! Changes and views of values, by what they mean.
+ghost use Rattle.std.specs.Prelude.{◌≡◌, Option};
+
+/// A change of values.
+pub trait Change<L> {
+    /// What a value becomes.
+    ghost changed: { Self → L → L };
+
+    /// Changes one value.
+    fn change(&self, value: &mut L)
+        ensures { value.new ≡ changed self.now value.old };
+}
+
+/// A view of values, of which some show nothing.
+pub trait Show<L> {
+    /// What a value shows.
+    type Item: Drop;
+
+    /// What a value shows, if anything.
+    ghost shown: { Self → L → Option Self.Item };
+
+    /// What one value shows, if anything.
+    fn show(&self, value: &L) -> Option<Self::Item>
+        ensures { result ≡ shown self.now value.now };
+}

@@ -1,0 +1,302 @@
+//! A map, joined key by key.
+ghost use Rattle.std.specs.Prelude.{◌≡◌, ◌+◌, ◌≤◌, ◌<◌, IsTrue, IfOk, OnOk, OnErr, Option, IsSome, option_map, option_copied, None, Some, false, true, cond, is_some, length, ◌↔◌};
+ghost use Rattle.std.specs.Map.{keys_of, lookup};
+ghost use Rattle.std.specs.List.Sorted.{IsStrictlySortedBy};
+ghost use Rattle.std.specs.Option.{option_and_then};
+ghost use Rattle.std.specs.List.{IsDistinct};
+ghost use Rattle.geo_lattice.specs.Maps.{get, meaning_or, meaning_at, RoomFor, HasRoomFor, HasRoomForList, missing, EachFound, all_joined};
+
+use crate::change::{Change, Show};
+use crate::lattice::{Bottom, Flat, Lattice};
+use crate::twin::Twin;
+use indexmap::IndexMap;
+use std::alloc::{AllocError, Global};
+use std::hash::{Hash, RandomState};
+use std::marker::Model;
+
+/// A finite map, joined key by key. No key has an empty value: one that is missing means the empty value. In what order keys came
+/// shows in no answer, and room that was made shows in none but `has_room`.
+#[derive(Drop)]
+pub struct MapOf<K: Twin + Eq + Hash, L: Bottom> {
+    entries: IndexMap<K, L, RandomState>,
+}
+
+impl<K: Twin + Eq + Hash, L: Bottom> Model for MapOf<K, L> {
+    ghost use Rattle.std.specs.Prelude.{◌≡◌};
+    ghost use Rattle.std.specs.HashMap.{spare};
+    ghost use Rattle.geo_lattice.specs.Maps.{Entries, entries_code, EachFound};
+
+    ghost Value = { Entries K L };
+
+    ghost coded = { entries_code K.code L.code };
+
+    ghost view = { λ m. record { entries = m.entries.entries; spare = spare m.entries } };
+
+    ghost invariant = { λ m. EachFound (λ v. L.meaning v ≡ L.least → ⊥) K.eq m.entries.entries };
+}
+
+impl<K: Twin + Eq + Hash, L: Bottom> Lattice for MapOf<K, L> {
+    ghost Meaning = { K → L.Meaning };
+
+    ghost meaning = { meaning_at L.least L.meaning K.eq };
+
+    ghost joined = { λ m n k. L.joined (m k) (n k) };
+
+    ghost HasRoom = { HasRoomFor L.HasRoom K.eq };
+
+    ghost associative = { λ a b c. λ i k. L.associative (a k) (b k) (c k) i };
+
+    ghost commutative = { λ a b. λ i k. L.commutative (a k) (b k) i };
+
+    ghost idempotent = { λ a. λ i k. L.idempotent (a k) i };
+
+    ghost least = { λ k. L.least };
+
+    ghost least_joined = { λ a. λ i k. L.least_joined (a k) i };
+
+    fn ready(&mut self, alloc: Global, other: &Self) -> Result<(), AllocError> {
+        for i in 0..other.entries.len() {
+            if let Some((key, value)) = other.entries.get_index(i) {
+                self.ready_at(alloc, key, value)?;
+            }
+        }
+        let missing = self.count_missing(other);
+        self.entries.reserve(missing)
+    }
+
+    fn has_room(&self, other: &Self) -> bool {
+        for i in 0..other.entries.len() {
+            if let Some((key, value)) = other.entries.get_index(i) {
+                if !self.has_room_at(key, value) {
+                    return false;
+                }
+            }
+        }
+        self.count_missing(other) <= self.entries.capacity() - self.entries.len()
+    }
+
+    fn join(&mut self, other: Self) {
+        let MapOf { mut entries } = other;
+        while let Some((key, value)) = entries.pop() {
+            self.join_one(key, value);
+        }
+    }
+
+    fn covers(&self, other: &Self) -> bool {
+        for i in 0..other.entries.len() {
+            if let Some((key, value)) = other.entries.get_index(i) {
+                if !self.covers_one(key, value) {
+                    return false;
+                }
+            }
+        }
+        true
+    }
+}
+
+impl<K: Twin + Eq + Hash, L: Bottom> MapOf<K, L> {
+    /// An empty map.
+    pub fn with_hasher(alloc: Global, hasher: RandomState) -> Self
+        ensures { (q : K) → get K.eq result q ≡ None }
+    {
+        MapOf {
+            entries: IndexMap::with_hasher(alloc, hasher),
+        }
+    }
+
+    /// How many keys have a value, which is never an empty one.
+    pub fn len(&self) -> usize
+        ensures len { result ≡ length self.now.entries }
+        ensures unique { IsDistinct K.eq (keys_of self.now.entries) }
+        ensures filled { EachFound (λ v. L.meaning v ≡ L.least → ⊥) K.eq self.now.entries }
+    {
+        self.entries.len()
+    }
+
+    /// What is at a key.
+    pub fn get(&self, key: &K) -> Option<&L>
+        ensures value { option_copied result ≡ get K.eq self.now key.now }
+        ensures filled { EachFound (λ v. L.meaning v ≡ L.least → ⊥) K.eq self.now.entries }
+    {
+        self.entries.get(key)
+    }
+
+    /// Joins one value. Where a growth was refused, nothing is joined.
+    pub fn put(&mut self, alloc: Global, key: &K, value: L) -> Result<(), AllocError>
+        ensures ok { OnOk result ((q : K) → meaning_at L.least L.meaning K.eq self.new q ≡ cond (K.eq key.now q) (L.joined (meaning_at L.least L.meaning K.eq self.old q) (L.meaning value)) (meaning_at L.least L.meaning K.eq self.old q)) }
+        ensures err { OnErr result ((q : K) → meaning_at L.least L.meaning K.eq self.new q ≡ meaning_at L.least L.meaning K.eq self.old q) }
+    {
+        if value.is_bottom() {
+            return Ok(());
+        }
+        match self.entries.get_mut(key) {
+            Some(mine) => {
+                mine.ready(alloc, &value)?;
+                mine.join(value);
+            }
+            None => {
+                let key = key.twin(alloc)?;
+                self.entries.insert(key, value)?;
+            }
+        }
+        Ok(())
+    }
+
+    /// Changes each value, and drops those that are empty then. It takes no memory.
+    pub fn change_all<C: Change<L>>(&mut self, by: &C)
+        ensures { (q : K) → meaning_at L.least L.meaning K.eq self.new q ≡ meaning_at L.least (λ v. L.meaning (C.changed by.now v)) K.eq self.old q }
+    {
+        // Its contract has that no two keys are equal.
+        let _count = self.entries.len();
+        self.entries.retain(|_, value| {
+            by.change(value);
+            !value.is_bottom()
+        });
+    }
+
+    fn join_one(&mut self, key: K, value: L)
+        requires value { RoomFor L.HasRoom (get K.eq self.old key) (Some value) }
+        requires place { is_some (get K.eq self.old key) ≡ false → 0 < self.old.spare }
+        ensures joined { (q : K) → meaning_at L.least L.meaning K.eq self.new q ≡ cond (K.eq key q) (L.joined (meaning_at L.least L.meaning K.eq self.old q) (L.meaning value)) (meaning_at L.least L.meaning K.eq self.old q) }
+        ensures others { (q : K) → K.eq key q ≡ false → get K.eq self.new q ≡ get K.eq self.old q }
+        ensures kept { (q : K) → is_some (get K.eq self.old q) ≡ true → is_some (get K.eq self.new q) ≡ true }
+        ensures room { self.old.spare ≤ self.new.spare + cond (is_some (get K.eq self.old key)) 0 1 }
+    {
+        if value.is_bottom() {
+            return;
+        }
+        match self.entries.get_mut(&key) {
+            Some(mine) => mine.join(value),
+            None => {
+                let _ = self.entries.insert(key, value);
+            }
+        }
+    }
+
+    fn ready_at(&mut self, alloc: Global, key: &K, value: &L) -> Result<(), AllocError>
+        ensures kept { (q : K) → meaning_at L.least L.meaning K.eq self.new q ≡ meaning_at L.least L.meaning K.eq self.old q }
+        ensures room { OnOk result (RoomFor L.HasRoom (get K.eq self.new key.now) (Some value.now)) }
+        ensures others { (q : K) → K.eq key.now q ≡ false → get K.eq self.new q ≡ get K.eq self.old q }
+    {
+        match self.entries.get_mut(key) {
+            Some(mine) => mine.ready(alloc, value),
+            None => Ok(()),
+        }
+    }
+
+    fn has_room_at(&self, key: &K, value: &L) -> bool
+        ensures { IsTrue result ↔ RoomFor L.HasRoom (get K.eq self.now key.now) (Some value.now) }
+    {
+        match self.entries.get(key) {
+            Some(mine) => mine.has_room(value),
+            None => true,
+        }
+    }
+
+    fn count_missing(&self, other: &Self) -> usize
+        ensures { result ≡ missing K.eq self.now.entries other.now.entries }
+    {
+        other
+            .entries
+            .iter()
+            .filter(|(key, _)| !self.entries.contains_key(*key))
+            .count()
+    }
+
+    /// Whether joining what the values of the other map show would change nothing.
+    pub fn covers_shown<S: Show<L, Item = L>>(&self, other: &Self, show: &S) -> bool
+        ensures { IsTrue result ↔ ((q : K) → L.joined (meaning_at L.least L.meaning K.eq self.now q) (meaning_or L.least L.meaning (option_and_then (S.shown show.now) (get K.eq other.now q))) ≡ meaning_at L.least L.meaning K.eq self.now q) }
+    {
+        for i in 0..other.entries.len() {
+            if let Some((key, value)) = other.entries.get_index(i) {
+                if let Some(value) = show.show(value) {
+                    if !self.covers_one(key, &value) {
+                        return false;
+                    }
+                }
+            }
+        }
+        true
+    }
+
+    fn covers_one(&self, key: &K, value: &L) -> bool
+        ensures { IsTrue result ↔ (L.joined (meaning_at L.least L.meaning K.eq self.now key.now) (L.meaning value.now) ≡ meaning_at L.least L.meaning K.eq self.now key.now) }
+    {
+        match self.entries.get(key) {
+            Some(mine) => mine.covers(value),
+            None => value.is_bottom(),
+        }
+    }
+}
+
+impl<K: Twin + Eq + Hash, L: Bottom + Flat> MapOf<K, L> {
+    /// Makes room to join these values: for each that has a key which is not there. It changes no value.
+    pub fn ready_list(&mut self, values: &[(K, L)]) -> Result<(), AllocError>
+        ensures kept { self.new.entries ≡ self.old.entries }
+        ensures room { OnOk result (HasRoomForList K.eq self.new values.now) }
+    {
+        let missing = values
+            .iter()
+            .filter(|(key, _)| !self.entries.contains_key(key))
+            .count();
+        self.entries.reserve(missing)
+    }
+
+    /// Changes each of these values and joins it. A key may be named more than once. It takes no memory.
+    pub fn join_list<C: Change<L>>(&mut self, values: Vec<(K, L)>, by: &C)
+        requires { HasRoomForList K.eq self.old values.items }
+        ensures { (q : K) → meaning_at L.least L.meaning K.eq self.new q ≡ L.joined (meaning_at L.least L.meaning K.eq self.old q) (all_joined L.least (λ v. L.meaning (C.changed by.now v)) L.joined K.eq values.items q) }
+    {
+        let mut values = values;
+        while let Some((key, mut value)) = values.pop() {
+            by.change(&mut value);
+            self.join_one(key, value);
+        }
+    }
+
+    /// Changes each value of the other map and joins it. It takes no memory.
+    pub fn join_changed<C: Change<L>>(&mut self, other: Self, by: &C)
+        requires { missing K.eq self.old.entries other.entries ≤ self.old.spare }
+        ensures { (q : K) → meaning_at L.least L.meaning K.eq self.new q ≡ L.joined (meaning_at L.least L.meaning K.eq self.old q) (meaning_at L.least (λ v. L.meaning (C.changed by.now v)) K.eq other q) }
+    {
+        let MapOf { mut entries } = other;
+        while let Some((key, mut value)) = entries.pop() {
+            by.change(&mut value);
+            self.join_one(key, value);
+        }
+    }
+
+    /// Joins one value at a key that has one. It takes no memory.
+    pub fn join_at(&mut self, key: &K, value: L)
+        requires { IsSome (get K.eq self.old key.now) }
+        ensures { (q : K) → meaning_at L.least L.meaning K.eq self.new q ≡ cond (K.eq key.now q) (L.joined (meaning_at L.least L.meaning K.eq self.old q) (L.meaning value)) (meaning_at L.least L.meaning K.eq self.old q) }
+    {
+        if let Some(mine) = self.entries.get_mut(key) {
+            mine.join(value);
+        }
+    }
+}
+
+impl<K: Twin + Ord + Hash, L: Bottom> MapOf<K, L> {
+    /// What the values show, each with its key, by rising key.
+    pub fn listed<S: Show<L>>(
+        &self,
+        alloc: Global,
+        show: &S,
+    ) -> Result<Vec<(K, S::Item)>, AllocError>
+        ensures rising { IfOk result (λ all. IsStrictlySortedBy K.cmp (keys_of all.items)) }
+        ensures unique { IfOk result (λ all. IsDistinct K.eq (keys_of all.items)) }
+        ensures shown { IfOk result (λ all. (q : K) → lookup (K.eq q) all.items ≡ option_and_then (S.shown show.now) (get K.eq self.now q)) }
+    {
+        let mut all = Vec::new(alloc);
+        for i in 0..self.entries.len() {
+            if let Some((key, value)) = self.entries.get_index(i) {
+                if let Some(item) = show.show(value) {
+                    all.push((key.twin(alloc)?, item))?;
+                }
+            }
+        }
+        all.sort_unstable_by(|a, b| a.0.cmp(&b.0));
+        Ok(all)
+    }
+}

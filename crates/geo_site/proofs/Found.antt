@@ -1,0 +1,18 @@
+-- One key more is looked up.
+use Rattle.std.proofs.Common.{◌≡◌, ℕ, ◌+◌, ◌<◌, Bool, List, [], ◌∷◌, ◌++◌, length, take, Option, sym, ap, ◌∙◌, get_or, append_assoc}
+use Rattle.std.proofs.lemmas.List.{take_more, append-nil}
+use Rattle.std.specs.Prelude.{option_to_list}
+use Rattle.geo_grammar.specs.declared.reply.Found.{Found}
+use Rattle.geo_site.specs.Entries.{Visible, found_at, found_of}
+
+found_append : (numbers : Bool) (seen : Visible) (xs : List (List ℕ)) (k : List ℕ) → found_of numbers seen (xs ++ k ∷ []) ≡ found_of numbers seen xs ++ found_at numbers k (seen k)
+found_append numbers seen [] k = append-nil (found_at numbers k (seen k))
+found_append numbers seen (x ∷ xs) k = ap (λ ys. found_at numbers x (seen x) ++ ys) (found_append numbers seen xs k) ∙ sym (append_assoc (found_at numbers x (seen x)) (found_of numbers seen xs) (found_at numbers k (seen k)))
+
+pub found_more : (numbers : Bool) (seen : Visible) (keys : List (List ℕ)) (i : ℕ) (key : List ℕ) (all more extra : List Found) (found : Option Found)
+    → i < length keys → key ≡ get_or keys i key → all ≡ found_of numbers seen (take i keys) → option_to_list found ≡ found_at numbers key (seen key)
+    → more ≡ all ++ extra → extra ≡ option_to_list found → more ≡ found_of numbers seen (take (i + 1) keys)
+found_more numbers seen keys i key all more extra found lt at done one is ex =
+    is ∙ (λ j. done j ++ (ex ∙ one) j) ∙ sym (found_append numbers seen (take i keys) key)
+    ∙ ap (λ k. found_of numbers seen (take i keys ++ k ∷ [])) at
+    ∙ ap (found_of numbers seen) (sym (take_more keys i key lt))

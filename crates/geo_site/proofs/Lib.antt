@@ -1,0 +1,11 @@
+pub mod Entries
+pub mod Registers
+pub mod Records
+pub mod Steps
+pub mod Sound
+pub mod Served
+pub mod Writing
+pub mod Written
+pub mod Found
+pub mod Filtered
+pub mod Taking

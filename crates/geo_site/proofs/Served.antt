@@ -1,0 +1,190 @@
+-- Values that are served are what was written.
+use Rattle.std.proofs.Common.{◌≡◌, ℕ, ◌+◌, Bool, true, false, cond, true≢false, nat_lt, ◌==◌, ◌&&◌, List, [], ◌∷◌, ◌++◌, length, Option, None, Some, refl, sym, ap, ◌∙◌, subst}
+use Rattle.std.specs.Str.{bytes_eq}
+use Rattle.std.specs.Cmp.Lexicographic.{same_text}
+use Rattle.sha2.specs.Sha256.{sha256}
+use Rattle.geo_lattice.specs.Registers.{by_both}
+use Rattle.geo_stamp.specs.Stamps.{Moment, stamp_cmp, last_time}
+use Rattle.geo_versions.specs.Keys.{same_key}
+use Rattle.geo_versions.specs.Bodies.{body_cmp}
+use Rattle.geo_versions.specs.Operations.{Operation, Act, Register, Record, body_of, floor_of, winner, record_of, latest, Among, version_in, version_of}
+use Rattle.geo_versions.specs.Operations.Act.{Write, Delete, Touch, Flush}
+use Rattle.geo_versions.specs.declared.body.Body.{Body}
+use Rattle.geo_versions.specs.declared.body.Body.TheVariants.{Gone, Value}
+use Rattle.geo_versions.specs.declared.version.Version.{Version}
+use Rattle.geo_grammar.specs.declared.request.Request.{Request}
+use Rattle.geo_grammar.specs.declared.request.Request.TheVariants.{Store, Fetch}
+use Rattle.geo_grammar.specs.declared.reply.Reply.{Reply}
+use Rattle.geo_grammar.specs.declared.reply.Reply.TheVariants.{Stored, Values, TooLarge, ClockEnded, OutOfMemory}
+use Rattle.geo_grammar.specs.declared.reply.Found.{Found}
+use Rattle.geo_site.specs.declared.event.Event.{Event}
+use Rattle.geo_site.specs.declared.event.Event.TheVariants.{Command, Send, Take}
+use Rattle.geo_site.specs.declared.event.Trace.{Trace}
+use Rattle.geo_site.specs.declared.event.Trace.TheVariants.{Replied, Sent, SendRefused, Taken, TakeRefused}
+use Rattle.geo_site.specs.Entries.{names, entry_in, found_at, found_of, unique_if, cas_of, is_live, lacks, longest_value, expiry_at, Answers}
+use Rattle.geo_site.specs.Schedule.{Known, visible, owes, happens, known, Lawful, EachLawful}
+use Rattle.geo_site.specs.Served.{Written, NoCollision, ServedBy, EachServed, ReplyServes, TraceServes, AllServe}
+use Rattle.geo_site.proofs.Registers.{found}
+use Rattle.geo_site.proofs.Records.{B, above_is}
+use Rattle.geo_site.proofs.Sound.{Sound, some_same, some_none, sound_happens, grown}
+
+both_true : (a b : Bool) → a && b ≡ true → (a ≡ true) × (b ≡ true)
+both_true true b h = (refl, h)
+both_true false b h = absurd (true≢false (sym h))
+
+-- what stands in a body register was written by the operation with its stamp
+record Wrote (q : List ℕ) (act : Act) (digest : List ℕ) (flags : ℕ) : Type 0 where
+  pub bytes : List ℕ
+  pub expiry : ℕ
+  pub is : act ≡ Write q bytes flags expiry
+  pub same : digest ≡ sha256 bytes
+
+same_keys : (a b : List ℕ) → same_key a b ≡ true → a ≡ b
+same_keys a b h = same_text a b (sym h)
+
+body_wrote : (q : List ℕ) (st s : Moment) (act : Act) (d : List ℕ) (f l : ℕ) → body_of q (record { stamp = st; act = act }) ≡ Some (s, Value d f l) → (st ≡ s) × Wrote q act d f
+body_wrote q st s (Write k b g e) d f l h = by (same_key q k) refl h
+  where
+    by : (t : Bool) → same_key q k ≡ t → cond {A = Register Body} t (Some (st, Value (sha256 b) g (length b))) None ≡ Some (s, Value d f l) → (st ≡ s) × Wrote q (Write k b g e) d f
+    by true p h =
+        let stamp : st ≡ s = ap (λ (p : Moment × Body). p.0) (some_same h) in
+        let body : Value (sha256 b) g (length b) ≡ Value d f l = ap (λ (p : Moment × Body). p.1) (some_same h) in
+        let key = sym (same_keys q k p) in
+        let flags : g ≡ f = cc in
+        let digest : d ≡ sha256 b = cc in
+        (stamp, record { bytes = b; expiry = e; is = λ i. Write (key i) b (flags i) e; same = digest })
+    by false p h = absurd (some_none (sym h))
+body_wrote q st s (Delete k) d f l h = by (same_key q k) h
+  where
+    by : (t : Bool) → cond {A = Register Body} t (Some (st, Gone)) None ≡ Some (s, Value d f l) → (st ≡ s) × Wrote q (Delete k) d f
+    by true h = let body : Gone ≡ Value d f l = ap (λ (p : Moment × Body). p.1) (some_same h) in cc
+    by false h = absurd (some_none (sym h))
+body_wrote q st s (Touch k e) d f l h = absurd (some_none (sym h))
+body_wrote q st s Flush d f l h = absurd (some_none (sym h))
+
+-- a version is in its record's body register
+version_from : (r : Record) (v : Version) → version_in r ≡ Some v → r.0 ≡ Some (v.stamp, Value v.digest v.flags v.length)
+version_from (None, e) v h = absurd (some_none (sym h))
+version_from (Some (s, Gone), e) v h = absurd (some_none (sym h))
+version_from (Some (s, Value d f l), None) v h = ap (λ (v : Version). Some (v.stamp, Value v.digest v.flags v.length)) (some_same h)
+version_from (Some (s, Value d f l), Some (t, e)) v h = ap (λ (v : Version). Some (v.stamp, Value v.digest v.flags v.length)) (some_same h)
+
+-- the operation that a version names
+record Named (ops : List Operation) (q : List ℕ) (v : Version) : Type 0 where
+  pub op : Operation
+  pub among : Among ops op
+  pub stamp : op.stamp ≡ v.stamp
+  pub wrote : Wrote q op.act v.digest v.flags
+
+version_named : (ops : List Operation) (q : List ℕ) (v : Version) → version_of ops q ≡ Some v → Named ops q v
+version_named ops q v h =
+    let y : Moment × Body = (v.stamp, Value v.digest v.flags v.length) in
+    let w : winner ops q ≡ Some y = version_from (record_of ops q) v h in
+    let r = found (by_both stamp_cmp body_cmp) (body_of q) ops y (above_is (floor_of ops) (B q ops) y w).0 in
+    let b = body_wrote q r.0.stamp v.stamp r.0.act v.digest v.flags v.length r.2 in
+    record { op = r.0; among = r.1; stamp = b.0; wrote = b.1 }
+
+module _ (w : Known) (s : ℕ) (sound : Sound w) (apart : NoCollision w) where
+  serve_entry : (numbers : Bool) (q bytes : List ℕ) (v : Version) → w.held s q ≡ Some bytes → version_of (w.at s) q ≡ Some v → ServedBy w (w.at s) (record { key = q; flags = v.flags; unique = unique_if numbers (cas_of v.stamp); bytes = bytes })
+  serve_entry numbers q bytes v held version =
+      let n = version_named (w.at s) q v version in
+      let named : names (Some v) bytes ≡ true = subst (λ o. names o bytes ≡ true) version (sound.named s q bytes held) in
+      let digest : v.digest ≡ sha256 bytes = same_text v.digest (sha256 bytes) (sym (both_true (bytes_eq v.digest (sha256 bytes)) (v.length == length bytes) named).0) in
+      let one : Written w n.wrote.bytes = record { site = s; writing = record { op = n.op; among = n.among; key = q; flags = v.flags; expiry = n.wrote.expiry; is = n.wrote.is } } in
+      let two : Written w bytes = record { site = s; writing = sound.written s q bytes held } in
+      let same : n.wrote.bytes ≡ bytes = apart n.wrote.bytes bytes one two (sym n.wrote.same ∙ digest) in
+      record {
+        version = v;
+        is_version = version;
+        op = n.op;
+        among = n.among;
+        stamp = n.stamp;
+        expiry = n.wrote.expiry;
+        wrote = n.wrote.is ∙ ap (λ b. Write q b v.flags n.wrote.expiry) same;
+        alone = λ t other a e. sound.once other.stamp.site other n.op (sound.home t other a) (subst (λ (x : Moment). Among (w.at x.site) n.op) (sym e) (sound.home s n.op n.among)) e;
+      }
+
+  serve_at : (now : ℕ) (numbers : Bool) (q : List ℕ) (o : Option (List ℕ)) (vo : Option Version) → w.held s q ≡ o → version_of (w.at s) q ≡ vo → EachServed w (w.at s) (found_at numbers q (entry_in now vo o))
+  serve_at now numbers q None vo held version = tt
+  serve_at now numbers q (Some bytes) None held version = tt
+  serve_at now numbers q (Some bytes) (Some v) held version = by (is_live v.expiry now)
+    where
+      by : (t : Bool) → EachServed w (w.at s) (found_at numbers q (cond t (Some (record { bytes = bytes; flags = v.flags; expiry = v.expiry; unique = cas_of v.stamp })) None))
+      by true = (serve_entry numbers q bytes v held version, tt)
+      by false = tt
+
+  served_append : (xs ys : List Found) → EachServed w (w.at s) xs → EachServed w (w.at s) ys → EachServed w (w.at s) (xs ++ ys)
+  served_append [] ys h k = k
+  served_append (x ∷ xs) ys h k = (h.0, served_append xs ys h.1 k)
+
+  serve_keys : (now : ℕ) (numbers : Bool) (keys : List (List ℕ)) → EachServed w (w.at s) (found_of numbers (visible w s now) keys)
+  serve_keys now numbers [] = tt
+  serve_keys now numbers (q ∷ keys) = served_append (found_at numbers q (visible w s now q)) (found_of numbers (visible w s now) keys)
+      (serve_at now numbers q (w.held s q) (version_of (w.at s) q) refl refl)
+      (serve_keys now numbers keys)
+
+  serve_owed : (now : ℕ) (request : Request) → ReplyServes w s (owes w s now request).0
+  serve_owed now (Fetch keys numbers) = serve_keys now numbers keys
+  serve_owed now (Store verb key flags exptime unique bytes noreply) = by (nat_lt longest_value (length bytes))
+    where
+      last : (t : Bool) → ReplyServes w s (cond {A = Reply × List Act} t (ClockEnded, []) (Stored, Write key bytes flags (expiry_at exptime now) ∷ [])).0
+      last true = tt
+      last false = tt
+
+      by : (t : Bool) → let p = cond {A = Reply × List Act} t (TooLarge, []) (Stored, Write key bytes flags (expiry_at exptime now) ∷ []) in ReplyServes w s (cond {A = Reply × List Act} (lacks (latest (w.at s)) p.1) (ClockEnded, []) p).0
+      by true = tt
+      by false = last (nat_lt last_time (latest (w.at s) + length (Write key bytes flags (expiry_at exptime now) ∷ [])))
+
+  serve_reply : (now : ℕ) (request : Request) (reply : Reply) → Answers (owes w s now request).0 reply → ReplyServes w s reply
+  serve_reply now request Stored h = tt
+  serve_reply now request (Values found) h = subst (λ a. ReplyServes w s a) (sym h) (serve_owed now request)
+  serve_reply now request TooLarge h = tt
+  serve_reply now request ClockEnded h = tt
+  serve_reply now request OutOfMemory h = tt
+
+serve_trace : (w : Known) (e : Event) (t : Trace) → Sound w → NoCollision w → Lawful w e t → TraceServes w e t
+serve_trace w (Command s now request) (Replied reply) sound apart h = serve_reply w s sound apart now request reply h
+serve_trace w (Send s to) (Replied reply) sound apart h = absurd h
+serve_trace w (Take s p) (Replied reply) sound apart h = absurd h
+serve_trace w (Command s now request) Sent sound apart h = tt
+serve_trace w (Command s now request) (SendRefused why) sound apart h = tt
+serve_trace w (Command s now request) Taken sound apart h = tt
+serve_trace w (Command s now request) (TakeRefused why) sound apart h = tt
+serve_trace w (Send s to) Sent sound apart h = tt
+serve_trace w (Send s to) (SendRefused why) sound apart h = tt
+serve_trace w (Send s to) Taken sound apart h = tt
+serve_trace w (Send s to) (TakeRefused why) sound apart h = tt
+serve_trace w (Take s p) Sent sound apart h = tt
+serve_trace w (Take s p) (SendRefused why) sound apart h = tt
+serve_trace w (Take s p) Taken sound apart h = tt
+serve_trace w (Take s p) (TakeRefused why) sound apart h = tt
+
+grown_all : (w : Known) (es : List Event) (ts : List Trace) (s : ℕ) (op : Operation) → Among (w.at s) op → Among ((known w es ts).at s) op
+grown_all w [] ts s op a = a
+grown_all w (e ∷ es) [] s op a = a
+grown_all w (e ∷ es) (t ∷ ts) s op a = grown_all (happens w e t) es ts s op (grown w e t s op a)
+
+written_all : (w : Known) (es : List Event) (ts : List Trace) (bytes : List ℕ) → Written w bytes → Written (known w es ts) bytes
+written_all w es ts bytes h = record { site = h.site; writing = record { op = h.writing.op; among = grown_all w es ts h.site h.writing.op h.writing.among; key = h.writing.key; flags = h.writing.flags; expiry = h.writing.expiry; is = h.writing.is } }
+
+-- lawful replies serve what was written
+pub all_serve : (w : Known) (es : List Event) (ts : List Trace) → Sound w → EachLawful w es ts → NoCollision (known w es ts) → AllServe w es ts
+all_serve w [] ts sound lawful apart = tt
+all_serve w (e ∷ es) [] sound lawful apart = tt
+all_serve w (e ∷ es) (t ∷ ts) sound lawful apart = (
+  serve_trace w e t sound (λ a b x y. apart a b (written_all w (e ∷ es) (t ∷ ts) a x) (written_all w (e ∷ es) (t ∷ ts) b y)) lawful.0,
+  all_serve (happens w e t) es ts (sound_happens w e t sound) lawful.1 apart,
+)
+
+-- one event more
+pub lawful_more : (w : Known) (es : List Event) (ts : List Trace) (e : Event) (t : Trace) → EachLawful w es ts → Lawful (known w es ts) e t → EachLawful w (es ++ e ∷ []) (ts ++ t ∷ [])
+lawful_more w [] [] e t h l = (l, tt)
+lawful_more w [] (u ∷ ts) e t h l = absurd h
+lawful_more w (d ∷ es) [] e t h l = absurd h
+lawful_more w (d ∷ es) (u ∷ ts) e t h l = (h.0, lawful_more (happens w d u) es ts e t h.1 l)
+
+pub known_more : (w : Known) (es : List Event) (ts : List Trace) (e : Event) (t : Trace) → EachLawful w es ts → known w (es ++ e ∷ []) (ts ++ t ∷ []) ≡ happens (known w es ts) e t
+known_more w [] [] e t h = refl
+known_more w [] (u ∷ ts) e t h = absurd h
+known_more w (d ∷ es) [] e t h = absurd h
+known_more w (d ∷ es) (u ∷ ts) e t h = known_more (happens w d u) es ts e t h.1

@@ -1,0 +1,250 @@
+-- What is known along a schedule: each operation is known to its issuer, which has each stamp once, and what is held was written.
+use Rattle.std.proofs.Common.{◌≡◌, ◌≢◌, ℕ, zero, suc, Bool, true, false, cond, List, [], ◌∷◌, ◌++◌, Option, None, Some, refl, sym, ap, ◌∙◌, subst, ◌⊎◌, inl, inr, arith, slice_index_or}
+use Rattle.std.proofs.lemmas.Bool.{cases_eq}
+use Rattle.std.proofs.lemmas.Bool.Decides.{eqb_tells}
+use Rattle.geo_stamp.specs.Stamps.{Moment}
+use Rattle.geo_versions.specs.Keys.{same_key}
+use Rattle.geo_versions.specs.Operations.{Operation, Act, Among, version_of}
+use Rattle.geo_versions.specs.Operations.Act.{Write, Delete, Touch, Flush}
+use Rattle.geo_versions.specs.declared.version.Version.{Version}
+use Rattle.geo_site.specs.declared.event.Event.{Event}
+use Rattle.geo_site.specs.declared.event.Event.TheVariants.{Command, Send, Take}
+use Rattle.geo_site.specs.declared.event.Trace.{Trace}
+use Rattle.geo_site.specs.declared.event.Trace.TheVariants.{Replied, Sent, SendRefused, Taken, TakeRefused}
+use Rattle.geo_site.specs.Entries.{Held, names, named_by, is_done}
+use Rattle.geo_site.specs.Machine.{act_held}
+use Rattle.geo_site.specs.Schedule.{Known, nobody, still_held, settles, new_operation, issues, learns, carried, owes, happens}
+use Rattle.geo_site.specs.Served.{Writing}
+use Rattle.geo_site.proofs.Steps.{among_append, at_most_latest}
+
+pub record Sound (w : Known) : Type 0 where
+  -- each operation is known to its issuer
+  pub home : (t : ℕ) (op : Operation) → Among (w.at t) op → Among (w.at op.stamp.site) op
+  pub home_sent : (p : ℕ) (op : Operation) → Among (carried w p) op → Among (w.at op.stamp.site) op
+  -- a site knows each stamp once
+  pub once : (t : ℕ) (a b : Operation) → Among (w.at t) a → Among (w.at t) b → a.stamp ≡ b.stamp → a ≡ b
+  -- what is held was written, and is named
+  pub written : (t : ℕ) (q bytes : List ℕ) → w.held t q ≡ Some bytes → Writing (w.at t) bytes
+  pub named : (t : ℕ) (q bytes : List ℕ) → w.held t q ≡ Some bytes → names (version_of (w.at t) q) bytes ≡ true
+
+pub some_same : {A : Type 0} {x y : A} → Some x ≡ Some y → x ≡ y
+some_same h = cc
+
+pub some_none : {V : Type 0} {x : V} → Some x ≡ None → ⊥
+some_none h = cc
+
+pub among_left : (ks ls : List Operation) (op : Operation) → Among ks op → Among (ks ++ ls) op
+among_left [] ls op h = absurd h
+among_left (k ∷ ks) ls op (inl e) = inl e
+among_left (k ∷ ks) ls op (inr h) = inr (among_left ks ls op h)
+
+pub among_right : (ks ls : List Operation) (op : Operation) → Among ls op → Among (ks ++ ls) op
+among_right [] ls op h = h
+among_right (k ∷ ks) ls op h = inr (among_right ks ls op h)
+
+writing_left : (ks ls : List Operation) (bytes : List ℕ) → Writing ks bytes → Writing (ks ++ ls) bytes
+writing_left ks ls bytes h = record { op = h.op; among = among_left ks ls h.op h.among; key = h.key; flags = h.flags; expiry = h.expiry; is = h.is }
+
+writing_right : (ks ls : List Operation) (bytes : List ℕ) → Writing ls bytes → Writing (ks ++ ls) bytes
+writing_right ks ls bytes h = record { op = h.op; among = among_right ks ls h.op h.among; key = h.key; flags = h.flags; expiry = h.expiry; is = h.is }
+
+-- what still is held is named, and was held
+pub named_some : (v : Option Version) (o : Option (List ℕ)) (bytes : List ℕ) → named_by v o ≡ Some bytes → (o ≡ Some bytes) × (names v bytes ≡ true)
+named_some v None bytes h = absurd (some_none (sym h))
+named_some v (Some b) bytes h = by (names v b) refl h
+  where
+    by : (t : Bool) → names v b ≡ t → cond t (Some b) None ≡ Some bytes → (Some b ≡ Some bytes) × (names v bytes ≡ true)
+    by true e h = (h, subst (λ b. names v b ≡ true) (some_same h) e)
+    by false e h = absurd (some_none (sym h))
+
+-- a site that learns, and the others
+pub here : (w : Known) (s : ℕ) (ops : List Operation) (h : Held) → (settles w s ops h).at s ≡ ops
+here w s ops h = elim (eqb_tells s s) [ inl p ↦ ap (λ b. cond b ops (w.at s)) p.0 | inr p ↦ absurd (p.1 refl) ]
+
+pub there : (w : Known) (s : ℕ) (ops : List Operation) (h : Held) (t : ℕ) → t ≢ s → (settles w s ops h).at t ≡ w.at t
+there w s ops h t ne = elim (eqb_tells t s) [ inl p ↦ absurd (ne p.1) | inr p ↦ ap (λ b. cond b ops (w.at t)) p.0 ]
+
+pub held_here : (w : Known) (s : ℕ) (ops : List Operation) (h : Held) → (settles w s ops h).held s ≡ still_held ops h
+held_here w s ops h = elim (eqb_tells s s) [ inl p ↦ ap (λ b. cond b (still_held ops h) (w.held s)) p.0 | inr p ↦ absurd (p.1 refl) ]
+
+pub held_there : (w : Known) (s : ℕ) (ops : List Operation) (h : Held) (t : ℕ) → t ≢ s → (settles w s ops h).held t ≡ w.held t
+held_there w s ops h t ne = elim (eqb_tells t s) [ inl p ↦ absurd (ne p.1) | inr p ↦ ap (λ b. cond b (still_held ops h) (w.held t)) p.0 ]
+
+module _ (w : Known) (s : ℕ) (new : List Operation) (h : Held) where
+  pub grows : (t : ℕ) (op : Operation) → Among (w.at t) op → Among ((settles w s (w.at s ++ new) h).at t) op
+  grows t op a = elim (cases_eq t s) [
+    | inl e ↦ subst (λ t. Among ((settles w s (w.at s ++ new) h).at t) op) (sym e) (subst (λ ops. Among ops op) (sym (here w s (w.at s ++ new) h)) (among_left (w.at s) new op (subst (λ t. Among (w.at t) op) e a)))
+    | inr ne ↦ subst (λ ops. Among ops op) (sym (there w s (w.at s ++ new) h t ne)) a
+  ]
+
+  gained : (op : Operation) → Among new op → Among ((settles w s (w.at s ++ new) h).at s) op
+  gained op a = subst (λ ops. Among ops op) (sym (here w s (w.at s ++ new) h)) (among_right (w.at s) new op a)
+
+  sound_settles : Sound w
+      → ((op : Operation) → Among new op → (op.stamp.site ≡ s) ⊎ Among (w.at op.stamp.site) op)
+      → ((a b : Operation) → Among (w.at s ++ new) a → Among (w.at s ++ new) b → a.stamp ≡ b.stamp → a ≡ b)
+      → ((q bytes : List ℕ) → h q ≡ Some bytes → Writing (w.at s ++ new) bytes)
+      → Sound (settles w s (w.at s ++ new) h)
+  sound_settles sound each once written = record {
+    home = λ t op a. elim (cases_eq t s) [
+      | inl e ↦ elim (among_append (w.at s) new op (subst (λ ops. Among ops op) (here w s (w.at s ++ new) h) (subst (λ t. Among ((settles w s (w.at s ++ new) h).at t) op) e a))) [
+        | inl old ↦ grows op.stamp.site op (sound.home s op old)
+        | inr fresh ↦ elim (each op fresh) [
+          | inl own ↦ subst (λ t. Among ((settles w s (w.at s ++ new) h).at t) op) (sym own) (gained op fresh)
+          | inr known ↦ grows op.stamp.site op known
+        ]
+      ]
+      | inr ne ↦ grows op.stamp.site op (sound.home t op (subst (λ ops. Among ops op) (there w s (w.at s ++ new) h t ne) a))
+    ];
+    home_sent = λ p op a. grows op.stamp.site op (sound.home_sent p op a);
+    once = λ t a b x y e. elim (cases_eq t s) [
+      | inl same ↦ let at : (settles w s (w.at s ++ new) h).at t ≡ w.at s ++ new = ap (λ t. (settles w s (w.at s ++ new) h).at t) same ∙ here w s (w.at s ++ new) h in
+          once a b (subst (λ ops. Among ops a) at x) (subst (λ ops. Among ops b) at y) e
+      | inr ne ↦ let at = there w s (w.at s ++ new) h t ne in sound.once t a b (subst (λ ops. Among ops a) at x) (subst (λ ops. Among ops b) at y) e
+    ];
+    written = λ t q bytes x. elim (cases_eq t s) [
+      | inl same ↦ let at : (settles w s (w.at s ++ new) h).at t ≡ w.at s ++ new = ap (λ t. (settles w s (w.at s ++ new) h).at t) same ∙ here w s (w.at s ++ new) h in
+          let held : (settles w s (w.at s ++ new) h).held t ≡ still_held (w.at s ++ new) h = ap (λ t. (settles w s (w.at s ++ new) h).held t) same ∙ held_here w s (w.at s ++ new) h in
+          subst (λ ops. Writing ops bytes) (sym at) (written q bytes (named_some (version_of (w.at s ++ new) q) (h q) bytes (sym (ap (λ (f : Held). f q) held) ∙ x)).0)
+      | inr ne ↦ subst (λ ops. Writing ops bytes) (sym (there w s (w.at s ++ new) h t ne)) (sound.written t q bytes (sym (ap (λ (f : Held). f q) (held_there w s (w.at s ++ new) h t ne)) ∙ x))
+    ];
+    named = λ t q bytes x. elim (cases_eq t s) [
+      | inl same ↦ let at : (settles w s (w.at s ++ new) h).at t ≡ w.at s ++ new = ap (λ t. (settles w s (w.at s ++ new) h).at t) same ∙ here w s (w.at s ++ new) h in
+          let held : (settles w s (w.at s ++ new) h).held t ≡ still_held (w.at s ++ new) h = ap (λ t. (settles w s (w.at s ++ new) h).held t) same ∙ held_here w s (w.at s ++ new) h in
+          subst (λ ops. names (version_of ops q) bytes ≡ true) (sym at) (named_some (version_of (w.at s ++ new) q) (h q) bytes (sym (ap (λ (f : Held). f q) held) ∙ x)).1
+      | inr ne ↦ subst (λ ops. names (version_of ops q) bytes ≡ true) (sym (there w s (w.at s ++ new) h t ne)) (sound.named t q bytes (sym (ap (λ (f : Held). f q) (held_there w s (w.at s ++ new) h t ne)) ∙ x))
+    ];
+  }
+
+-- what an own write puts into what is held was written by it
+one_written : (act : Act) (h : Held) (q bytes : List ℕ) → act_held act h q ≡ Some bytes → (h q ≡ Some bytes) ⊎ ((key : List ℕ) × (flags : ℕ) × (expiry : ℕ) × (act ≡ Write key bytes flags expiry))
+one_written (Write k b f e) h q bytes x = by (same_key q k) x
+  where
+    by : (t : Bool) → cond t (Some b) (h q) ≡ Some bytes → (h q ≡ Some bytes) ⊎ ((key : List ℕ) × (flags : ℕ) × (expiry : ℕ) × (Write k b f e ≡ Write key bytes flags expiry))
+    by true x = inr (k, f, e, ap (λ b. Write k b f e) (some_same x))
+    by false x = inl x
+one_written (Delete k) h q bytes x = inl x
+one_written (Touch k e) h q bytes x = inl x
+one_written Flush h q bytes x = inl x
+
+the_one : (op o : Operation) → Among (op ∷ []) o → op ≡ o
+the_one op o (inl e) = e
+the_one op o (inr h) = absurd h
+
+-- one operation more, whose stamp is later than all that is known
+sound_issue : (w : Known) (s : ℕ) (act : Act) → Sound w → Sound (settles w s (w.at s ++ new_operation w s act ∷ []) (act_held act (w.held s)))
+sound_issue w s act sound =
+    let new = new_operation w s act in
+    sound_settles w s (new ∷ []) (act_held act (w.held s)) sound
+    (λ op a. inl (sym (ap (λ (o : Operation). o.stamp.site) (the_one new op a))))
+    (λ a b x y e. elim (among_append (w.at s) (new ∷ []) a x) [
+      | inl old ↦ elim (among_append (w.at s) (new ∷ []) b y) [
+        | inl old' ↦ sound.once s a b old old' e
+        | inr fresh ↦ absurd (apart a b old fresh e)
+      ]
+      | inr fresh ↦ elim (among_append (w.at s) (new ∷ []) b y) [
+        | inl old ↦ absurd (apart b a old fresh (sym e))
+        | inr fresh' ↦ sym (the_one new a fresh) ∙ the_one new b fresh'
+      ]
+    ])
+    (λ q bytes x. elim (one_written act (w.held s) q bytes x) [
+      | inl y ↦ writing_left (w.at s) (new ∷ []) bytes (sound.written s q bytes y)
+      | inr y ↦ writing_right (w.at s) (new ∷ []) bytes (record { op = new; among = inl refl; key = y.0; flags = y.1; expiry = y.2; is = y.3 })
+    ])
+  where
+    apart : (a b : Operation) → Among (w.at s) a → Among (new_operation w s act ∷ []) b → a.stamp ≡ b.stamp → ⊥
+    apart a b x y e =
+        let h = at_most_latest (w.at s) a x in
+        let r = ap (λ (o : Operation). o.stamp.time) (the_one (new_operation w s act) b y) in
+        let t = ap (λ (x : Moment). x.time) e in
+        omega (arith, h, r, t)
+
+pub sound_issues : (w : Known) (s : ℕ) (acts : List Act) → Sound w → Sound (issues w s acts)
+sound_issues w s [] sound = sound
+sound_issues w s (act ∷ acts) sound = sound_issues (settles w s (w.at s ++ new_operation w s act ∷ []) (act_held act (w.held s))) s acts (sound_issue w s act sound)
+
+pub sound_takes : (w : Known) (s p : ℕ) → Sound w → Sound (learns w s (carried w p))
+sound_takes w s p sound =
+    sound_settles w s (carried w p) (w.held s) sound
+    (λ op a. inr (sound.home_sent p op a))
+    (λ a b x y e. sound.once a.stamp.site a b (at_home a x) (subst (λ (x : Moment). Among (w.at x.site) b) (sym e) (at_home b y)) e)
+    (λ q bytes x. writing_left (w.at s) (carried w p) bytes (sound.written s q bytes x))
+  where
+    at_home : (op : Operation) → Among (w.at s ++ carried w p) op → Among (w.at op.stamp.site) op
+    at_home op a = elim (among_append (w.at s) (carried w p) op a) [ inl x ↦ sound.home s op x | inr x ↦ sound.home_sent p op x ]
+
+-- one more that is sent
+sent_more : (xs : List (ℕ × List Operation)) (x : ℕ × List Operation) (p : ℕ) (op : Operation) → Among (slice_index_or (xs ++ x ∷ []) p (0, [])).1 op → Among (slice_index_or xs p (0, [])).1 op ⊎ Among x.1 op
+sent_more [] x zero op h = inr h
+sent_more [] x (suc p) op h = inl h
+sent_more (y ∷ xs) x zero op h = inl h
+sent_more (y ∷ xs) x (suc p) op h = sent_more xs x p op h
+
+pub sound_sends : (w : Known) (s to : ℕ) → Sound w → Sound (record { at = w.at; held = w.held; sent = w.sent ++ (to, w.at s) ∷ [] })
+sound_sends w s to sound = record {
+  home = sound.home;
+  home_sent = λ p op a. elim (sent_more w.sent (to, w.at s) p op a) [ inl x ↦ sound.home_sent p op x | inr x ↦ sound.home s op x ];
+  once = sound.once;
+  written = sound.written;
+  named = sound.named;
+}
+
+sound_done : (t : Bool) (w v : Known) → Sound w → Sound v → Sound (cond t v w)
+sound_done true w v a b = b
+sound_done false w v a b = a
+
+pub sound_happens : (w : Known) (e : Event) (t : Trace) → Sound w → Sound (happens w e t)
+sound_happens w (Command s now request) (Replied reply) sound = sound_done (is_done reply) w _ sound (sound_issues w s (owes w s now request).1 sound)
+sound_happens w (Command s now request) Sent sound = sound
+sound_happens w (Command s now request) (SendRefused why) sound = sound
+sound_happens w (Command s now request) Taken sound = sound
+sound_happens w (Command s now request) (TakeRefused why) sound = sound
+sound_happens w (Send s to) Sent sound = sound_sends w s to sound
+sound_happens w (Send s to) (Replied r) sound = sound
+sound_happens w (Send s to) (SendRefused why) sound = sound
+sound_happens w (Send s to) Taken sound = sound
+sound_happens w (Send s to) (TakeRefused why) sound = sound
+sound_happens w (Take s p) Taken sound = sound_takes w s p sound
+sound_happens w (Take s p) (Replied r) sound = sound
+sound_happens w (Take s p) Sent sound = sound
+sound_happens w (Take s p) (SendRefused why) sound = sound
+sound_happens w (Take s p) (TakeRefused why) sound = sound
+
+pub sound_nobody : Sound nobody
+sound_nobody = record {
+  home = λ t op a. absurd a;
+  home_sent = λ p op a. absurd (none p op a);
+  once = λ t a b x y e. absurd x;
+  written = λ t q bytes h. absurd (some_none (sym h));
+  named = λ t q bytes h. absurd (some_none (sym h));
+}
+  where
+    none : (p : ℕ) (op : Operation) → Among (slice_index_or {A = ℕ × List Operation} [] p (0, [])).1 op → ⊥
+    none zero op h = h
+    none (suc p) op h = h
+
+-- what is known only grows
+grown_issues : (w : Known) (s : ℕ) (acts : List Act) (t : ℕ) (op : Operation) → Among (w.at t) op → Among ((issues w s acts).at t) op
+grown_issues w s [] t op a = a
+grown_issues w s (act ∷ acts) t op a = grown_issues (settles w s (w.at s ++ new_operation w s act ∷ []) (act_held act (w.held s))) s acts t op (grows w s (new_operation w s act ∷ []) (act_held act (w.held s)) t op a)
+
+grown_done : (b : Bool) (w v : Known) (t : ℕ) (op : Operation) → Among (w.at t) op → Among (v.at t) op → Among ((cond b v w).at t) op
+grown_done true w v t op a c = c
+grown_done false w v t op a c = a
+
+pub grown : (w : Known) (e : Event) (t : Trace) (s : ℕ) (op : Operation) → Among (w.at s) op → Among ((happens w e t).at s) op
+grown w (Command s now request) (Replied reply) t op a = grown_done (is_done reply) w _ t op a (grown_issues w s (owes w s now request).1 t op a)
+grown w (Command s now request) Sent t op a = a
+grown w (Command s now request) (SendRefused why) t op a = a
+grown w (Command s now request) Taken t op a = a
+grown w (Command s now request) (TakeRefused why) t op a = a
+grown w (Send s to) Sent t op a = a
+grown w (Send s to) (Replied r) t op a = a
+grown w (Send s to) (SendRefused why) t op a = a
+grown w (Send s to) Taken t op a = a
+grown w (Send s to) (TakeRefused why) t op a = a
+grown w (Take s p) Taken t op a = grows w s (carried w p) (w.held s) t op a
+grown w (Take s p) (Replied r) t op a = a
+grown w (Take s p) Sent t op a = a
+grown w (Take s p) (SendRefused why) t op a = a
+grown w (Take s p) (TakeRefused why) t op a = a

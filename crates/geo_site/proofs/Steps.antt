@@ -1,0 +1,274 @@
+-- Each step of a site keeps it what it knows and holds.
+use Rattle.std.proofs.Common.{◌≡◌, ℕ, zero, suc, ◌+◌, ◌≤◌, ◌<◌, Bool, true, false, cond, List, [], ◌∷◌, ◌++◌, length, Option, None, Some, refl, sym, ap, ◌∙◌, subst, subst₂, ◌⊎◌, inl, inr, arith, true≢false}
+use Rattle.std.specs.declared.cmp.Ordering.{Ordering}
+use Rattle.std.specs.Ordering.{nat_cmp}
+use Rattle.std.proofs.lemmas.Cmp.{nat_cmp_total}
+use Rattle.std.proofs.lemmas.Map.Lookups.{exact_unsigned}
+use Rattle.geo_lattice.specs.Registers.{newer, by_both}
+use Rattle.geo_stamp.specs.Stamps.{Moment, stamp_cmp, stamps_total, exact_stamps}
+use Rattle.geo_stamp.specs.Vectors.{entry_of, zeros, vector_joined, greatest_of, raised, Knows}
+use Rattle.geo_versions.specs.Keys.{same_key}
+use Rattle.geo_versions.specs.Bodies.{body_cmp, bodies_total, exact_bodies}
+use Rattle.geo_versions.specs.Operations.{Operation, Act, Register, Record, above, above_both, floor_of, flush_of, body_of, expiry_of, winner, latest_expiry, record_joined, floor_joined, latest, Among, version_in, version_of}
+use Rattle.geo_versions.specs.Operations.Act.{Write, Delete, Touch, Flush}
+use Rattle.geo_versions.specs.declared.body.Body.{Body}
+use Rattle.geo_versions.specs.declared.body.Body.TheVariants.{Gone}
+use Rattle.geo_versions.proofs.Meaning.{newest_append, latest_append}
+use Rattle.geo_site.specs.Entries.{Held, named_by}
+use Rattle.geo_site.specs.Machine.{SiteState, Delta, fresh, clock_of, next_operation, map_after, issue, act_held, map_with, take, Same}
+use Rattle.geo_site.specs.Schedule.{still_held}
+use Rattle.geo_site.specs.Agreement.{Holds, NoTime, Tells, StateOf, DeltaOf}
+use Rattle.geo_site.proofs.Entries.{Within, entry_joined, length_joined, greatest_joined, entry_at_most, greatest_raised, length_raised, entry_raised, entry_rises}
+use Rattle.geo_site.proofs.Registers.{Later, Incoming, found}
+use Rattle.geo_site.proofs.Records.{B, X, holds_take, holds_version, above_is}
+
+some_none : {V : Type 0} {x : V} → Some x ≡ None → ⊥
+some_none h = cc
+
+some_same : {A : Type 0} {x y : A} → Some x ≡ Some y → x ≡ y
+some_same h = cc
+
+pub among_append : (ks ls : List Operation) (op : Operation) → Among (ks ++ ls) op → Among ks op ⊎ Among ls op
+among_append [] ls op h = inr h
+among_append (k ∷ ks) ls op (inl e) = inl (inl e)
+among_append (k ∷ ks) ls op (inr h) = elim (among_append ks ls op h) [ inl a ↦ inl (inr a) | inr b ↦ inr b ]
+
+pub at_most_latest : (ops : List Operation) (op : Operation) → Among ops op → op.stamp.time ≤ latest ops
+at_most_latest [] op h = absurd h
+at_most_latest (k ∷ ks) op (inl e) = let t = ap (λ (o : Operation). o.stamp.time) e in omega (arith, t)
+at_most_latest (k ∷ ks) op (inr h) = let t = at_most_latest ks op h in omega (arith, t)
+
+newer_none : {A : Type 0} (cmp : A → A → Ordering) (a : Option A) → newer cmp a None ≡ a
+newer_none cmp None = refl
+newer_none cmp (Some a) = refl
+
+-- the stamp in a register is that of an operation
+body_stamp : (key : List ℕ) (op : Operation) (y : Moment × Body) → body_of key op ≡ Some y → y.0 ≡ op.stamp
+body_stamp key op y h = by op.act h
+  where
+    one : (t : Bool) (a : Body) → cond {A = Register Body} t (Some (op.stamp, a)) None ≡ Some y → y.0 ≡ op.stamp
+    one true a h = let same : ◌≡◌ {A = Moment × Body} (op.stamp, a) y = some_same h in ap (λ (y : Moment × Body). y.0) (sym same)
+    one false a h = absurd (some_none (sym h))
+
+    by : (act : Act) → body_of key (record { stamp = op.stamp; act = act }) ≡ Some y → y.0 ≡ op.stamp
+    by (Write k bytes flags expiry) h = one (same_key key k) _ h
+    by (Delete k) h = one (same_key key k) Gone h
+    by (Touch k expiry) h = absurd (some_none (sym h))
+    by Flush h = absurd (some_none (sym h))
+
+expiry_stamp : (key : List ℕ) (op : Operation) (y : Moment × ℕ) → expiry_of key op ≡ Some y → y.0 ≡ op.stamp
+expiry_stamp key op y h = by op.act h
+  where
+    one : (t : Bool) (a : ℕ) → cond {A = Register ℕ} t (Some (op.stamp, a)) None ≡ Some y → y.0 ≡ op.stamp
+    one true a h = let same : ◌≡◌ {A = Moment × ℕ} (op.stamp, a) y = some_same h in ap (λ (y : Moment × ℕ). y.0) (sym same)
+    one false a h = absurd (some_none (sym h))
+
+    by : (act : Act) → expiry_of key (record { stamp = op.stamp; act = act }) ≡ Some y → y.0 ≡ op.stamp
+    by (Write k bytes flags expiry) h = one (same_key key k) expiry h
+    by (Delete k) h = one (same_key key k) 0 h
+    by (Touch k expiry) h = one (same_key key k) expiry h
+    by Flush h = absurd (some_none (sym h))
+
+-- one operation alone leaves its registers
+alone_body : (key : List ℕ) (op : Operation) → winner (op ∷ []) key ≡ body_of key op
+alone_body key op = (λ i. above (newer_none stamp_cmp (flush_of op) i) (newer_none (by_both stamp_cmp body_cmp) (body_of key op) i)) ∙ by op.act
+  where
+    one : (t : Bool) (a : Body) → above None (cond {A = Register Body} t (Some (op.stamp, a)) None) ≡ cond t (Some (op.stamp, a)) None
+    one true a = refl
+    one false a = refl
+
+    by : (act : Act) → above (flush_of (record { stamp = op.stamp; act = act })) (body_of key (record { stamp = op.stamp; act = act })) ≡ body_of key (record { stamp = op.stamp; act = act })
+    by (Write k bytes flags expiry) = one (same_key key k) _
+    by (Delete k) = one (same_key key k) Gone
+    by (Touch k expiry) = refl
+    by Flush = refl
+
+alone_expiry : (key : List ℕ) (op : Operation) → latest_expiry (op ∷ []) key ≡ expiry_of key op
+alone_expiry key op = (λ i. above (newer_none stamp_cmp (flush_of op) i) (newer_none (by_both stamp_cmp nat_cmp) (expiry_of key op) i)) ∙ by op.act
+  where
+    one : (t : Bool) (a : ℕ) → above None (cond {A = Register ℕ} t (Some (op.stamp, a)) None) ≡ cond t (Some (op.stamp, a)) None
+    one true a = refl
+    one false a = refl
+
+    by : (act : Act) → above (flush_of (record { stamp = op.stamp; act = act })) (expiry_of key (record { stamp = op.stamp; act = act })) ≡ expiry_of key (record { stamp = op.stamp; act = act })
+    by (Write k bytes flags expiry) = one (same_key key k) expiry
+    by (Delete k) = one (same_key key k) 0
+    by (Touch k expiry) = one (same_key key k) expiry
+    by Flush = refl
+
+never : (t : ℕ) → NoTime t → t ≤ 0
+never t h = absurd h
+
+-- what a state with equal versions shows is the same
+pub state_version : (n s : ℕ) (st : SiteState) (ops : List Operation) (held : Held) (key : List ℕ) → StateOf n s st ops held → version_in (st.map key) ≡ version_of ops key
+state_version n s st ops held key ok = holds_version NoTime (st.map key) ops key (ok.holds key)
+
+act_held_same : (act : Act) (a b : Held) (key : List ℕ) → a key ≡ b key → act_held act a key ≡ act_held act b key
+act_held_same (Write k bytes flags expiry) a b key e = ap (λ o. cond (same_key key k) (Some bytes) o) e
+act_held_same (Delete k) a b key e = e
+act_held_same (Touch k expiry) a b key e = e
+act_held_same Flush a b key e = e
+
+-- ---- a new operation
+module _ (n s : ℕ) (st : SiteState) (ops : List Operation) (held : Held) (act : Act) (ok : StateOf n s st ops held) (in_range : Within st.vector s) where
+  issued : Operation
+  issued = next_operation (latest ops) s act
+
+  clock_is : clock_of st ≡ latest ops
+  clock_is = ok.tells.clock
+
+  latest_after : latest (ops ++ next_operation (latest ops) s act ∷ []) ≡ latest ops + 1
+  latest_after = let a = latest_append ops (next_operation (latest ops) s act ∷ []) in omega (arith, a)
+
+  comes_body : (key : List ℕ) (x : Register Body) → body_of key (next_operation (latest ops) s act) ≡ x → Incoming body_cmp bodies_total exact_bodies 0 (B key ops) (winner (next_operation (latest ops) s act ∷ []) key) x
+  comes_body key None e = inr (refl, λ y is. absurd (some_none (sym is ∙ alone_body key (next_operation (latest ops) s act) ∙ e)))
+  comes_body key (Some y) e = inl (sym (alone_body key (next_operation (latest ops) s act) ∙ e), let t = ap (λ (m : Moment). m.time) (body_stamp key (next_operation (latest ops) s act) y e) in let z : 0 < y.0.time = omega (arith, t) in z)
+
+  comes_expiry : (key : List ℕ) (x : Register ℕ) → expiry_of key (next_operation (latest ops) s act) ≡ x → Incoming nat_cmp nat_cmp_total exact_unsigned 0 (X key ops) (latest_expiry (next_operation (latest ops) s act ∷ []) key) x
+  comes_expiry key None e = inr (refl, λ y is. absurd (some_none (sym is ∙ alone_expiry key (next_operation (latest ops) s act) ∙ e)))
+  comes_expiry key (Some y) e = inl (sym (alone_expiry key (next_operation (latest ops) s act) ∙ e), let t = ap (λ (m : Moment). m.time) (expiry_stamp key (next_operation (latest ops) s act) y e) in let z : 0 < y.0.time = omega (arith, t) in z)
+
+  holds_after : (key : List ℕ) → Holds NoTime (map_after st (next_operation (latest ops) s act) key) (ops ++ next_operation (latest ops) s act ∷ []) key
+  holds_after key =
+      let op = next_operation (latest ops) s act in
+      subst (λ f. Holds NoTime (above_both f (record_joined (st.map key) (body_of key op, expiry_of key op))) (ops ++ op ∷ []) key)
+      (λ i. floor_joined (sym ok.tells.floors i) (newer_none stamp_cmp (flush_of op) i))
+      (holds_take NoTime 0 never (st.map key) (body_of key op, expiry_of key op) ops (op ∷ []) key (ok.holds key)
+      (record { body = comes_body key (body_of key op) refl; expiry = comes_expiry key (expiry_of key op) refl }))
+
+  -- an operation is issued
+  pub state_issues : StateOf n s (issue s act st) (ops ++ next_operation (latest ops) s act ∷ []) (still_held (ops ++ next_operation (latest ops) s act ∷ []) (act_held act held))
+  state_issues =
+      let op = next_operation (latest ops) s act in
+      let same : next_operation (clock_of st) s act ≡ op = ap (λ c. next_operation c s act) ok.tells.clock in
+      let top = greatest_raised st.vector s (clock_of st + 1) in_range in
+      let own = entry_raised st.vector s (clock_of st + 1) in_range in
+      let c = ok.tells.clock in
+      let l = latest_after in
+      let was = ok.tells.own in
+      record {
+        many = length_raised st.vector s (clock_of st + 1) ∙ ok.many;
+        tells = record {
+          clock = omega (arith, top, c, l);
+          own = omega (arith, own, c, l, was);
+          covers = λ o h. elim (among_append ops (op ∷ []) o h) [
+            | inl a ↦ let x = ok.tells.covers o a in let y = entry_rises st.vector s (clock_of st + 1) o.stamp.site in_range in omega (arith, x, y)
+            | inr a ↦ new_covered o a (omega (arith, own, c, was))
+          ];
+          positive = λ o h. elim (among_append ops (op ∷ []) o h) [ inl a ↦ ok.tells.positive o a | inr a ↦ new_positive o a ];
+          floors = ap (λ o. floor_joined st.floor (flush_of o)) same ∙ (λ i. floor_joined (ok.tells.floors i) (flush_of op)) ∙ ap (floor_joined (floor_of ops)) (sym (newer_none stamp_cmp (flush_of op))) ∙ sym (newest_append stamp_cmp stamps_total exact_stamps flush_of ops (op ∷ []));
+        };
+        holds = λ key. subst (λ o. Holds NoTime (map_after st o key) (ops ++ op ∷ []) key) (sym same) (holds_after key);
+        same_held = λ key. (λ i. named_by (version_in (map_after st (same i) key)) (act_held_same act st.held held key (ok.same_held key) i)) ∙ ap (λ v. named_by v (act_held act held key)) (holds_version NoTime (map_after st op key) (ops ++ op ∷ []) key (holds_after key));
+      }
+    where
+      new_covered : (o : Operation) → Among (next_operation (latest ops) s act ∷ []) o → latest ops + 1 ≤ entry_of (raised st.vector s (clock_of st + 1)) s → Knows (raised st.vector s (clock_of st + 1)) o.stamp
+      new_covered o (inl e) le = subst (λ (o : Operation). Knows (raised st.vector s (clock_of st + 1)) o.stamp) e le
+      new_covered o (inr h) le = absurd h
+
+      new_positive : (o : Operation) → Among (next_operation (latest ops) s act ∷ []) o → 1 ≤ o.stamp.time
+      new_positive o (inl e) = subst (λ (o : Operation). 1 ≤ o.stamp.time) e (omega arith)
+      new_positive o (inr h) = absurd h
+
+-- ---- what is told has times of at least 1
+module _ (s : ℕ) (v : List ℕ) (f : Option Moment) (ops : List Operation) (tells : Tells s v f ops) where
+  pub told_positive_body : (key : List ℕ) (y : Moment × Body) → winner ops key ≡ Some y → 0 < y.0.time
+  told_positive_body key y is =
+      let op = found (by_both stamp_cmp body_cmp) (body_of key) ops y (above_is (floor_of ops) (B key ops) y is).0 in
+      let p = tells.positive op.0 op.1 in
+      let t = ap (λ (m : Moment). m.time) (body_stamp key op.0 y op.2) in
+      omega (arith, p, t)
+
+  pub told_positive_expiry : (key : List ℕ) (y : Moment × ℕ) → latest_expiry ops key ≡ Some y → 0 < y.0.time
+  told_positive_expiry key y is =
+      let op = found (by_both stamp_cmp nat_cmp) (expiry_of key) ops y (above_is (floor_of ops) (X key ops) y is).0 in
+      let p = tells.positive op.0 op.1 in
+      let t = ap (λ (m : Moment). m.time) (expiry_stamp key op.0 y op.2) in
+      omega (arith, p, t)
+
+-- ---- what comes in a parcel
+module _ (n s sender : ℕ) (st : SiteState) (d : Delta) (ks ls : List Operation) (held : Held) (ok : StateOf n s st ks held) (comes : DeltaOf n sender d ls) (in_range : Within st.vector s) where
+  in_body : (key : List ℕ) (x r : Register Body) → winner ls key ≡ r → (x ≡ r) ⊎ ((x ≡ None) × Rattle.geo_site.specs.Agreement.Old NoTime r) → Incoming body_cmp bodies_total exact_bodies 0 (B key ks) r x
+  in_body key x None is (inl e) = inr (e, λ y iy. absurd (some_none (sym iy)))
+  in_body key x (Some y) is (inl e) = inl (e, subst (λ (x : Register Body). Later 0 x) (sym e) (told_positive_body sender d.upto d.floor ls comes.tells key y is))
+  in_body key x None is (inr e) = absurd e.1
+  in_body key x (Some y) is (inr e) = absurd e.1
+
+  in_expiry : (key : List ℕ) (x r : Register ℕ) → latest_expiry ls key ≡ r → (x ≡ r) ⊎ ((x ≡ None) × Rattle.geo_site.specs.Agreement.Old NoTime r) → Incoming nat_cmp nat_cmp_total exact_unsigned 0 (X key ks) r x
+  in_expiry key x None is (inl e) = inr (e, λ y iy. absurd (some_none (sym iy)))
+  in_expiry key x (Some y) is (inl e) = inl (e, subst (λ (x : Register ℕ). Later 0 x) (sym e) (told_positive_expiry sender d.upto d.floor ls comes.tells key y is))
+  in_expiry key x None is (inr e) = absurd e.1
+  in_expiry key x (Some y) is (inr e) = absurd e.1
+
+  holds_with : (key : List ℕ) → Holds NoTime (map_with st d key) (ks ++ ls) key
+  holds_with key =
+      subst (λ f. Holds NoTime (above_both f (record_joined (st.map key) (d.map key))) (ks ++ ls) key)
+      (λ i. floor_joined (sym ok.tells.floors i) (sym comes.tells.floors i))
+      (holds_take NoTime 0 never (st.map key) (d.map key) ks ls key (ok.holds key)
+      (record { body = in_body key (d.map key).0 (winner ls key) refl (comes.holds key).body; expiry = in_expiry key (d.map key).1 (latest_expiry ls key) refl (comes.holds key).expiry }))
+
+  -- a parcel is taken
+  pub state_takes : StateOf n s (take s d st) (ks ++ ls) (still_held (ks ++ ls) held)
+  state_takes =
+      let joined = vector_joined st.vector d.upto in
+      let len : length joined ≡ length st.vector = length_joined st.vector d.upto (ok.many ∙ sym comes.many) in
+      let above : 1 ≤ s = in_range.above in
+      let most : s ≤ length st.vector = in_range.below in
+      let there : Within joined s = record { above = above; below = omega (arith, len, most) } in
+      let top = greatest_raised joined s (greatest_of joined) there in
+      let own = entry_raised joined s (greatest_of joined) there in
+      let all = greatest_joined st.vector d.upto in
+      let below = entry_at_most joined s in
+      let l = latest_append ks ls in
+      let c1 = ok.tells.clock in
+      let c2 = comes.tells.clock in
+      record {
+        many = length_raised joined s (greatest_of joined) ∙ len ∙ ok.many;
+        tells = record {
+          clock = omega (arith, top, all, l, c1, c2);
+          own = omega (arith, own, all, l, c1, c2, below);
+          covers = λ o h.
+              let r = entry_rises joined s (greatest_of joined) o.stamp.site there in
+              let j = entry_joined st.vector d.upto o.stamp.site in
+              elim (among_append ks ls o h) [
+                | inl a ↦ let x = ok.tells.covers o a in omega (arith, r, j, x)
+                | inr a ↦ let x = comes.tells.covers o a in omega (arith, r, j, x)
+              ];
+          positive = λ o h. elim (among_append ks ls o h) [ inl a ↦ ok.tells.positive o a | inr a ↦ comes.tells.positive o a ];
+          floors = (λ i. floor_joined (ok.tells.floors i) (comes.tells.floors i)) ∙ sym (newest_append stamp_cmp stamps_total exact_stamps flush_of ks ls);
+        };
+        holds = holds_with;
+        same_held = λ key. (λ i. named_by (version_in (map_with st d key)) (ok.same_held key i)) ∙ ap (λ v. named_by v (held key)) (holds_version NoTime (map_with st d key) (ks ++ ls) key (holds_with key));
+      }
+
+-- a site that knows nothing
+pub zeros_greatest : (n : ℕ) → greatest_of (zeros n) ≡ 0
+zeros_greatest zero = refl
+zeros_greatest (suc n) = let h = zeros_greatest n in omega (arith, h)
+
+pub zeros_length : (n : ℕ) → length (zeros n) ≡ n
+zeros_length zero = refl
+zeros_length (suc n) = let h = zeros_length n in omega (arith, h)
+
+pub state_fresh : (n s : ℕ) → StateOf n s (fresh n) [] (λ _. None)
+state_fresh n s = record {
+  many = zeros_length n;
+  tells = record {
+    clock = zeros_greatest n;
+    own = let h = entry_at_most (zeros n) s in let z = zeros_greatest n in omega (arith, h, z);
+    covers = λ op h. absurd h;
+    positive = λ op h. absurd h;
+    floors = refl;
+  };
+  holds = λ key. record { body = inl refl; expiry = inl refl; whole = λ h. absurd (true≢false (sym h)) };
+  same_held = λ key. refl;
+}
+
+-- a state that says the same
+pub state_same : (n s : ℕ) (st new : SiteState) (ops : List Operation) (held : Held) → StateOf n s st ops held → Same st new → StateOf n s new ops held
+state_same n s st new ops held ok same = record {
+  many = ap length same.vector ∙ ok.many;
+  tells = subst₂ (λ (v : List ℕ) (f : Option Moment). Tells s v f ops) (sym same.vector) (sym same.floor) ok.tells;
+  holds = λ key. subst (λ (m : Record). Holds NoTime m ops key) (sym (same.map key)) (ok.holds key);
+  same_held = λ key. same.held key ∙ ok.same_held key;
+}

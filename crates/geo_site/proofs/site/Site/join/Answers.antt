@@ -1,0 +1,37 @@
+use Rattle.std.proofs.Common.{◌≡◌, arith, ap, sym, ◌∙◌, length}
+use Rattle.indexmap.specs.IndexMap.{get}
+use Rattle.geo_stamp.specs.Vectors.{vector_joined, greatest_of, raised}
+use Rattle.geo_versions.specs.Keys.{same_key}
+use Rattle.geo_versions.specs.Operations.{above_both, record_joined, floor_joined, version_in}
+use Rattle.geo_versions.specs.Maps.{listed_at}
+use Rattle.geo_versions.specs.Maps.{floor_in, record_in}
+use Rattle.geo_site.specs.Machine.{knows_record, knows_floor}
+use Rattle.geo_site.proofs.Entries.{Within, length_joined, length_raised}
+use Rattle.geo_site.proofs.Sound.{named_some}
+use Rattle.geo_site.proofs.Writing.{knows_joined, knows_floors, knows_more, knows_floor_more}
+use Rattle.geo_site.proofs.Taking.{left_rises, right_rises, all_listed}
+use Rattle.geo_site.proofs.site.Site.join.Goals as goal
+
+pub invariant_of-self : goal.invariant_of-self
+invariant_of-self c =
+    let s = c.args.self.now in
+    let v = s.vector in
+    let n = s.number in
+    let joined = vector_joined v c.args.upto in
+    let vec : c.raise.new.self ≡ raised joined n (greatest_of joined) = c.raise.ensures ∙ (λ i. raised (c.join.ensures i) n (c.greatest-top.ensures.greatest i)) ∙ ap (λ w. raised joined n (greatest_of w)) c.join.ensures in
+    let new = raised joined n (greatest_of joined) in
+    let len = length_joined v c.args.upto (sym c.requires.many) in
+    let num : Within joined n = record { above = s.numbered.0; below = (let h = s.numbered.1 in omega (arith, h, len)) } in
+    let many = ap length vec ∙ length_raised joined n (greatest_of joined) ∙ len in
+    let f = floor_in s.versions in
+    let g = c.args.floor in
+    let up = left_rises v c.args.upto n num in
+    let other = right_rises v c.args.upto n num in
+    record {
+      numbered = (s.numbered.0, (let h = s.numbered.1 in omega (arith, many, h)), (let h = s.numbered.2 in omega (arith, many, h)));
+      floor_known = (λ i. knows_floor (vec i) (c.join_records.ensures.floor i)) ∙ knows_floors new f g (knows_floor_more v new up f s.floor_known) (knows_floor_more c.args.upto new other g c.requires.floor_known);
+      covered = λ q. (λ i. knows_record (vec i) ((c.join_records.ensures.records q ∙ ap (λ h. above_both h (record_joined (record_in s.versions q) (listed_at c.into_vec.result.items q))) c.join_records.ensures.floor) i))
+          ∙ ap (λ xs. knows_record new (above_both (floor_joined f g) (record_joined (record_in s.versions q) (listed_at xs q)))) c.into_vec.ensures
+          ∙ knows_joined new (floor_joined f g) (record_in s.versions q) (listed_at c.args.records q) (knows_more v new up (record_in s.versions q) (s.covered q)) (knows_more c.args.upto new other (listed_at c.args.records q) (all_listed c.args.upto c.args.records q c.requires.records_known));
+      named = λ q b h. (named_some (version_in (record_in c.join_records.new.self q)) (get same_key s.held q) b (sym (c.keep_named.ensures.kept q) ∙ h)).1;
+    }

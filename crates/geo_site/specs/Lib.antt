@@ -1,0 +1,6 @@
+pub mod Entries
+pub mod Machine
+pub mod Schedule
+pub mod Served
+pub mod Agreement
+pub mod Sites

@@ -1,0 +1,63 @@
+-- Values that are served: each is what the operation wrote that the version names, unless two values have one SHA-256.
+use Rattle.std.specs.Prelude.{◌≡◌, ℕ, List, [], ◌∷◌, Some}
+use Rattle.sha2.specs.Sha256.{sha256}
+use Rattle.geo_versions.specs.Operations.{Operation, Among, version_of}
+use Rattle.geo_versions.specs.Operations.Act.{Write}
+use Rattle.geo_versions.specs.declared.version.Version.{Version}
+use Rattle.geo_grammar.specs.declared.reply.Reply.{Reply}
+use Rattle.geo_grammar.specs.declared.reply.Reply.TheVariants.{Stored, Values, TooLarge, ClockEnded, OutOfMemory}
+use Rattle.geo_grammar.specs.declared.reply.Found.{Found}
+use Rattle.geo_site.specs.declared.event.Event.{Event}
+use Rattle.geo_site.specs.declared.event.Event.TheVariants.{Command}
+use Rattle.geo_site.specs.declared.event.Trace.{Trace}
+use Rattle.geo_site.specs.declared.event.Trace.TheVariants.{Replied}
+use Rattle.geo_site.specs.Schedule.{Known, happens}
+
+-- somebody knows a write of the bytes
+pub record Writing (ops : List Operation) (bytes : List ℕ) : Type 0 where
+  pub op : Operation
+  pub among : Among ops op
+  pub key : List ℕ
+  pub flags : ℕ
+  pub expiry : ℕ
+  pub is : op.act ≡ Write key bytes flags expiry
+
+pub record Written (w : Known) (bytes : List ℕ) : Type 0 where
+  pub site : ℕ
+  pub writing : Writing (w.at site) bytes
+
+-- no two different values that were written have one digest
+abbrev pub NoCollision : Known → Type 0
+NoCollision w = (a b : List ℕ) → Written w a → Written w b → sha256 a ≡ sha256 b → a ≡ b
+
+-- the entry is what the write wrote whose stamp the site's version of the key has, and no other operation has that stamp
+pub record ServedBy (w : Known) (ops : List Operation) (entry : Found) : Type 0 where
+  pub version : Version
+  pub is_version : version_of ops entry.key ≡ Some version
+  pub op : Operation
+  pub among : Among ops op
+  pub stamp : op.stamp ≡ version.stamp
+  pub expiry : ℕ
+  pub wrote : op.act ≡ Write entry.key entry.bytes entry.flags expiry
+  pub alone : (t : ℕ) (other : Operation) → Among (w.at t) other → other.stamp ≡ op.stamp → other ≡ op
+
+abbrev pub EachServed : Known → List Operation → List Found → Type 0
+EachServed w ops [] = Unit {0}
+EachServed w ops (entry ∷ found) = ServedBy w ops entry × EachServed w ops found
+
+-- each value in a reply is what the named operation wrote
+abbrev pub ReplyServes : Known → ℕ → Reply → Type 0
+ReplyServes w site Stored = Unit {0}
+ReplyServes w site (Values found) = EachServed w (w.at site) found
+ReplyServes w site TooLarge = Unit {0}
+ReplyServes w site ClockEnded = Unit {0}
+ReplyServes w site OutOfMemory = Unit {0}
+
+abbrev pub TraceServes : Known → Event → Trace → Type 0
+TraceServes w (Command site now request) (Replied reply) = ReplyServes w site reply
+TraceServes w event trace = Unit {0}
+
+abbrev pub AllServe : Known → List Event → List Trace → Type 0
+AllServe w [] traces = Unit {0}
+AllServe w (event ∷ events) [] = Unit {0}
+AllServe w (event ∷ events) (trace ∷ traces) = TraceServes w event trace × AllServe (happens w event trace) events traces

@@ -1,0 +1,39 @@
+//! What can happen at a site, and what came of it.
+use crate::refusal::{SendError, TakeError};
+use geo_grammar::{Reply, Request};
+
+/// What happens next: one atomic step of one site. Sites are numbered from 1, parcels from 0 by the sends that succeeded.
+#[derive(Drop)]
+pub enum Event {
+    /// A client's request, at a moment in seconds, 1 to 2^40.
+    Command {
+        site: u8,
+        now: u64,
+        request: Request,
+    },
+    /// The site makes a parcel for another.
+    Send {
+        site: u8,
+        to: u8,
+    },
+    /// The site takes a parcel that was sent: never, once or often, and in any order.
+    Take {
+        site: u8,
+        parcel: usize,
+    },
+}
+
+/// What came of an event.
+#[derive(Drop)]
+pub enum Trace {
+    /// The reply to a command, which may be a refusal.
+    Replied(Reply),
+    /// The parcel was made.
+    Sent,
+    /// No parcel was made.
+    SendRefused(SendError),
+    /// What the parcel tells was joined.
+    Taken,
+    /// The site is as it was.
+    TakeRefused(TakeError),
+}

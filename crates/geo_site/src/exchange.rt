@@ -1,0 +1,191 @@
+//! What a site tells another, and what it is told.
+ghost use Rattle.std.specs.Prelude.{IsTrue, ◌↔◌, ◌≡◌, ◌≢◌, ◌≤◌, ◌<◌, ◌+◌, ℕ, List, Option, Some, None, Bool, true, false, IfOk, MatchOption, MatchResult, length, cond, option_copied};
+ghost use Rattle.indexmap.specs.IndexMap.{get, index_map_len};
+ghost use Rattle.geo_versions.specs.Keys.{same_key};
+ghost use Rattle.geo_versions.specs.Operations.{version_in};
+ghost use Rattle.geo_versions.specs.Maps.{rec_means, listed_at};
+ghost use Rattle.geo_versions.specs.Maps.{floor_in, record_in, HasRoomFor};
+ghost use Rattle.geo_site.specs.Entries.{names, named_by};
+ghost use Rattle.geo_site.specs.Machine.{Same, take, knows_record, knows_floor};
+ghost use Rattle.geo_stamp.specs.Vectors.{vector_joined};
+ghost use Rattle.geo_site.specs.Sites.{state_in, held_count, is_sound, knows_all, Takes, RefusesFor, SendDoes, TakeDoes};
+
+use crate::blob::Blob;
+use crate::refusal::{SendError, TakeError};
+use crate::site::Site;
+use geo_delta::{Parcel, cut};
+use geo_lattice::{Items, Lattice};
+use geo_stamp::{Stamp, Vector};
+use geo_versions::{Key, Rec, Version, Versions};
+use indexmap::IndexMap;
+use std::alloc::Global;
+use std::hash::RandomState;
+
+/// What a take did.
+#[derive(Clone, Copy, Debug, PartialEq, Eq)]
+pub struct Taken {
+    /// Whether the parcel's vector knew more than the site's.
+    pub rose: bool,
+    /// How many held values the site's versions no longer name, and so were dropped.
+    pub dropped: usize,
+}
+
+/// A parcel that was not taken, handed back whole.
+#[derive(Drop)]
+pub struct Refused {
+    pub why: TakeError,
+    pub parcel: Parcel,
+}
+
+/// Whether a vector knows the stamp of a floor.
+fn knows_stamp(vector: &Vector, floor: Option<Stamp>) -> bool
+    ensures { result ≡ knows_floor vector.now floor }
+{
+    match floor {
+        None => true,
+        Some(stamp) => vector.knows(&stamp),
+    }
+}
+
+/// Whether a vector knows both stamps of a record.
+fn knows_both(vector: &Vector, rec: &Rec) -> bool
+    ensures { result ≡ knows_record vector.now (rec_means rec.now) }
+{
+    let body = match rec.left.get() {
+        None => true,
+        Some((stamp, _)) => vector.knows(stamp),
+    };
+    let expiry = match rec.right.get() {
+        None => true,
+        Some((stamp, _)) => vector.knows(stamp),
+    };
+    body && expiry
+}
+
+/// Whether a vector knows all stamps of records.
+fn knows_each(vector: &Vector, records: &[(Key, Rec)]) -> bool
+    ensures { result ≡ knows_all vector.now records.now }
+{
+    records.iter().all(|(_, rec)| knows_both(vector, rec))
+}
+
+/// Whether a version names the bytes.
+fn is_named(version: Option<Version>, blob: &Blob) -> bool
+    ensures { result ≡ names version blob.now }
+{
+    match version {
+        None => false,
+        Some(version) => {
+            version.digest == blob.digest() && version.length as usize == blob.bytes().len()
+        }
+    }
+}
+
+/// Drops what the versions no longer name.
+fn keep_named(held: &mut IndexMap<Key, Blob, RandomState>, versions: &Versions)
+    ensures kept { (q : List ℕ) → get same_key held.new q ≡ named_by (version_in (record_in versions.now q)) (get same_key held.old q) }
+    ensures no_more { index_map_len held.new ≤ index_map_len held.old }
+{
+    let _count = held.len();
+    held.retain(|key, blob| is_named(versions.version_of(key), blob));
+}
+
+impl Site {
+    /// Makes a parcel for another site: what it knows of all keys. NoSuchSite exactly for its own number and for one that is
+    /// not configured.
+    pub fn send(&self, alloc: Global, to: u8) -> Result<Parcel, SendError>
+        ensures { SendDoes self.now to result }
+    {
+        let sites = self.vector.sites();
+        if to == 0 || to as usize > sites || to == self.number {
+            return Err(SendError::NoSuchSite);
+        }
+        let base = Vector::new(sites);
+        match cut(alloc, &self.versions, self.number, to, &base, &self.vector) {
+            Ok(parcel) => Ok(parcel),
+            Err(_) => Err(SendError::Memory),
+        }
+    }
+
+    /// Whether a parcel is one that another site of as many can have made.
+    fn is_sound_parcel(&self, parcel: &Parcel) -> bool
+        ensures { result ≡ is_sound (length (state_in self.now).vector) self.now.number parcel.now }
+    {
+        let sites = self.vector.sites();
+        parcel.from >= 1
+            && parcel.from as usize <= sites
+            && parcel.from != self.number
+            && parcel.base.sites() == sites
+            && parcel.upto.sites() == sites
+            && knows_stamp(&parcel.upto, parcel.floor)
+            && knows_each(&parcel.upto, parcel.records.as_slice())
+    }
+
+    /// Why a parcel can't be taken, where memory is no matter.
+    fn refusal(&self, parcel: &Parcel) -> Option<TakeError>
+        ensures { MatchOption result (Takes self.now parcel.now) (RefusesFor self.now parcel.now) }
+    {
+        if parcel.to != self.number {
+            return Some(TakeError::NotForMe);
+        }
+        if !self.is_sound_parcel(parcel) {
+            return Some(TakeError::UnknownSite);
+        }
+        if !self.vector.covers(&parcel.base) {
+            return Some(TakeError::Gap);
+        }
+        None
+    }
+
+    /// Joins what a parcel brings, for which there is room: first the versions, then the clocks, and what is held last, so that
+    /// bytes stay where a newer record names them too.
+    fn join(&mut self, upto: Vector, floor: Option<Stamp>, records: Items<(Key, Rec)>) -> Taken
+        requires room { HasRoomFor self.old.versions records }
+        requires many { length upto ≡ length self.old.vector }
+        requires floor_known { knows_floor upto floor ≡ true }
+        requires records_known { knows_all upto records ≡ true }
+        ensures joined { Same (take self.old.number (record { upto = upto; floor = floor; map = listed_at records }) (state_in self.old)) (state_in self.new) }
+        ensures rose { IsTrue result.rose ↔ (vector_joined self.old.vector upto ≢ self.old.vector) }
+        ensures dropped { held_count self.new + result.dropped ≡ held_count self.old }
+        ensures number { self.new.number ≡ self.old.number }
+    {
+        let rose = !self.vector.covers(&upto);
+        self.versions.join_records(floor, records.into_vec());
+        self.vector.join(upto);
+        let top = self.vector.greatest();
+        self.vector.raise(self.number, top);
+        let before = self.held.len();
+        keep_named(&mut self.held, &self.versions);
+        let dropped = before - self.held.len();
+        Taken { rose, dropped }
+    }
+
+    /// Joins what a parcel tells. A refusal hands the parcel back whole and changes nothing.
+    pub fn take(&mut self, alloc: Global, parcel: Parcel) -> Result<Taken, Refused>
+        ensures does { TakeDoes self.old self.new parcel result }
+        ensures number { self.new.number ≡ self.old.number }
+    {
+        if let Some(why) = self.refusal(&parcel) {
+            return Err(Refused { why, parcel });
+        }
+        match self
+            .versions
+            .ready_records(alloc, parcel.records.as_slice())
+        {
+            Ok(()) => {}
+            Err(_) => {
+                let why = TakeError::Memory;
+                return Err(Refused { why, parcel });
+            }
+        }
+        let Parcel {
+            from: _,
+            to: _,
+            base: _,
+            upto,
+            floor,
+            records,
+        } = parcel;
+        Ok(self.join(upto, floor, records))
+    }
+}

@@ -1,0 +1,28 @@
+//! One site: plain memcached over what it holds, and what it tells the other sites.
+//!
+//! A [`Site`] keeps versions of all that was written anywhere, the bytes of some of its own writes, and a vector of clocks. Each
+//! call is one atomic step: `act` answers a client, `send` makes a parcel, `take` joins one. `specs/` has the machine whose
+//! steps these are, and what sites know and hold along a schedule. It stands on versions, parcels and requests, and knows
+//! nothing of bytes on a wire, threads or histories.
+#![tactic(auto)]
+
+pub mod act;
+pub mod blob;
+pub mod event;
+pub mod exchange;
+pub mod expiry;
+pub mod refusal;
+pub mod setup;
+pub mod site;
+
+pub use act::LONGEST_VALUE;
+pub use blob::Blob;
+pub use event::{Event, Trace};
+pub use exchange::{Refused, Taken};
+pub use expiry::{expiry_at, is_live};
+pub use refusal::{SendError, SetupError, TakeError};
+pub use setup::Setup;
+pub use site::Site;
+
+#[cfg(test)]
+mod tests;

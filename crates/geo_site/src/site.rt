@@ -1,0 +1,99 @@
+//! A site's state, and what can be asked of it.
+ghost use Rattle.std.specs.Prelude.{◌≡◌, ◌≢◌, ℕ, ◌≤◌, ◌<◌, List, None, Some, IsTrue, IfOk, ◌↔◌, true};
+ghost use Rattle.indexmap.specs.IndexMap.{get};
+ghost use Rattle.geo_versions.specs.Keys.{same_key};
+ghost use Rattle.geo_versions.specs.Operations.{version_in};
+ghost use Rattle.geo_versions.specs.Maps.{floor_in, record_in};
+ghost use Rattle.geo_site.specs.Machine.{Numbered, Covers, Settled, knows_floor};
+
+use crate::blob::Blob;
+use crate::refusal::SetupError;
+use crate::setup::Setup;
+use geo_stamp::Vector;
+use geo_versions::{Key, Version, Versions};
+use indexmap::IndexMap;
+use std::alloc::{AllocError, Global};
+use std::hash::RandomState;
+
+/// One site: a vector of the clocks that it knows, the versions of all that was written, and the bytes of some of its own
+/// writes.
+#[derive(Drop)]
+pub struct Site {
+    pub(crate) number: u8,
+    pub(crate) max_records: u32,
+    pub(crate) vector: Vector,
+    pub(crate) versions: Versions,
+    pub(crate) held: IndexMap<Key, Blob, RandomState>,
+    ghost numbered: { Numbered number vector },
+    ghost floor_known: { knows_floor vector (floor_in versions) ≡ true },
+    ghost covered: { Covers vector (record_in versions) },
+    ghost named: { Settled (record_in versions) (λ key. get same_key held key) },
+}
+
+impl Site {
+    ghost use Rattle.std.specs.Map.{lookup};
+    ghost use Rattle.geo_versions.specs.Maps.{Rising};
+    ghost use Rattle.geo_site.specs.Machine.{IsRecordCount};
+    ghost use Rattle.geo_site.specs.Sites.{state_in, OpenDoes};
+
+    /// A site that knows nothing. The number of sites is tested first, then the site's number, then the most records.
+    pub fn new(alloc: Global, setup: Setup) -> Result<Site, SetupError>
+        ensures { OpenDoes setup result }
+    {
+        if setup.sites == 0 || setup.sites > 16 {
+            return Err(SetupError::Sites);
+        }
+        if setup.site == 0 || setup.site > setup.sites {
+            return Err(SetupError::SiteNumber);
+        }
+        if setup.max_records == 0 || setup.max_records > 1_000_000 {
+            return Err(SetupError::Records);
+        }
+        let Ok(hasher) = setup.hasher.clone() else {
+            return Err(SetupError::Memory);
+        };
+        Ok(Site {
+            number: setup.site,
+            max_records: setup.max_records,
+            vector: Vector::new(setup.sites as usize),
+            versions: Versions::new(alloc, setup.hasher),
+            held: IndexMap::with_hasher(alloc, hasher),
+        })
+    }
+
+    /// What it knows of each site's clock.
+    pub fn known(&self) -> &Vector
+        ensures { result.now ≡ (state_in self.now).vector }
+    {
+        &self.vector
+    }
+
+    /// The version of a key.
+    pub fn version_of(&self, key: &Key) -> Option<Version>
+        ensures { result ≡ version_in ((state_in self.now).map key.now) }
+    {
+        self.versions.version_of(key)
+    }
+
+    /// The versions of all keys, by rising key.
+    pub fn versions(&self, alloc: Global) -> Result<Vec<(Key, Version)>, AllocError>
+        ensures rising { IfOk result (λ all. Rising all.items) }
+        ensures versions { IfOk result (λ all. (q : List ℕ) → lookup (same_key q) all.items ≡ version_in ((state_in self.now).map q)) }
+    {
+        self.versions.all(alloc)
+    }
+
+    /// Whether it holds the bytes of a key.
+    pub fn holds(&self, key: &Key) -> bool
+        ensures { IsTrue result ↔ ((state_in self.now).held key.now ≢ None) }
+    {
+        self.held.get(key).is_some()
+    }
+
+    /// How many keys have a record: a version, or what is left of one that is gone.
+    pub fn records(&self) -> usize
+        ensures { IsRecordCount (state_in self.now).map result }
+    {
+        self.versions.len()
+    }
+}

@@ -1,0 +1,3 @@
+pub mod Stamps
+pub mod Vectors
+pub mod Joins

@@ -1,0 +1,14 @@
+//! Lamport's stamps, and vectors of the clocks that a site knows.
+//!
+//! A stamp names an operation: when it was issued, by its site's clock, and where. A vector says for each site up to which
+//! time its operations are known. Nothing here takes memory, and nothing knows of keys or values. It stands on `geo_lattice`,
+//! in whose sense vectors are a lattice.
+#![tactic(auto)]
+
+pub mod stamp;
+#[cfg(test)]
+mod tests;
+pub mod vector;
+
+pub use stamp::{LAST_TIME, MOST_SITES, Stamp};
+pub use vector::Vector;

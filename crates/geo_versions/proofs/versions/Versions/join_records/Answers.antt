@@ -1,0 +1,31 @@
+use Rattle.std.proofs.Common.{rules, ◌≡◌, ◌∙◌, ap}
+use Rattle.geo_lattice.specs.Maps.{get}
+use Rattle.geo_versions.specs.Keys.{same_key}
+use Rattle.geo_versions.specs.Operations.{above_both, record_joined}
+use Rattle.geo_versions.specs.Records.{record_at, listed_at}
+use Rattle.geo_versions.proofs.Cut.{changed_above, listed_above, cut_normal, joined_at_floor, joined_at_rise}
+use Rattle.geo_versions.proofs.versions.Versions.join_records.Goals as goal
+
+pub returns-then-ne-clause-records : goal.returns-then-ne-clause-records
+returns-then-ne-clause-records c = λ q.
+    joined_at_rise c.later.result (record_at c.args.self.now.records q) (record_at c.join_list.new.self q) (record_at c.change_all.new.self q) (listed_at c.args.records.items q) _
+    (listed_above c.later.result c.args.records.items q) (c.join_list.ensures q)
+    (c.change_all.ensures q ∙ changed_above c.later.result (get same_key c.join_list.new.self q))
+
+pub returns-else-ne-clause-records : goal.returns-else-ne-clause-records
+returns-else-ne-clause-records c = λ q.
+    let v = c.args.self.now in
+    let same : c.later.result ≡ v.floor = search rules in
+    joined_at_floor v.floor (record_at v.records q) (record_at c.join_list.new.self q) (listed_at c.args.records.items q) _ (v.above q)
+    (listed_above c.later.result c.args.records.items q ∙ ap (λ f. above_both f (listed_at c.args.records.items q)) same) (c.join_list.ensures q)
+
+pub invariant_of-self-else-ne : goal.invariant_of-self-else-ne
+invariant_of-self-else-ne c =
+    let v = c.args.self.now in
+    let same : c.later.result ≡ v.floor = search rules in
+    record {
+      above = λ q.
+          let joined = joined_at_floor v.floor (record_at v.records q) (record_at c.join_list.new.self q) (listed_at c.args.records.items q) _ (v.above q)
+          (listed_above c.later.result c.args.records.items q ∙ ap (λ f. above_both f (listed_at c.args.records.items q)) same) (c.join_list.ensures q) in
+          cut_normal v.floor (record_joined (record_at v.records q) (listed_at c.args.records.items q)) (record_at c.join_list.new.self q) joined;
+    }

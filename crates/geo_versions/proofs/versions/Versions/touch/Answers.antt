@@ -1,0 +1,13 @@
+use Rattle.std.proofs.Common.{◌≡◌, ◌∙◌, sym}
+use Rattle.geo_versions.specs.Operations.{Record, above_both}
+use Rattle.geo_versions.specs.Records.{record_at}
+use Rattle.geo_versions.proofs.Cut.{one_joined_normal, touch_above}
+use Rattle.geo_versions.proofs.versions.Versions.touch.Goals as goal
+
+pub invariant_of-self : goal.invariant_of-self
+invariant_of-self c =
+    let v = c.args.self.now in
+    let x : Record = (c.none-left.result.register, c.of-expiry.result.register) in
+    let above : above_both v.floor x ≡ x =
+    (λ i. above_both v.floor (c.none-left.ensures i, c.of-expiry.ensures i)) ∙ touch_above v.floor c.args.stamp c.args.expiry (sym c.if-counts.ensures) ∙ (λ i. (sym c.none-left.ensures i, sym c.of-expiry.ensures i)) in
+    record { above = one_joined_normal v.floor (record_at v.records) (record_at c.join_at.new.self) c.args.key.now x v.above above c.join_at.ensures }

@@ -1,0 +1,41 @@
+use Rattle.std.proofs.Common.{rules, ◌≡◌, ◌∙◌, sym, ap, List, ℕ}
+use Rattle.geo_lattice.specs.Maps.{get}
+use Rattle.geo_versions.specs.Keys.{same_key}
+use Rattle.geo_versions.specs.Normal.{same_normal}
+use Rattle.geo_versions.specs.Operations.{above_both, record_joined}
+use Rattle.geo_versions.specs.Records.{record_at}
+use Rattle.geo_versions.proofs.Cut.{changed_above, cut_normal, joined_at_floor, joined_at_rise}
+use Rattle.geo_versions.proofs.versions.VersionsLattice.join.Goals as goal
+
+pub returns-then-ne : goal.returns-then-ne
+returns-then-ne c =
+    let v = c.args.self.now in
+    let w = c.args.other in
+    let joined = λ (q : List ℕ).
+    joined_at_rise c.later.result (record_at v.records q) (record_at c.join_changed.new.self q) (record_at c.change_all.new.self q) (record_at w.records q) _
+    (changed_above c.later.result (get same_key w.records q)) (c.join_changed.ensures q)
+    (c.change_all.ensures q ∙ changed_above c.later.result (get same_key c.join_changed.new.self q)) in
+    same_normal _ _ ((λ i. (c.later.result, λ q. joined q i)) ∙ (λ i. (c.later.ensures i, λ q. above_both (c.later.ensures i) (record_joined (record_at v.records q) (record_at w.records q)))))
+
+pub returns-else-ne : goal.returns-else-ne
+returns-else-ne c =
+    let v = c.args.self.now in
+    let w = c.args.other in
+    let same : c.later.result ≡ v.floor = search rules in
+    let floor = sym same ∙ c.later.ensures in
+    let joined = λ (q : List ℕ).
+    joined_at_floor v.floor (record_at v.records q) (record_at c.join_changed.new.self q) (record_at w.records q) _ (v.above q)
+    (changed_above c.later.result (get same_key w.records q) ∙ ap (λ f. above_both f (record_at w.records q)) same) (c.join_changed.ensures q) in
+    same_normal _ _ ((λ i. (v.floor, λ q. joined q i)) ∙ (λ i. (floor i, λ q. above_both (floor i) (record_joined (record_at v.records q) (record_at w.records q)))))
+
+pub invariant_of-self-else-ne : goal.invariant_of-self-else-ne
+invariant_of-self-else-ne c =
+    let v = c.args.self.now in
+    let w = c.args.other in
+    let same : c.later.result ≡ v.floor = search rules in
+    record {
+      above = λ q.
+          let joined = joined_at_floor v.floor (record_at v.records q) (record_at c.join_changed.new.self q) (record_at w.records q) _ (v.above q)
+          (changed_above c.later.result (get same_key w.records q) ∙ ap (λ f. above_both f (record_at w.records q)) same) (c.join_changed.ensures q) in
+          cut_normal v.floor (record_joined (record_at v.records q) (record_at w.records q)) (record_at c.join_changed.new.self q) joined;
+    }

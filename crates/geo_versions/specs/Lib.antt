@@ -1,0 +1,7 @@
+pub mod Keys
+pub mod Bodies
+pub mod Operations
+pub mod Above
+pub mod Normal
+pub mod Records
+pub mod Maps

@@ -1,0 +1,58 @@
+-- What the code's records mean, in the words of operations.
+use Rattle.std.specs.Prelude.{◌≡◌, ℕ, Bool, false, cond, not, ◌||◌, nat_le, List, [], ◌∷◌, Option, None, Some, is_some}
+use Rattle.std.specs.Ordering.{nat_cmp}
+use Rattle.std.specs.Cmp.Lexicographic.{slice_cmp}
+use Rattle.std.specs.declared.cmp.Ordering.TheVariants.{Less}
+use Rattle.geo_lattice.specs.Maps.{get, meaning_or, all_joined}
+use Rattle.geo_lattice.specs.declared.map_of.MapOf.{MapOf}
+use Rattle.geo_lattice.specs.declared.lww.Lww.{Lww}
+use Rattle.geo_lattice.specs.declared.pair.Pair.{Pair}
+use Rattle.geo_stamp.specs.Stamps.{Moment}
+use Rattle.geo_stamp.specs.Vectors.{entry_of}
+use Rattle.geo_versions.specs.Keys.{same_key}
+use Rattle.geo_versions.specs.Operations.{Record, Register, record_joined, above}
+use Rattle.geo_versions.specs.declared.body.Body.{Body}
+
+abbrev pub Rec : Type 0
+Rec = Pair (Lww Moment Body) (Lww Moment ℕ)
+
+-- the two registers of a record
+abbrev pub rec_means : Rec → Record
+rec_means r = (r.left.register, r.right.register)
+
+-- what a map has at a key
+abbrev pub record_at : MapOf (List ℕ) Rec → List ℕ → Record
+record_at m key = meaning_or (None, None) rec_means (get same_key m key)
+
+-- whether a record has a register
+abbrev pub has_register : Record → Bool
+has_register r = is_some r.0 || is_some r.1
+
+-- what listed records have at a key, joined
+abbrev pub listed_at : List (List ℕ × Rec) → List ℕ → Record
+listed_at = all_joined (None, None) rec_means record_joined same_key
+
+-- the record, without the registers that are not above the floor
+abbrev pub rec_above : Option Moment → Rec → Rec
+rec_above floor r = record { left = record { register = above floor r.left.register }; right = record { register = above floor r.right.register } }
+
+-- a vector does not know a register
+abbrev pub is_unknown : {A : Type 0} → List ℕ → Register A → Bool
+is_unknown base None = false
+is_unknown base (Some r) = not (nat_le r.0.time (entry_of base r.0.site))
+
+-- the record, where the vector does not know one of its registers
+abbrev pub since : List ℕ → Record → Record
+since base r = cond (is_unknown base r.0 || is_unknown base r.1) r (None, None)
+
+abbrev pub rec_since : List ℕ → Rec → Option Rec
+rec_since base r = cond (is_unknown base r.left.register || is_unknown base r.right.register) (Some r) None
+
+-- each key is greater than the one before it, byte by byte
+abbrev pub Above : {V : Type 0} → List ℕ → List (List ℕ × V) → Type 0
+Above key [] = Unit {0}
+Above key (e ∷ es) = slice_cmp nat_cmp key e.0 ≡ Less
+
+abbrev pub Rising : {V : Type 0} → List (List ℕ × V) → Type 0
+Rising [] = Unit {0}
+Rising (e ∷ es) = Above e.0 es × Rising es

@@ -1,0 +1,70 @@
+//! What a flush leaves: the operations above its stamp.
+ghost use Rattle.std.specs.Prelude.{◌≡◌, Option};
+ghost use Rattle.geo_versions.specs.Operations.{above, is_above, floor_joined};
+ghost use Rattle.geo_versions.specs.Records.{rec_above};
+
+use crate::body::Rec;
+use crate::shown::copied;
+use geo_lattice::{Change, Exact, Lww, Show};
+use geo_stamp::Stamp;
+
+/// Whether an operation with this stamp counts: where it is above the floor.
+pub(crate) fn counts(floor: Option<Stamp>, stamp: Stamp) -> bool
+    ensures { result ≡ is_above floor stamp }
+{
+    match floor {
+        None => true,
+        Some(floor) => floor < stamp,
+    }
+}
+
+/// The greater of two floors.
+pub(crate) fn later(mine: Option<Stamp>, theirs: Option<Stamp>) -> Option<Stamp>
+    ensures { result ≡ floor_joined mine theirs }
+{
+    match (mine, theirs) {
+        (None, theirs) => theirs,
+        (Some(mine), None) => Some(mine),
+        (Some(mine), Some(theirs)) => Some(if mine < theirs { theirs } else { mine }),
+    }
+}
+
+fn drop_below<V: Exact + Drop>(floor: Option<Stamp>, register: &mut Lww<Stamp, V>)
+    ensures { register.new.register ≡ above floor register.old.register }
+{
+    if let Some((stamp, _)) = register.get() {
+        if !counts(floor, *stamp) {
+            *register = Lww::none();
+        }
+    }
+}
+
+/// Drops the registers that are not above the floor.
+#[derive(Clone, Copy)]
+pub(crate) struct AboveFloor {
+    pub floor: Option<Stamp>,
+}
+
+impl Change<Rec> for AboveFloor {
+    ghost changed = { λ c r. rec_above c.floor r };
+
+    fn change(&self, value: &mut Rec) {
+        drop_below(self.floor, &mut value.left);
+        drop_below(self.floor, &mut value.right);
+    }
+}
+
+impl Show<Rec> for AboveFloor {
+    type Item = Rec;
+
+    ghost use Rattle.std.specs.Prelude.{Some};
+    ghost use Rattle.geo_versions.specs.Records.{rec_above};
+
+    ghost shown = { λ c r. Some (rec_above c.floor r) };
+
+    fn show(&self, value: &Rec) -> Option<Rec> {
+        let mut record = copied(value);
+        self.change(&mut record);
+        Some(record)
+    }
+}

@@ -1,0 +1,62 @@
+//! What is listed of records.
+ghost use Rattle.std.specs.Prelude.{◌≡◌, Bool};
+ghost use Rattle.geo_versions.specs.Operations.{Register, version_in};
+ghost use Rattle.geo_versions.specs.Records.{rec_means, rec_since, is_unknown};
+
+use crate::body::Rec;
+use crate::version::{Version, shown_version};
+use geo_lattice::{Exact, Lww, Pair, Show};
+use geo_stamp::{Stamp, Vector};
+
+/// An equal record. It takes no memory.
+pub(crate) fn copied(rec: &Rec) -> Rec
+    ensures { result ≡ rec.now }
+{
+    Pair {
+        left: rec.left.copied(),
+        right: rec.right.copied(),
+    }
+}
+
+/// The records of which a vector does not know some register.
+#[derive(Drop)]
+pub(crate) struct UnknownTo {
+    pub base: Vector,
+}
+
+fn is_news<V: Exact + Drop>(base: &Vector, register: &Lww<Stamp, V>) -> bool
+    ensures { result ≡ is_unknown base.now register.now.register }
+{
+    match register.get() {
+        None => false,
+        Some((stamp, _)) => !base.knows(stamp),
+    }
+}
+
+impl Show<Rec> for UnknownTo {
+    type Item = Rec;
+
+    ghost shown = { λ u r. rec_since u.base r };
+
+    fn show(&self, value: &Rec) -> Option<Rec> {
+        if is_news(&self.base, &value.left) || is_news(&self.base, &value.right) {
+            Some(copied(value))
+        } else {
+            None
+        }
+    }
+}
+
+/// The versions that records show.
+#[derive(Clone, Copy)]
+pub(crate) struct Shown;
+
+impl Show<Rec> for Shown {
+    type Item = Version;
+
+    ghost shown = { λ _ r. version_in (rec_means r) };
+
+    fn show(&self, value: &Rec) -> Option<Version> {
+        shown_version(value)
+    }
+}

@@ -1,0 +1,237 @@
+//! The floor, and what is kept of each key.
+ghost use Rattle.geo_versions.specs.Records.{record_at};
+ghost use Rattle.geo_versions.specs.Normal.{IsNormal, normal_prop};
+
+use crate::body::{Body, Rec};
+use crate::floor::{AboveFloor, counts, later};
+use crate::key::Key;
+use crate::shown::{Shown, UnknownTo};
+use crate::version::{Version, shown_version};
+use geo_lattice::{Lattice, Lww, MapOf, Pair};
+use geo_stamp::{Stamp, Vector};
+use std::alloc::{AllocError, Global};
+use std::hash::RandomState;
+
+/// What a site knows of its keys: the floor, and of each key the registers above it. A key without a register has no record.
+#[derive(Drop)]
+pub struct Versions {
+    floor: Option<Stamp>,
+    records: MapOf<Key, Rec>,
+    ghost above: { IsNormal (floor, record_at records) } by { normal_prop (floor, record_at records) },
+}
+
+impl Versions {
+    ghost use Rattle.std.specs.Prelude.{◌≡◌, ◌↔◌, List, ℕ, None, Some, IsSome, OnOk, OnErr, IfOk, cond, option_copied, length, Bool};
+    ghost use Rattle.std.specs.List.{All, IsDistinct, list_any};
+    ghost use Rattle.std.specs.Map.{lookup};
+    ghost use Rattle.geo_lattice.specs.Maps.{meaning_or};
+    ghost use Rattle.geo_versions.specs.Keys.{same_key};
+    ghost use Rattle.geo_versions.specs.Operations.{above_both, record_joined, floor_joined, version_in};
+    ghost use Rattle.geo_versions.specs.Maps.{floor_in, record_in, keys_in, count_in, has_register, HasRoomFor, rec_means, listed_at, since, Rising};
+
+    /// Nothing known. It takes no memory.
+    pub fn new(alloc: Global, hasher: RandomState) -> Versions
+        ensures floor { floor_in result ≡ None }
+        ensures records { (q : List ℕ) → record_in result q ≡ (None, None) }
+    {
+        Versions {
+            floor: None,
+            records: MapOf::with_hasher(alloc, hasher),
+        }
+    }
+
+    /// The greatest stamp of a known flush.
+    pub fn floor(&self) -> Option<Stamp>
+        ensures { result ≡ floor_in self.now }
+    {
+        self.floor
+    }
+
+    /// What is kept of a key.
+    pub fn record(&self, key: &Key) -> Option<&Rec>
+        ensures value { meaning_or (None, None) rec_means (option_copied result) ≡ record_in self.now key.now }
+        ensures there { IsSome result ↔ (record_in self.now key.now ≡ (None, None) → ⊥) }
+    {
+        self.records.get(key)
+    }
+
+    /// How many keys have a record.
+    pub fn len(&self) -> usize
+        ensures len { result ≡ count_in self.now }
+        ensures apart { IsDistinct same_key (keys_in self.now) }
+        ensures kept { (q : List ℕ) → list_any (same_key q) (keys_in self.now) ≡ has_register (record_in self.now q) }
+    {
+        self.records.len()
+    }
+
+    /// The version of a key: None where the greatest operation on it is no write, or nothing is known of it.
+    pub fn version_of(&self, key: &Key) -> Option<Version>
+        ensures { result ≡ version_in (record_in self.now key.now) }
+    {
+        match self.records.get(key) {
+            None => None,
+            Some(record) => shown_version(record),
+        }
+    }
+
+    /// Joins a write or a delete: a delete has the body Gone and the expiry 0. Where a growth was refused, nothing is joined.
+    pub fn write(
+        &mut self,
+        alloc: Global,
+        key: &Key,
+        stamp: Stamp,
+        body: Body,
+        expiry: u64,
+    ) -> Result<(), AllocError>
+        ensures ok { OnOk result ((q : List ℕ) → record_in self.new q ≡ cond (same_key q key.now) (above_both (floor_in self.old) (record_joined (record_in self.old q) (Some (stamp, body), Some (stamp, expiry)))) (record_in self.old q)) }
+        ensures err { OnErr result ((q : List ℕ) → record_in self.new q ≡ record_in self.old q) }
+        ensures floor { floor_in self.new ≡ floor_in self.old }
+    {
+        if !counts(self.floor, stamp) {
+            return Ok(());
+        }
+        let record = Pair {
+            left: Lww::of(stamp, body),
+            right: Lww::of(stamp, expiry),
+        };
+        self.records.put(alloc, key, record)?;
+        Ok(())
+    }
+
+    /// Joins a touch of a key that has a record. It takes no memory.
+    pub fn touch(&mut self, key: &Key, stamp: Stamp, expiry: u64)
+        requires { record_in self.old key.now ≡ (None, None) → ⊥ }
+        ensures records { (q : List ℕ) → record_in self.new q ≡ cond (same_key q key.now) (above_both (floor_in self.old) (record_joined (record_in self.old q) (None, Some (stamp, expiry)))) (record_in self.old q) }
+        ensures floor { floor_in self.new ≡ floor_in self.old }
+    {
+        if counts(self.floor, stamp) {
+            let expiry = Lww::of(stamp, expiry);
+            let left = Lww::none();
+            self.records.join_at(
+                key,
+                Pair {
+                    left,
+                    right: expiry,
+                },
+            );
+        }
+    }
+
+    /// Joins a flush: what is not above it is dropped. It takes no memory.
+    pub fn raise_floor(&mut self, stamp: Stamp)
+        ensures floor { floor_in self.new ≡ floor_joined (floor_in self.old) (Some stamp) }
+        ensures records { (q : List ℕ) → record_in self.new q ≡ above_both (floor_in self.new) (record_in self.old q) }
+    {
+        let above = AboveFloor {
+            floor: later(self.floor, Some(stamp)),
+        };
+        if self.floor != above.floor {
+            self.floor = above.floor;
+            self.records.change_all(&above);
+        }
+    }
+
+    /// Makes room to join these records, of which each key that is not there wants a place. It changes no record.
+    pub fn ready_records(
+        &mut self,
+        _alloc: Global,
+        records: &[(Key, Rec)],
+    ) -> Result<(), AllocError>
+        ensures records { (q : List ℕ) → record_in self.new q ≡ record_in self.old q }
+        ensures floor { floor_in self.new ≡ floor_in self.old }
+        ensures room { OnOk result (HasRoomFor self.new records.now) }
+    {
+        self.records.ready_list(records)
+    }
+
+    /// Joins a floor and records, for which there is room. It takes no memory, and looks at the other records only where the
+    /// floor rises.
+    pub fn join_records(&mut self, floor: Option<Stamp>, records: Vec<(Key, Rec)>)
+        requires { HasRoomFor self.old records.items }
+        ensures floor { floor_in self.new ≡ floor_joined (floor_in self.old) floor }
+        ensures records { (q : List ℕ) → record_in self.new q ≡ above_both (floor_in self.new) (record_joined (record_in self.old q) (listed_at records.items q)) }
+    {
+        let above = AboveFloor {
+            floor: later(self.floor, floor),
+        };
+        self.records.join_list(records, &above);
+        if self.floor != above.floor {
+            self.floor = above.floor;
+            self.records.change_all(&above);
+        }
+    }
+
+    /// Copies of the records of which the vector does not know some register, by rising key (deltas: Almeida, Shoker and
+    /// Baquero 2018).
+    pub fn since(&self, alloc: Global, base: &Vector) -> Result<Vec<(Key, Rec)>, AllocError>
+        ensures rising { IfOk result (λ all. Rising all.items) }
+        ensures records { IfOk result (λ all. (q : List ℕ) → listed_at all.items q ≡ since base.now (record_in self.now q)) }
+        ensures filled { IfOk result (λ all. All (λ e. rec_means e.1 ≡ (None, None) → ⊥) all.items) }
+    {
+        let unknown = UnknownTo {
+            base: base.copied(),
+        };
+        let all = self.records.listed(alloc, &unknown)?;
+        Ok(all)
+    }
+
+    /// The versions, by rising key.
+    pub fn all(&self, alloc: Global) -> Result<Vec<(Key, Version)>, AllocError>
+        ensures rising { IfOk result (λ all. Rising all.items) }
+        ensures versions { IfOk result (λ all. (q : List ℕ) → lookup (same_key q) all.items ≡ version_in (record_in self.now q)) }
+    {
+        let all = self.records.listed(alloc, &Shown)?;
+        Ok(all)
+    }
+}
+
+impl Lattice for Versions {
+    ghost use Rattle.geo_lattice.specs.Maps.{missing};
+    ghost use Rattle.geo_versions.specs.Keys.{same_key};
+    ghost use Rattle.geo_versions.specs.Maps.{state_in};
+    ghost use Rattle.geo_versions.specs.Normal.{Normal, normal_joined, nothing_known, normal_associative, normal_commutative, normal_idempotent, nothing_joined};
+
+    ghost Meaning = { Normal };
+
+    ghost meaning = { λ v. (state_in v, v.above) };
+
+    ghost joined = { normal_joined };
+
+    ghost least = { nothing_known };
+
+    ghost HasRoom = { λ v w. ⟦<MapOf<Key, Rec> as Lattice>⟧.HasRoom v.records w.records };
+
+    ghost associative = { normal_associative };
+
+    ghost commutative = { normal_commutative };
+
+    ghost idempotent = { normal_idempotent };
+
+    ghost least_joined = { nothing_joined };
+
+    fn ready(&mut self, alloc: Global, other: &Self) -> Result<(), AllocError> {
+        self.records.ready(alloc, &other.records)
+    }
+
+    fn has_room(&self, other: &Self) -> bool {
+        self.records.has_room(&other.records)
+    }
+
+    fn join(&mut self, other: Self) {
+        let Versions { floor, records } = other;
+        let above = AboveFloor {
+            floor: later(self.floor, floor),
+        };
+        self.records.join_changed(records, &above);
+        if self.floor != above.floor {
+            self.floor = above.floor;
+            self.records.change_all(&above);
+        }
+    }
+
+    fn covers(&self, other: &Self) -> bool {
+        let above = AboveFloor { floor: self.floor };
+        later(self.floor, other.floor) == self.floor
+            && self.records.covers_shown(&other.records, &above)
+    }
+}

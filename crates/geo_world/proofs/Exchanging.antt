@@ -1,0 +1,258 @@
+-- Parcels that are sent and taken.
+use Rattle.std.proofs.Common.{◌≡◌, ◌≢◌, ℕ, zero, suc, ◌+◌, ◌≤◌, ◌<◌, max, Bool, true, false, cond, ◌==◌, ◌&&◌, ◌||◌, not, nat_le, List, [], ◌∷◌, ◌++◌, length, Option, None, Some, refl, sym, ap, ◌∙◌, subst, subst₂, inl, inr, arith, true≢false, slice_get, slice_set, slice_index, slice_index_or, get_or}
+use Rattle.std.proofs.lemmas.Bool.{cases_eq}
+use Rattle.std.proofs.lemmas.Bool.Decides.{eqb_tells, nat_tests}
+use Rattle.std.proofs.lemmas.Option.{slice_get_within}
+use Rattle.std.proofs.lemmas.List.{get_or_append_left, length-append}
+use Rattle.std.proofs.Math.Seq.{get_or-append_seam}
+use Rattle.std.proofs.lemmas.Cmp.{nat_list_cmp_total, tied_itself}
+use Rattle.std.specs.declared.cmp.Ordering.TheVariants.{Less, Equal}
+use Rattle.std.specs.Ordering.{nat_cmp}
+use Rattle.std.specs.Cmp.Lexicographic.{slice_cmp, same_text}
+use Rattle.geo_stamp.specs.Stamps.{Moment}
+use Rattle.geo_stamp.specs.Vectors.{zeros, entry_of, vector_joined}
+use Rattle.geo_versions.specs.Keys.{same_key}
+use Rattle.geo_versions.specs.Operations.{Operation, Register, Record, winner, latest_expiry, record_joined}
+use Rattle.geo_versions.specs.Maps.{Rec, rec_means, listed_at, is_unknown, since, Above, Rising}
+use Rattle.geo_versions.specs.declared.body.Body.{Body}
+use Rattle.geo_delta.specs.declared.parcel.Parcel.{Parcel}
+use Rattle.geo_site.specs.declared.site.Site.{Site}
+use Rattle.geo_site.specs.declared.event.Event.TheVariants.{Take}
+use Rattle.geo_site.specs.declared.event.Trace.TheVariants.{Taken, TakeRefused}
+use Rattle.geo_site.specs.declared.refusal.SendError.{SendError}
+use Rattle.geo_site.specs.declared.refusal.SendError.TheVariants.{NoSuchSite}
+use Rattle.geo_site.specs.declared.refusal.SendError.TheVariants as sends
+use Rattle.geo_site.specs.declared.refusal.TakeError.{TakeError}
+use Rattle.geo_site.specs.declared.refusal.TakeError.TheVariants.{NotForMe, UnknownSite, Gap}
+use Rattle.geo_site.specs.declared.refusal.TakeError.TheVariants as takes
+use Rattle.geo_site.specs.Entries.{Held}
+use Rattle.geo_site.specs.Machine.{SiteState, Same, take, knows_record, knows_floor}
+use Rattle.geo_site.specs.Sites.{state_in, delta_of, knows_all, is_sound, Takes, RefusesFor, IsSent, SendRefuses}
+use Rattle.geo_site.specs.Schedule.{Known, settles, still_held, carried, addressee, happens, Lawful, TakeRefusedFor, SendRefusedFor}
+use Rattle.geo_site.specs.Agreement.{Kept, Holds, NoTime, Tells, StateOf}
+use Rattle.std.specs.Cmp.Lexicographic.{nat_list_eq_equiv}
+use Rattle.geo_site.proofs.Written.{joined_none}
+use Rattle.geo_site.proofs.Sound.{here, there, held_here, held_there}
+use Rattle.geo_site.proofs.Steps.{state_takes, state_same, zeros_length, told_positive_body, told_positive_expiry}
+use Rattle.geo_world.specs.Agreement.{Stands, Carries, Agrees}
+use Rattle.geo_world.proofs.Worlds.{some_same, some_none, get_appended}
+use Rattle.geo_world.proofs.Changing.{agrees_changed}
+
+-- ---- lists of records by rising key
+less_other : (a b : List ℕ) → slice_cmp nat_cmp a b ≡ Less → same_key b a ≡ false
+less_other a b h = by (same_key b a) refl
+  where
+    by : (t : Bool) → same_key b a ≡ t → t ≡ false
+    by false e = refl
+    by true e =
+        let same : b ≡ a = same_text b a (sym e) in
+        let less : slice_cmp nat_cmp a a ≡ Less = ap (slice_cmp nat_cmp a) (sym same) ∙ h in
+        absurd (apart (sym less ∙ tied_itself nat_list_cmp_total a))
+      where
+        apart : Less ≡ Equal → ⊥
+        apart p = cc
+
+-- a key below a rising list is below each of its keys
+below_all : {V : Type 0} (key : List ℕ) (es : List (List ℕ × V)) → Above key es → Rising es → (j : ℕ) (e : List ℕ × V) → slice_get es j ≡ Some e → slice_cmp nat_cmp key e.0 ≡ Less
+below_all key [] above rising j e at = absurd (some_none (sym at))
+below_all {V} key (x ∷ xs) above rising zero e at = subst (λ (e : List ℕ × V). slice_cmp nat_cmp key e.0 ≡ Less) (some_same at) above
+below_all key (x ∷ xs) above rising (suc j) e at = nat_list_cmp_total.trans key x.0 e.0 above (below_all x.0 xs rising.0 rising.1 j e at)
+
+not_listed : (key : List ℕ) (es : List (List ℕ × Rec)) → ((j : ℕ) (e : List ℕ × Rec) → slice_get es j ≡ Some e → same_key key e.0 ≡ false) → listed_at es key ≡ (None, None)
+not_listed key [] h = refl
+not_listed key (x ∷ xs) h = ap (λ t. cond {A = Record} t (record_joined (rec_means x.1) (listed_at xs key)) (listed_at xs key)) (h 0 x refl) ∙ not_listed key xs (λ j e at. h (suc j) e at)
+
+not_below : (key : List ℕ) (es : List (List ℕ × Rec)) → Above key es → Rising es → listed_at es key ≡ (None, None)
+not_below key es above rising = not_listed key es (λ j e at. other key e.0 (below_all key es above rising j e at))
+  where
+    other : (a b : List ℕ) → slice_cmp nat_cmp a b ≡ Less → same_key a b ≡ false
+    other a b h = by (same_key a b) refl
+      where
+        by : (t : Bool) → same_key a b ≡ t → t ≡ false
+        by false e = refl
+        by true e =
+            let same : a ≡ b = same_text a b (sym e) in
+            let less : slice_cmp nat_cmp a a ≡ Less = ap (slice_cmp nat_cmp a) same ∙ h in
+            absurd (apart (sym less ∙ tied_itself nat_list_cmp_total a))
+          where
+            apart : Less ≡ Equal → ⊥
+            apart p = cc
+
+-- so each record of a rising list is what is listed at its key
+each_listed : (es : List (List ℕ × Rec)) → Rising es → (j : ℕ) (e : List ℕ × Rec) → slice_get es j ≡ Some e → rec_means e.1 ≡ listed_at es e.0
+each_listed [] rising j e at = absurd (some_none (sym at))
+each_listed (x ∷ xs) rising zero e at =
+    subst (λ (e : List ℕ × Rec). rec_means e.1 ≡ listed_at (x ∷ xs) e.0) (some_same at)
+    (sym (joined_none (rec_means x.1)) ∙ (λ i. record_joined (rec_means x.1) (sym (not_below x.0 xs rising.0 rising.1) i))
+    ∙ sym (ap (λ t. cond {A = Record} t (record_joined (rec_means x.1) (listed_at xs x.0)) (listed_at xs x.0)) (same_itself x.0)))
+  where
+    same_itself : (a : List ℕ) → same_key a a ≡ true
+    same_itself a = nat_list_eq_equiv.refl a
+each_listed (x ∷ xs) rising (suc j) e at =
+    each_listed xs rising.1 j e at
+    ∙ sym (ap (λ t. cond {A = Record} t (record_joined (rec_means x.1) (listed_at xs e.0)) (listed_at xs e.0)) (less_other x.0 e.0 (below_all x.0 xs rising.0 rising.1 j e at)))
+
+each_known : (v : List ℕ) (es : List (List ℕ × Rec)) → ((j : ℕ) (e : List ℕ × Rec) → slice_get es j ≡ Some e → knows_record v (rec_means e.1) ≡ true) → knows_all v es ≡ true
+each_known v [] h = refl
+each_known v (x ∷ xs) h = (λ i. h 0 x refl i && each_known v xs (λ j e at. h (suc j) e at) i)
+
+pub rising_known : (v : List ℕ) (es : List (List ℕ × Rec)) → Rising es → ((q : List ℕ) → knows_record v (listed_at es q) ≡ true) → knows_all v es ≡ true
+rising_known v es rising h = each_known v es (λ j e at. ap (knows_record v) (each_listed es rising j e at) ∙ h e.0)
+
+since_known : (v base : List ℕ) (r : Record) → knows_record v r ≡ true → knows_record v (since base r) ≡ true
+since_known v base r h = by (is_unknown base r.0 || is_unknown base r.1)
+  where
+    by : (t : Bool) → knows_record v (cond {A = Record} t r (None, None)) ≡ true
+    by true = h
+    by false = refl
+
+-- ---- of what is sent, nothing is left out
+index_zeros : (n k : ℕ) → slice_index (zeros n) k ≡ 0
+index_zeros zero k = refl
+index_zeros (suc n) zero = refl
+index_zeros (suc n) (suc k) = index_zeros n k
+
+entry_zeros : (n j : ℕ) → entry_of (zeros n) j ≡ 0
+entry_zeros n zero = refl
+entry_zeros n (suc k) = index_zeros n k
+
+unknown_positive : {A : Type 0} (n : ℕ) (x : Moment × A) → 0 < x.0.time → is_unknown (zeros n) (Some x) ≡ true
+unknown_positive n x lt =
+    let e = entry_zeros n x.0.site in
+    let h : nat_le x.0.time (entry_of (zeros n) x.0.site) ≡ false = grind (arith, nat_tests) in
+    ap not h
+
+since_all : (n : ℕ) (r : Record) → ((y : Moment × Body) → r.0 ≡ Some y → 0 < y.0.time) → ((y : Moment × ℕ) → r.1 ≡ Some y → 0 < y.0.time) → since (zeros n) r ≡ r
+since_all n (None, None) p q = refl
+since_all n (Some x, e) p q = ap (λ t. cond {A = Record} (t || is_unknown (zeros n) e) (Some x, e) (None, None)) (unknown_positive n x (p x refl))
+since_all n (None, Some y) p q = ap (λ t. cond {A = Record} t (None, Some y) (None, None)) (unknown_positive n y (q y refl))
+
+kept_positive : {A : Type 0} (m r : Register A) → Kept NoTime m r → ((y : Moment × A) → r ≡ Some y → 0 < y.0.time) → (y : Moment × A) → m ≡ Some y → 0 < y.0.time
+kept_positive m r (inl e) h y is = h y (sym e ∙ is)
+kept_positive m r (inr e) h y is = absurd (some_none (sym is ∙ e.0))
+
+module _ (n s : ℕ) (st : SiteState) (ops : List Operation) (held : Held) (ok : StateOf n s st ops held) where
+  sends_all : (key : List ℕ) → since (zeros n) (st.map key) ≡ st.map key
+  sends_all key = since_all n (st.map key)
+      (kept_positive (st.map key).0 (winner ops key) (ok.holds key).body (told_positive_body s st.vector st.floor ops ok.tells key))
+      (kept_positive (st.map key).1 (latest_expiry ops key) (ok.holds key).expiry (told_positive_expiry s st.vector st.floor ops ok.tells key))
+
+-- ---- a send
+pub carries_sent : (n s to : ℕ) (site : Site) (parcel : Parcel) (ops : List Operation) (held : Held) → Stands n s site ops held → 1 ≤ s → s ≤ n → to ≢ site.number → IsSent site to parcel → Carries n parcel (to, ops)
+carries_sent n s to site parcel ops held st lo hi ne sent =
+    let many : length site.vector ≡ n = st.state.many in
+    let from : parcel.from ≡ s = sent.sender ∙ st.own in
+    let known : (q : List ℕ) → knows_record parcel.upto (listed_at parcel.records q) ≡ true =
+    λ q. (λ i. knows_record (sent.upto i) (sent.records q i)) ∙ since_known site.vector (zeros (length site.vector)) ((state_in site).map q) (site.covered q) in
+    record {
+      addressee = sent.addressee;
+      other = λ e. ne (sym (sym sent.sender ∙ e ∙ sent.addressee));
+      from_first = subst (λ k. 1 ≤ k) (sym from) lo;
+      from_last = subst (λ k. k ≤ n) (sym from) hi;
+      base = sent.base ∙ ap zeros many;
+      floor_known = (λ i. knows_floor (sent.upto i) (sent.floor i)) ∙ site.floor_known;
+      records_known = rising_known parcel.upto parcel.records sent.rising known;
+      delta = record {
+        many = ap length sent.upto ∙ many;
+        tells = subst (λ k. Tells k parcel.upto parcel.floor ops) (sym from) (subst₂ (λ (v : List ℕ) (f : Option Moment). Tells s v f ops) (sym sent.upto) (sym sent.floor) st.state.tells);
+        holds = λ key. subst (λ (m : Record). Holds NoTime m ops key) (sym (sent.records key ∙ ap (λ m. since (zeros m) ((state_in site).map key)) many ∙ sends_all n s (state_in site) ops held st.state key)) (st.state.holds key);
+      };
+    }
+
+pub agrees_sent : (sites : List Site) (parcels : List Parcel) (w : Known) (s to : ℕ) (parcel : Parcel) → Agrees sites parcels w → Carries (length sites) parcel (to, w.at s) → Agrees sites (parcels ++ parcel ∷ []) (record { at = w.at; held = w.held; sent = w.sent ++ (to, w.at s) ∷ [] })
+agrees_sent sites parcels w s to parcel agrees c =
+    let d : ℕ × List Operation = (0, []) in
+    let x0 : ℕ × List Operation = (to, w.at s) in
+    record {
+      each = agrees.each;
+      as_many = let h = agrees.as_many in let a = length-append w.sent (x0 ∷ []) in let b = length-append parcels (parcel ∷ []) in omega (arith, h, a, b);
+      each_sent = λ p x h. elim (get_appended parcels parcel p x h) [
+        | inl q ↦ let lt = slice_get_within parcels p x q in let m = agrees.as_many in
+            subst (λ (sent : ℕ × List Operation). Carries (length sites) x sent) (sym (get_or_append_left w.sent (x0 ∷ []) d p (omega arith))) (agrees.each_sent p x q)
+        | inr q ↦ let seam = get_or-append_seam w.sent x0 [] d in
+            subst₂ (λ (x : Parcel) (sent : ℕ × List Operation). Carries (length sites) x sent) (sym q.1) (sym (ap (λ p. get_or (w.sent ++ x0 ∷ []) p d) (q.0 ∙ sym agrees.as_many) ∙ seam)) c
+      ];
+    }
+
+-- ---- a take
+joined_zeros : (xs : List ℕ) (n : ℕ) → length xs ≡ n → vector_joined xs (zeros n) ≡ xs
+joined_zeros [] zero e = refl
+joined_zeros [] (suc n) e = absurd (omega arith)
+joined_zeros (x ∷ xs) zero e = refl
+joined_zeros (x ∷ xs) (suc n) e = let h : max x 0 ≡ x = omega arith in λ i. h i ∷ joined_zeros xs n (omega arith) i
+
+all_true : (a b c d e f : Bool) → a ≡ true → b ≡ true → c ≡ true → d ≡ true → e ≡ true → f ≡ true → a && b && c && d && e && f ≡ true
+all_true a b c d e f p q r s t u = λ i. p i && q i && r i && s i && t i && u i
+
+is_equal : (a b : ℕ) → a ≡ b → (a == b) ≡ true
+is_equal a b e = elim (eqb_tells a b) [ inl p ↦ p.0 | inr p ↦ absurd (p.1 e) ]
+
+is_other : (a b : ℕ) → a ≢ b → not (a == b) ≡ true
+is_other a b ne = elim (eqb_tells a b) [ inl p ↦ absurd (ne p.1) | inr p ↦ ap not p.0 ]
+
+at_most : (a b : ℕ) → a ≤ b → nat_le a b ≡ true
+at_most a b h = grind (arith, nat_tests)
+
+sound_parcel : (n number : ℕ) (parcel : Parcel) (sent : ℕ × List Operation) → Carries n parcel sent → parcel.to ≡ number → is_sound n number parcel ≡ true
+sound_parcel n number parcel sent c to =
+    all_true (nat_le 1 parcel.from && nat_le parcel.from n) (not (parcel.from == number)) (length parcel.base == n) (length parcel.upto == n) (knows_floor parcel.upto parcel.floor) (knows_all parcel.upto parcel.records)
+    (λ i. at_most 1 parcel.from c.from_first i && at_most parcel.from n c.from_last i)
+    (is_other parcel.from number (λ e. c.other (e ∙ sym to)))
+    (is_equal (length parcel.base) n (ap length c.base ∙ zeros_length n))
+    (is_equal (length parcel.upto) n c.delta.many)
+    c.floor_known c.records_known
+
+module _ (sites : List Site) (parcels : List Parcel) (w : Known) (agrees : Agrees sites parcels w) (k s p : ℕ) (at_number : s ≡ k + 1) (hi : s ≤ length sites) (old new : Site) (got : slice_get sites k ≡ Some old)
+    (parcel : Parcel) (got_parcel : slice_get parcels p ≡ Some parcel) (number : new.number ≡ old.number) where
+  carries : Carries (length sites) parcel (slice_index_or w.sent p (0, []))
+  carries = agrees.each_sent p parcel got_parcel
+
+  stands : Stands (length sites) s old (w.at s) (w.held s)
+  stands = agrees.each k s old at_number got
+
+  pub taken_lawful : Takes old parcel → Lawful w (Take s p) Taken
+  taken_lawful t = sym (agrees.each_sent p parcel got_parcel).addressee ∙ t.0 ∙ (agrees.each k s old at_number got).own
+
+  pub taken_agrees : Same (take old.number (delta_of parcel) (state_in old)) (state_in new) → Agrees (slice_set sites k new) parcels (happens w (Take s p) Taken)
+  taken_agrees same =
+      let st = agrees.each k s old at_number got in
+      let c = agrees.each_sent p parcel got_parcel in
+      let n = length sites in
+      let ops = w.at s ++ carried w p in
+      let v = settles w s ops (w.held s) in
+      let same2 : Same (take s (delta_of parcel) (state_in old)) (state_in new) = subst (λ m. Same (take m (delta_of parcel) (state_in old)) (state_in new)) st.own same in
+      let many = st.state.many in
+      let takes_it = state_takes n s parcel.from (state_in old) (delta_of parcel) (w.at s) (carried w p) (w.held s) st.state c.delta (record { above = omega arith; below = omega (arith, many) }) in
+      agrees_changed sites parcels w v agrees k s at_number new
+      (record {
+        own = number ∙ st.own;
+        state = subst₂ (λ (ops : List Operation) (h : Held). StateOf n s (state_in new) ops h) (sym (here w s ops (w.held s))) (sym (held_here w s ops (w.held s)))
+            (state_same n s (take s (delta_of parcel) (state_in old)) (state_in new) ops (still_held ops (w.held s)) takes_it same2);
+      })
+      (there w s ops (w.held s)) (held_there w s ops (w.held s)) refl
+
+  pub refused_lawful : (why : TakeError) → RefusesFor old parcel why → Lawful w (Take s p) (TakeRefused why)
+  refused_lawful why r =
+      let st = agrees.each k s old at_number got in
+      let c = agrees.each_sent p parcel got_parcel in
+      by why r st c
+    where
+      by : (why : TakeError) → RefusesFor old parcel why → Stands (length sites) s old (w.at s) (w.held s) → Carries (length sites) parcel (slice_index_or w.sent p (0, [])) → TakeRefusedFor s (addressee w p) why
+      by NotForMe r st c = λ e. r (c.addressee ∙ e ∙ sym st.own)
+      by UnknownSite r st c = absurd (true≢false (sym (sound_parcel (length old.vector) old.number parcel _ (subst (λ n. Carries n parcel (slice_index_or w.sent p (0, []))) (sym st.state.many) c) r.0) ∙ r.1))
+      by Gap r st c = absurd (r.2 (ap (vector_joined old.vector) c.base ∙ joined_zeros old.vector (length sites) st.state.many))
+      by takes.Memory r st c = sym c.addressee ∙ r.0 ∙ st.own
+
+  pub refused_agrees : (why : TakeError) → Same (state_in old) (state_in new) → Agrees (slice_set sites k new) parcels (happens w (Take s p) (TakeRefused why))
+  refused_agrees why same =
+      let st = agrees.each k s old at_number got in
+      agrees_changed sites parcels w w agrees k s at_number new
+      (record { own = number ∙ st.own; state = state_same (length sites) s (state_in old) (state_in new) (w.at s) (w.held s) st.state same })
+      (λ t ne. refl) (λ t ne. refl) refl
+
+pub send_refused : (n s to : ℕ) (site : Site) (ops : List Operation) (held : Held) → Stands n s site ops held → 1 ≤ to → to ≤ n → (why : SendError) → SendRefuses site to why → SendRefusedFor s to why
+send_refused n s to site ops held st lo hi NoSuchSite r = elim (cases_eq to s) [
+  | inl e ↦ e
+  | inr ne ↦ let many = st.state.many in absurd (r (lo, omega (arith, many, hi), λ e. ne (e ∙ st.own)))
+]
+send_refused n s to site ops held st lo hi sends.Memory r = λ e. r.2 (e ∙ sym st.own)

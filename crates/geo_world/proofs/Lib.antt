@@ -1,0 +1,4 @@
+pub mod Worlds
+pub mod Changing
+pub mod Exchanging
+pub mod Running

@@ -1,0 +1,103 @@
+-- Each event keeps all sites and parcels what is known of them.
+use Rattle.std.proofs.Common.{◌≡◌, ℕ, zero, suc, ◌+◌, ◌≤◌, ◌<◌, Bool, true, false, ◌==◌, ◌&&◌, nat_le, List, [], ◌∷◌, ◌++◌, length, None, Some, refl, sym, ap, ◌∙◌, subst, subst₂, ◌⊎◌, inl, inr, arith, true≢false, get_or, slice_get}
+use Rattle.std.proofs.lemmas.Bool.Decides.{eqb_tells, nat_tests}
+use Rattle.std.proofs.lemmas.Option.{slice_get-get_or}
+use Rattle.geo_site.specs.declared.setup.Setup.{Setup}
+use Rattle.geo_site.specs.declared.site.Site.{Site}
+use Rattle.geo_site.specs.Machine.{Same, fresh}
+use Rattle.geo_site.specs.Sites.{state_in}
+use Rattle.geo_site.proofs.Steps.{state_fresh, state_same}
+use Rattle.geo_delta.specs.declared.parcel.Parcel.{Parcel}
+use Rattle.geo_site.specs.Schedule.{nobody}
+use Rattle.geo_world.specs.Setups.{is_setup, are_numbered, are_setups}
+use Rattle.geo_world.specs.There.{is_site}
+use Rattle.geo_world.specs.Agreement.{Stands, Agrees}
+
+pub some_same : {A : Type 0} {x y : A} → Some x ≡ Some y → x ≡ y
+some_same h = cc
+
+pub some_none : {V : Type 0} {x : V} → Some x ≡ None → ⊥
+some_none h = cc
+
+both : (a b : Bool) → a && b ≡ true → (a ≡ true) × (b ≡ true)
+both true b h = (refl, h)
+both false b h = absurd (true≢false (sym h))
+
+equal : (a b : ℕ) → (a == b) ≡ true → a ≡ b
+equal a b h = elim (eqb_tells a b) [ inl p ↦ p.1 | inr p ↦ absurd (true≢false (sym h ∙ p.0)) ]
+
+-- a setup among good ones
+pub record GoodSetup (sites number : ℕ) (setup : Setup) : Type 0 where
+  pub site : setup.site ≡ number
+  pub sites_are : setup.sites ≡ sites
+
+good : (n number : ℕ) (x : Setup) → is_setup n number x ≡ true → GoodSetup n number x
+good n number x h =
+    let a = both ((x.site == number) && (x.sites == n) && nat_le 1 x.max_records) (nat_le x.max_records 1000000) h in
+    let b = both ((x.site == number) && (x.sites == n)) (nat_le 1 x.max_records) a.0 in
+    let c = both (x.site == number) (x.sites == n) b.0 in
+    record { site = equal x.site number c.0; sites_are = equal x.sites n c.1 }
+
+pub numbered_at : (n number : ℕ) (xs : List Setup) (k : ℕ) (x : Setup) → are_numbered n number xs ≡ true → slice_get xs k ≡ Some x → GoodSetup n (number + k) x
+numbered_at n number [] k x h at = absurd (some_none (sym at))
+numbered_at n number (y ∷ ys) zero x h at = let g = good n number y (both (is_setup n number y) (are_numbered n (number + 1) ys) h).0 in
+    let e : number ≡ number + 0 = omega arith in
+    subst₂ (λ (m : ℕ) (z : Setup). GoodSetup n m z) e (some_same at) g
+numbered_at n number (y ∷ ys) (suc k) x h at =
+    let e : number + 1 + k ≡ number + suc k = omega arith in
+    subst (λ m. GoodSetup n m x) e (numbered_at n (number + 1) ys k x (both (is_setup n number y) (are_numbered n (number + 1) ys) h).1 at)
+
+-- the element that an index reads
+pub read_is : {A : Type 0} (xs : List A) (i : ℕ) (x : A) → i < length xs → x ≡ get_or xs i x → slice_get xs i ≡ Some x
+read_is xs i x lt e = slice_get-get_or xs i x lt ∙ ap Some (sym e)
+
+-- a site that was just opened
+pub stands_new : (n number : ℕ) (setup own : Setup) (site : Site) → GoodSetup n number setup → own.site ≡ setup.site → own.sites ≡ setup.sites → site.number ≡ own.site → Same (fresh own.sites) (state_in site) → Stands n number site [] (λ _. None)
+stands_new n number setup own site g p q is same = record {
+  own = is ∙ p ∙ g.site;
+  state = state_same n number (fresh n) (state_in site) [] (λ _. None) (state_fresh n number) (subst (λ m. Same (fresh m) (state_in site)) (q ∙ g.sites_are) same);
+}
+
+-- one element more
+pub get_appended : {A : Type 0} (xs : List A) (x : A) (p : ℕ) (y : A) → slice_get (xs ++ x ∷ []) p ≡ Some y → (slice_get xs p ≡ Some y) ⊎ ((p ≡ length xs) × (y ≡ x))
+get_appended [] x zero y h = inr (refl, some_same (sym h))
+get_appended [] x (suc p) y h = absurd (some_none (sym h))
+get_appended (a ∷ xs) x zero y h = inl h
+get_appended (a ∷ xs) x (suc p) y h = elim (get_appended xs x p y h) [ inl q ↦ inl q | inr q ↦ inr (ap suc q.0, q.1) ]
+
+pub each_more : (n k : ℕ) (xs : List Site) (x : Site) → length xs ≡ k → ((j number : ℕ) (site : Site) → number ≡ j + 1 → slice_get xs j ≡ Some site → Stands n number site [] (λ _. None)) → Stands n (k + 1) x [] (λ _. None)
+    → (j number : ℕ) (site : Site) → number ≡ j + 1 → slice_get (xs ++ x ∷ []) j ≡ Some site → Stands n number site [] (λ _. None)
+each_more n k xs x len each new j number site e at = elim (get_appended xs x j site at) [
+  | inl old ↦ each j number site e old
+  | inr p ↦ let m : k + 1 ≡ number = let q = p.0 in omega arith in subst₂ (λ (m : ℕ) (s : Site). Stands n m s [] (λ _. None)) m (sym p.1) new
+]
+
+pub numbered_all : (xs : List Setup) → are_setups xs ≡ true → are_numbered (length xs) 1 xs ≡ true
+numbered_all xs h = (both (nat_le 1 (length xs) && nat_le (length xs) 16) (are_numbered (length xs) 1 xs) h).1
+
+pub agrees_open : (sites : List Site) (parcels : List Parcel) (n : ℕ) → length sites ≡ n → parcels ≡ [] → ((k number : ℕ) (site : Site) → number ≡ k + 1 → slice_get sites k ≡ Some site → Stands n number site [] (λ _. None)) → Agrees sites parcels nobody
+agrees_open sites parcels n many none each = record {
+  each = λ k number site e at. subst (λ m. Stands m number site [] (λ _. None)) (sym many) (each k number site e at);
+  as_many = sym (ap length none);
+  each_sent = λ p parcel at. absurd (some_none (sym (sym (ap (λ ps. slice_get ps p) none) ∙ at)));
+}
+
+pub numbered_get : (n number : ℕ) (xs : List Setup) (i : ℕ) (d : Setup) → are_numbered n number xs ≡ true → i < length xs → GoodSetup n (number + i) (get_or xs i d)
+numbered_get n number xs i d h lt = numbered_at n number xs i (get_or xs i d) h (slice_get-get_or xs i d lt)
+
+pub stands_of : (n number a b : ℕ) (site : Site) → site.number ≡ a → Same (fresh b) (state_in site) → a ≡ number → b ≡ n → Stands n number site [] (λ _. None)
+stands_of n number a b site is same p q = record {
+  own = is ∙ p;
+  state = state_same n number (fresh n) (state_in site) [] (λ _. None) (state_fresh n number) (subst (λ m. Same (fresh m) (state_in site)) q same);
+}
+
+-- a site that is there
+pub record IsThere (sites number : ℕ) : Type 0 where
+  pub first : 1 ≤ number
+  pub last : number ≤ sites
+
+le_from : (a b : ℕ) → nat_le a b ≡ true → a ≤ b
+le_from a b h = grind (arith, nat_tests)
+
+pub there_is : (n s : ℕ) → is_site n s ≡ true → IsThere n s
+there_is n s h = let p = both (nat_le 1 s) (nat_le s n) h in record { first = le_from 1 s p.0; last = le_from s n p.1 }

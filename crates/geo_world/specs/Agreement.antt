@@ -1,0 +1,70 @@
+-- Sites and parcels of the code are what is known of them.
+use Rattle.std.specs.Prelude.{Result, Ok, Err, ◌≡◌, ◌≢◌, ℕ, ◌+◌, ◌≤◌, true, false, List, [], length, Some, slice_get, slice_index_or}
+use Rattle.geo_stamp.specs.Vectors.{zeros}
+use Rattle.geo_versions.specs.Operations.{Operation, version_in, version_of, floor_of}
+use Rattle.geo_delta.specs.declared.parcel.Parcel.{Parcel}
+use Rattle.geo_site.specs.declared.site.Site.{Site}
+use Rattle.geo_site.specs.Entries.{Held}
+use Rattle.geo_site.specs.Machine.{knows_floor}
+use Rattle.geo_site.specs.Sites.{state_in, delta_of, knows_all}
+use Rattle.geo_site.specs.Schedule.{Known, nobody, happens, Lawful}
+use Rattle.geo_site.specs.declared.setup.Setup.{Setup}
+use Rattle.geo_site.specs.declared.event.Event.{Event}
+use Rattle.geo_site.specs.declared.event.Trace.{Trace}
+use Rattle.geo_site.specs.Agreement.{StateOf, DeltaOf}
+use Rattle.geo_world.specs.declared.outcome.WorldError.{WorldError}
+use Rattle.geo_world.specs.declared.outcome.WorldError.TheVariants.{Setups, BadEvent, Memory}
+use Rattle.geo_world.specs.declared.world.World.{World}
+use Rattle.geo_world.specs.Setups.{are_setups}
+use Rattle.geo_world.specs.There.{is_there, IsMissing}
+
+-- the site has this number among so many, and is what it knows and holds
+pub record Stands (sites number : ℕ) (site : Site) (ops : List Operation) (held : Held) : Type 0 where
+  pub own : site.number ≡ number
+  pub state : StateOf sites number (state_in site) ops held
+
+-- the parcel is for its addressee, from another site, knows all its stamps, and is what its sender knew
+pub record Carries (sites : ℕ) (parcel : Parcel) (sent : ℕ × List Operation) : Type 0 where
+  pub addressee : parcel.to ≡ sent.0
+  pub other : parcel.from ≢ parcel.to
+  pub from_first : 1 ≤ parcel.from
+  pub from_last : parcel.from ≤ sites
+  pub base : parcel.base ≡ zeros sites
+  pub floor_known : knows_floor parcel.upto parcel.floor ≡ true
+  pub records_known : knows_all parcel.upto parcel.records ≡ true
+  pub delta : DeltaOf sites parcel.from (delta_of parcel) sent.1
+
+-- each site and each parcel is what is known of it
+pub record Agrees (sites : List Site) (parcels : List Parcel) (w : Known) : Type 0 where
+  pub each : (k number : ℕ) (site : Site) → number ≡ k + 1 → slice_get sites k ≡ Some site → Stands (length sites) number site (w.at number) (w.held number)
+  pub as_many : length w.sent ≡ length parcels
+  pub each_sent : (p : ℕ) (parcel : Parcel) → slice_get parcels p ≡ Some parcel → Carries (length sites) parcel (slice_index_or w.sent p (0, []))
+
+-- the site's floor and versions are those that the operations name
+pub record ShowsVersions (site : Site) (ops : List Operation) : Type 0 where
+  pub floor : (state_in site).floor ≡ floor_of ops
+  pub versions : (key : List ℕ) → version_in ((state_in site).map key) ≡ version_of ops key
+
+pub record SameVersions (one other : Site) : Type 0 where
+  pub floor : (state_in one).floor ≡ (state_in other).floor
+  pub versions : (key : List ℕ) → version_in ((state_in one).map key) ≡ version_in ((state_in other).map key)
+
+-- what opening a world does, by its result
+abbrev pub WorldOpens : List Setup → Result World WorldError → Type 0
+WorldOpens setups (Ok world) = (are_setups setups ≡ true) × (length world.sites.items ≡ length setups) × Agrees world.sites.items world.parcels.items nobody
+WorldOpens setups (Err Setups) = are_setups setups ≡ false
+WorldOpens setups (Err (BadEvent index)) = ⊥
+WorldOpens setups (Err Memory) = are_setups setups ≡ true
+
+-- what a step does, by its result: it is lawful and keeps the agreement, or its event is not there
+abbrev pub StepDoes : World → World → Event → ℕ → Result Trace WorldError → Type 0
+StepDoes old new event index (Ok trace) = (is_there (length old.sites.items) (length old.parcels.items) event ≡ true) × ((w : Known) → Agrees old.sites.items old.parcels.items w → Lawful w event trace × Agrees new.sites.items new.parcels.items (happens w event trace))
+StepDoes old new event index (Err Setups) = ⊥
+StepDoes old new event index (Err (BadEvent at)) = (at ≡ index) × (is_there (length old.sites.items) (length old.parcels.items) event ≡ false)
+StepDoes old new event index (Err Memory) = Unit {0}
+
+-- why a run has no outcome
+abbrev pub RunRefuses : List Setup → List Event → WorldError → Type 0
+RunRefuses setups events Setups = are_setups setups ≡ false
+RunRefuses setups events (BadEvent index) = (are_setups setups ≡ true) × IsMissing (length setups) events index
+RunRefuses setups events Memory = are_setups setups ≡ true

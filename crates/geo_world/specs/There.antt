@@ -1,0 +1,42 @@
+-- Events whose sites and parcels are there, and whose moments are in range.
+use Rattle.std.specs.Prelude.{◌≡◌, ℕ, ◌^◌, Bool, true, false, ◌&&◌, nat_le, nat_lt, List, [], ◌∷◌, length, Some, take, slice_get}
+use Rattle.std.specs.List.{list_all}
+use Rattle.geo_site.specs.declared.event.Event.{Event}
+use Rattle.geo_site.specs.declared.event.Event.TheVariants.{Command, Send, Take}
+use Rattle.geo_site.specs.declared.event.Trace.{Trace}
+use Rattle.geo_site.specs.Schedule.{Known, nobody, happens, known, EachLawful}
+
+-- one of the sites
+abbrev pub is_site : ℕ → ℕ → Bool
+is_site sites number = nat_le 1 number && nat_le number sites
+
+-- the event's sites are there, and so is its parcel among so many that were sent
+abbrev pub is_there : ℕ → ℕ → Event → Bool
+is_there sites parcels (Command site now request) = is_site sites site
+is_there sites parcels (Send site to) = is_site sites site && is_site sites to
+is_there sites parcels (Take site parcel) = is_site sites site && nat_lt parcel parcels
+
+-- the moment of an event, in seconds, is at most 2^40
+abbrev pub is_in_time : Event → Bool
+is_in_time (Command site now request) = nat_le now (2 ^ 40)
+is_in_time (Send site to) = true
+is_in_time (Take site parcel) = true
+
+abbrev pub all_in_time : List Event → Bool
+all_in_time events = list_all is_in_time events
+
+-- each event is there when it comes
+abbrev pub EachThere : ℕ → Known → List Event → List Trace → Type 0
+EachThere sites w [] traces = Unit {0}
+EachThere sites w (event ∷ events) [] = Unit {0}
+EachThere sites w (event ∷ events) (trace ∷ traces) = (is_there sites (length w.sent) event ≡ true) × EachThere sites (happens w event trace) events traces
+
+-- the event at the index is not there when it comes, after lawful traces of those before it
+pub record IsMissing (sites : ℕ) (events : List Event) (index : ℕ) : Type 0 where
+  pub traces : List Trace
+  pub many : length traces ≡ index
+  pub lawful : EachLawful nobody (take index events) traces
+  pub there : EachThere sites nobody (take index events) traces
+  pub event : Event
+  pub at : slice_get events index ≡ Some event
+  pub missing : is_there sites (length (known nobody (take index events) traces).sent) event ≡ false

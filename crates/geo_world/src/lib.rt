@@ -1,0 +1,19 @@
+//! Schedules of events over several sites, and the theorem about them.
+//!
+//! [`run_schedule`] runs any list of commands, sends and takes, in which parcels may be lost, repeated and reordered, and its
+//! contract says what every site then holds and what every client was answered. It stands on the public contracts of sites and
+//! parcels alone.
+#![tactic(auto)]
+
+mod open;
+mod outcome;
+mod run;
+mod step;
+mod world;
+
+pub use open::are_good;
+pub use outcome::{Outcome, WorldError};
+pub use run::{LAST_MOMENT, are_in_time, run_schedule};
+
+#[cfg(test)]
+mod tests;

@@ -1,0 +1,68 @@
+//! Opening the sites of a cluster.
+ghost use Rattle.std.specs.Prelude.{◌≡◌};
+ghost use Rattle.geo_world.specs.Setups.{are_setups, is_setup};
+ghost use Rattle.geo_world.specs.Agreement.{WorldOpens};
+
+use crate::outcome::WorldError;
+use crate::world::World;
+use geo_site::{Setup, Site};
+use std::alloc::Global;
+
+/// Whether a setup is that of the site with this number among so many, and a site can be made of it.
+fn is_good(sites: usize, number: usize, setup: &Setup) -> bool
+    ensures { result ≡ is_setup sites number setup.now }
+{
+    setup.site as usize == number
+        && setup.sites as usize == sites
+        && setup.max_records >= 1
+        && setup.max_records <= 1_000_000
+}
+
+/// Whether the setups are those of sites 1 to n in order, of each of which a site can be made.
+pub fn are_good(setups: &[Setup]) -> bool
+    ensures { result ≡ are_setups setups.now }
+{
+    let sites = setups.len();
+    if sites < 1 || sites > 16 {
+        return false;
+    }
+    for (index, setup) in setups.iter().enumerate() {
+        if !is_good(sites, index + 1, setup) {
+            return false;
+        }
+    }
+    true
+}
+
+impl World {
+    /// Sites that know nothing, and no parcel.
+    pub fn open(alloc: Global, setups: Vec<Setup>) -> Result<World, WorldError>
+        ensures { WorldOpens setups.items result }
+    {
+        if !are_good(&setups) {
+            return Err(WorldError::Setups);
+        }
+        let mut sites = Vec::new(alloc);
+        for setup in &setups {
+            let Ok(hasher) = setup.hasher.clone() else {
+                return Err(WorldError::Memory);
+            };
+            let own = Setup {
+                site: setup.site,
+                sites: setup.sites,
+                max_records: setup.max_records,
+                hasher,
+            };
+            let Ok(site) = Site::new(alloc, own) else {
+                return Err(WorldError::Memory);
+            };
+            if sites.push(site).is_err() {
+                return Err(WorldError::Memory);
+            }
+        }
+        Ok(World {
+            sites,
+            parcels: Vec::new(alloc),
+        })
+    }
+}

@@ -1,0 +1,71 @@
+//! Whole schedules.
+ghost use Rattle.std.specs.Prelude.{◌≡◌, ℕ, ◌+◌, length, IfOk, IfErr, slice_get, Some, true};
+ghost use Rattle.geo_versions.specs.Operations.{SameOperations};
+ghost use Rattle.geo_site.specs.declared.site.Site.{Site};
+ghost use Rattle.geo_site.specs.Schedule.{Known, nobody, known, EachLawful};
+ghost use Rattle.geo_site.specs.Served.{NoCollision, AllServe};
+ghost use Rattle.geo_world.specs.Setups.{are_setups};
+ghost use Rattle.geo_world.specs.There.{is_in_time, all_in_time, EachThere};
+ghost use Rattle.geo_world.specs.Agreement.{ShowsVersions, SameVersions, RunRefuses};
+
+use crate::outcome::{Outcome, WorldError};
+use crate::world::World;
+use geo_site::{Event, Setup};
+use std::alloc::Global;
+
+/// The greatest moment, in seconds.
+pub const LAST_MOMENT: u64 = 1 << 40;
+
+fn is_in_time_event(event: &Event) -> bool
+    ensures { result ≡ is_in_time event.now }
+{
+    match event {
+        Event::Command { now, .. } => *now <= LAST_MOMENT,
+        Event::Send { .. } | Event::Take { .. } => true,
+    }
+}
+
+/// Whether each moment of the events is one that [`run_schedule`] takes: at most 2^40.
+pub fn are_in_time(events: &[Event]) -> bool
+    ensures { result ≡ all_in_time events.now }
+{
+    events.iter().all(is_in_time_event)
+}
+
+/// Runs a schedule: any list of commands, sends and takes over the sites that the setups make, in which a parcel may be taken
+/// never, often and in any order.
+///
+/// Whatever the schedule, each event has a trace that it can have: each reply is plain memcached's over what its site then
+/// holds, or the refusal that is due; a parcel's addressee never finds a gap. In the end each site's floor and versions are
+/// those of the operations that it knows, so that sites which know the same operations hold equal versions. Bytes in a reply
+/// are what the operation wrote whose stamp the version has, unless two values that were written have one SHA-256.
+pub fn run_schedule(
+    alloc: Global,
+    setups: Vec<Setup>,
+    events: &[Event],
+) -> Result<Outcome, WorldError>
+    requires moments { all_in_time events.now ≡ true }
+    ensures sites { IfOk result (λ o. (are_setups setups.items ≡ true) × (length o.sites.items ≡ length setups.items)) }
+    ensures traced { IfOk result (λ o. length o.traces.items ≡ length events.now) }
+    ensures there { IfOk result (λ o. EachThere (length setups.items) nobody events.now o.traces.items) }
+    ensures lawful { IfOk result (λ o. EachLawful nobody events.now o.traces.items) }
+    ensures versions { IfOk result (λ o. (k number : ℕ) (site : Site) → number ≡ k + 1 → slice_get o.sites.items k ≡ Some site → ShowsVersions site ((known nobody events.now o.traces.items).at number)) }
+    ensures equal { IfOk result (λ o. (j k : ℕ) (one other : Site) → slice_get o.sites.items j ≡ Some one → slice_get o.sites.items k ≡ Some other → SameOperations ((known nobody events.now o.traces.items).at (j + 1)) ((known nobody events.now o.traces.items).at (k + 1)) → SameVersions one other) }
+    ensures served { IfOk result (λ o. NoCollision (known nobody events.now o.traces.items) → AllServe nobody events.now o.traces.items) }
+    ensures refused { IfErr result (RunRefuses setups.items events.now) }
+{
+    let mut world = World::open(alloc, setups)?;
+    let mut traces = Vec::new(alloc);
+    for (index, event) in events.iter().enumerate() {
+        let trace = world.step(alloc, event, index)?;
+        if traces.push(trace).is_err() {
+            return Err(WorldError::Memory);
+        }
+    }
+    let World { sites, parcels } = world;
+    Ok(Outcome {
+        sites,
+        parcels,
+        traces,
+    })
+}

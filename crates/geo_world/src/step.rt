@@ -1,0 +1,102 @@
+//! One event.
+ghost use Rattle.std.specs.Prelude.{◌≡◌, ℕ, ◌≤◌, ◌<◌, ◌^◌, true, length, IfOk};
+ghost use Rattle.geo_site.specs.Schedule.{Known, happens, Lawful};
+ghost use Rattle.geo_world.specs.There.{is_site, is_there, is_in_time};
+ghost use Rattle.geo_world.specs.Agreement.{Agrees, StepDoes};
+
+use crate::outcome::WorldError;
+use crate::world::World;
+use geo_grammar::Request;
+use geo_lattice::Twin;
+use geo_site::{Event, Trace};
+use std::alloc::{AllocError, Global};
+
+impl World {
+    fn command(&mut self, alloc: Global, site: u8, now: u64, request: &Request) -> Trace
+        requires there { is_site (length self.old.sites.items) site ≡ true }
+        requires moment { now ≤ 2 ^ 40 }
+        ensures lawful { (w : Known) → Agrees self.old.sites.items self.old.parcels.items w → Lawful w (Event.Command site now request.now) result }
+        ensures kept { (w : Known) → Agrees self.old.sites.items self.old.parcels.items w → Agrees self.new.sites.items self.new.parcels.items (happens w (Event.Command site now request.now) result) }
+        ensures as_many { length self.new.sites.items ≡ length self.old.sites.items }
+    {
+        let at = &mut self.sites[site as usize - 1];
+        Trace::Replied(at.act(alloc, now, request))
+    }
+
+    fn send(&mut self, alloc: Global, site: u8, to: u8) -> Result<Trace, AllocError>
+        requires there { is_site (length self.old.sites.items) site ≡ true }
+        requires to_there { is_site (length self.old.sites.items) to ≡ true }
+        ensures lawful { IfOk result (λ trace. (w : Known) → Agrees self.old.sites.items self.old.parcels.items w → Lawful w (Event.Send site to) trace) }
+        ensures kept { IfOk result (λ trace. (w : Known) → Agrees self.old.sites.items self.old.parcels.items w → Agrees self.new.sites.items self.new.parcels.items (happens w (Event.Send site to) trace)) }
+        ensures as_many { length self.new.sites.items ≡ length self.old.sites.items }
+    {
+        let at = &self.sites[site as usize - 1];
+        match at.send(alloc, to) {
+            Ok(parcel) => {
+                self.parcels.push(parcel)?;
+                Ok(Trace::Sent)
+            }
+            Err(why) => Ok(Trace::SendRefused(why)),
+        }
+    }
+
+    /// A parcel stays, so that it can be taken again.
+    fn take(&mut self, alloc: Global, site: u8, parcel: usize) -> Result<Trace, AllocError>
+        requires there { is_site (length self.old.sites.items) site ≡ true }
+        requires sent { parcel < length self.old.parcels.items }
+        ensures lawful { IfOk result (λ trace. (w : Known) → Agrees self.old.sites.items self.old.parcels.items w → Lawful w (Event.Take site parcel) trace) }
+        ensures kept { IfOk result (λ trace. (w : Known) → Agrees self.old.sites.items self.old.parcels.items w → Agrees self.new.sites.items self.new.parcels.items (happens w (Event.Take site parcel) trace)) }
+        ensures as_many { length self.new.sites.items ≡ length self.old.sites.items }
+    {
+        let sent = &self.parcels[parcel];
+        let copy = sent.twin(alloc)?;
+        let at = &mut self.sites[site as usize - 1];
+        match at.take(alloc, copy) {
+            Ok(_) => Ok(Trace::Taken),
+            Err(refused) => Ok(Trace::TakeRefused(refused.why)),
+        }
+    }
+}
+
+impl World {
+    /// Whether there is a site of this number.
+    fn has(&self, site: u8) -> bool
+        ensures { result ≡ is_site (length self.now.sites.items) site }
+    {
+        site >= 1 && site as usize <= self.sites.len()
+    }
+
+    /// Does the event with this index, unless it names a site or a parcel that is not there.
+    pub fn step(&mut self, alloc: Global, event: &Event, index: usize) -> Result<Trace, WorldError>
+        requires moment { is_in_time event.now ≡ true }
+        ensures does { StepDoes self.old self.new event.now index result }
+        ensures as_many { length self.new.sites.items ≡ length self.old.sites.items }
+    {
+        match event {
+            Event::Command { site, now, request } => {
+                if !self.has(*site) {
+                    return Err(WorldError::BadEvent(index));
+                }
+                Ok(self.command(alloc, *site, *now, request))
+            }
+            Event::Send { site, to } => {
+                if !self.has(*site) || !self.has(*to) {
+                    return Err(WorldError::BadEvent(index));
+                }
+                match self.send(alloc, *site, *to) {
+                    Ok(trace) => Ok(trace),
+                    Err(_) => Err(WorldError::Memory),
+                }
+            }
+            Event::Take { site, parcel } => {
+                if !self.has(*site) || *parcel >= self.parcels.len() {
+                    return Err(WorldError::BadEvent(index));
+                }
+                match self.take(alloc, *site, *parcel) {
+                    Ok(trace) => Ok(trace),
+                    Err(_) => Err(WorldError::Memory),
+                }
+            }
+        }
+    }
+}

@@ -1,0 +1,136 @@
+//! Schedules worked by hand.
+use crate::{WorldError, are_in_time, run_schedule};
+use geo_grammar::{Reply, Request, ValueBytes, Verb};
+use geo_lattice::Items;
+use geo_site::{Event, SendError, Setup, TakeError, Trace};
+use geo_stamp::Stamp;
+use geo_versions::Key;
+use std::alloc::{AllocError, Global};
+use std::hash::RandomState;
+use std::test::Fail;
+
+fn setups(alloc: Global, sites: u8, hasher: &RandomState) -> Result<Vec<Setup>, AllocError> {
+    let mut all = Vec::new(alloc);
+    for index in 0..sites {
+        all.push(Setup {
+            site: index.wrapping_add(1),
+            sites,
+            max_records: 1000,
+            hasher: hasher.clone()?,
+        })?;
+    }
+    Ok(all)
+}
+
+fn key(alloc: Global, bytes: &[u8]) -> Result<Key, Fail> {
+    Ok(Key::new(alloc, bytes)?.ok_or("no key")?)
+}
+
+fn set(alloc: Global, site: u8, name: &[u8], bytes: &[u8]) -> Result<Event, Fail> {
+    Ok(Event::Command {
+        site,
+        now: 100,
+        request: Request::Store {
+            verb: Verb::Set,
+            key: key(alloc, name)?,
+            flags: 0,
+            exptime: 0,
+            unique: None,
+            bytes: ValueBytes::of(bytes.to_vec(alloc)?),
+            noreply: false,
+        },
+    })
+}
+
+fn get(alloc: Global, site: u8, name: &[u8]) -> Result<Event, Fail> {
+    let mut keys = Vec::new(alloc);
+    keys.push(key(alloc, name)?)?;
+    Ok(Event::Command {
+        site,
+        now: 100,
+        request: Request::Fetch {
+            keys: Items::of(keys),
+            numbers: false,
+        },
+    })
+}
+
+#[test]
+fn a_tie_is_named_alike_by_both(rt: HostRuntime) -> Result<(), Fail> {
+    let alloc = rt.alloc();
+    let hasher = RandomState::new(&rt)?;
+    let mut events = Vec::new(alloc);
+    events.push(set(alloc, 1, b"a", b"hi")?)?;
+    events.push(set(alloc, 2, b"a", b"yo")?)?;
+    events.push(Event::Send { site: 1, to: 2 })?;
+    events.push(Event::Send { site: 2, to: 1 })?;
+    events.push(Event::Take { site: 2, parcel: 0 })?;
+    events.push(Event::Take { site: 1, parcel: 1 })?;
+    events.push(get(alloc, 1, b"a")?)?;
+    events.push(get(alloc, 2, b"a")?)?;
+    assert!(rt; are_in_time(&events));
+    let outcome = run_schedule(alloc, setups(alloc, 2, &hasher)?, &events)
+        .ok()
+        .ok_or("no outcome")?;
+    assert_eq!(rt; outcome.traces.len(), 8);
+    assert!(rt; matches!(&outcome.traces[0], Trace::Replied(Reply::Stored)));
+    assert!(rt; matches!(&outcome.traces[1], Trace::Replied(Reply::Stored)));
+    assert!(rt; matches!(&outcome.traces[2], Trace::Sent));
+    assert!(rt; matches!(&outcome.traces[3], Trace::Sent));
+    assert!(rt; matches!(&outcome.traces[4], Trace::Taken));
+    assert!(rt; matches!(&outcome.traces[5], Trace::Taken));
+    let Trace::Replied(Reply::Values(one)) = &outcome.traces[6] else {
+        return Err("no values")?;
+    };
+    assert_eq!(rt; one.as_slice().len(), 0);
+    let Trace::Replied(Reply::Values(two)) = &outcome.traces[7] else {
+        return Err("no values")?;
+    };
+    let two = two.as_slice();
+    assert_eq!(rt; two.len(), 1);
+    assert_eq!(rt; two[0].bytes.as_slice(), b"yo".as_slice());
+    assert_eq!(rt; outcome.parcels.len(), 2);
+    assert_eq!(rt; outcome.parcels[0].to, 2);
+    assert_eq!(rt; outcome.parcels[1].to, 1);
+    let name = key(alloc, b"a")?;
+    for site in &outcome.sites {
+        let version = site.version_of(&name).ok_or("no version")?;
+        assert_eq!(rt; version.stamp, Stamp::new(1, 2).ok_or("no stamp")?);
+    }
+    Ok(())
+}
+
+#[test]
+fn refuses_what_is_not_there(rt: HostRuntime) -> Result<(), Fail> {
+    let alloc = rt.alloc();
+    let hasher = RandomState::new(&rt)?;
+    let mut events = Vec::new(alloc);
+    events.push(Event::Send { site: 1, to: 1 })?;
+    events.push(Event::Send { site: 1, to: 2 })?;
+    events.push(Event::Take { site: 1, parcel: 0 })?;
+    events.push(Event::Take { site: 2, parcel: 1 })?;
+    assert!(rt; are_in_time(&events));
+    let missing = run_schedule(alloc, setups(alloc, 2, &hasher)?, &events).err();
+    assert_eq!(rt; missing, Some(WorldError::BadEvent(3)));
+    events.truncate(3);
+    assert!(rt; are_in_time(&events));
+    let outcome = run_schedule(alloc, setups(alloc, 2, &hasher)?, &events)
+        .ok()
+        .ok_or("no outcome")?;
+    assert_eq!(rt; outcome.traces.len(), 3);
+    assert!(rt;
+        matches!(
+            &outcome.traces[0],
+            Trace::SendRefused(SendError::NoSuchSite)
+        )
+    );
+    assert!(rt; matches!(&outcome.traces[1], Trace::Sent));
+    assert!(rt; matches!(&outcome.traces[2], Trace::TakeRefused(TakeError::NotForMe)));
+    let nobody = run_schedule(alloc, Vec::new(alloc), &events).err();
+    assert_eq!(rt; nobody, Some(WorldError::Setups));
+    let mut turned = setups(alloc, 2, &hasher)?;
+    turned.reverse();
+    let in_order = run_schedule(alloc, turned, &events).err();
+    assert_eq!(rt; in_order, Some(WorldError::Setups));
+    Ok(())
+}
