@@ -1,22 +1,13 @@
 //! What no clause says: that the calls succeed where there is memory, and hand-worked rows.
-use crate::{SendError, Setup, SetupError, Site, TakeError};
+use crate::{SendError, Setup, SetupError, Site, TakeError, Taken};
 use geo_delta::Parcel;
-use geo_grammar::{Reply, Request, ValueBytes, Verb};
-use geo_lattice::{Items, Twin};
-use geo_stamp::{LAST_TIME, Stamp, Vector};
-use geo_versions::{Digest, Key};
-use std::alloc::{AllocError, Global};
+use geo_grammar::{Found, Reply, Request, ValueBytes, Verb};
+use geo_lattice::Items;
+use geo_stamp::{LAST_TIME, Vector};
+use geo_versions::{Digest, Key, Version};
+use std::alloc::Global;
 use std::hash::RandomState;
 use std::test::Fail;
-
-fn setup(site: u8, sites: u8, hasher: &RandomState) -> Result<Setup, AllocError> {
-    Ok(Setup {
-        site,
-        sites,
-        max_records: 100,
-        hasher: hasher.clone()?,
-    })
-}
 
 fn key(alloc: Global, bytes: &[u8]) -> Result<Key, Fail> {
     Ok(Key::new(alloc, bytes)?.ok_or("no key")?)
@@ -41,6 +32,49 @@ fn get(alloc: Global, name: &[u8], numbers: bool) -> Result<Request, Fail> {
         keys: Items::of(keys),
         numbers,
     })
+}
+
+fn opened(alloc: Global, site: u8, sites: u8, hasher: &RandomState) -> Result<Site, Fail> {
+    let setup = Setup {
+        site,
+        sites,
+        max_records: 100,
+        hasher: hasher.clone()?,
+    };
+    Ok(Site::new(alloc, setup).ok().ok_or("no site")?)
+}
+
+/// Whether a set of these bytes is answered STORED.
+fn stores(alloc: Global, site: &mut Site, name: &[u8], bytes: &[u8]) -> Result<bool, Fail> {
+    let request = set(alloc, name, 5, bytes)?;
+    Ok(matches!(site.act(alloc, 100, &request), Reply::Stored))
+}
+
+/// What a get of one key with its number finds.
+fn finds(alloc: Global, site: &mut Site, name: &[u8]) -> Result<Vec<Found>, Fail> {
+    let request = get(alloc, name, true)?;
+    match site.act(alloc, 100, &request) {
+        Reply::Values(found) => Ok(found.into_vec()),
+        _ => Err("no values")?,
+    }
+}
+
+fn holds(alloc: Global, site: &Site, name: &[u8]) -> Result<bool, Fail> {
+    let name = key(alloc, name)?;
+    Ok(site.holds(&name))
+}
+
+fn version(alloc: Global, site: &Site, name: &[u8]) -> Result<Version, Fail> {
+    let name = key(alloc, name)?;
+    Ok(site.version_of(&name).ok_or("no version")?)
+}
+
+fn sent(alloc: Global, site: &Site, to: u8) -> Result<Parcel, Fail> {
+    Ok(site.send(alloc, to).ok().ok_or("no parcel")?)
+}
+
+fn taken(alloc: Global, site: &mut Site, parcel: Parcel) -> Result<Taken, Fail> {
+    Ok(site.take(alloc, parcel).ok().ok_or("refused")?)
 }
 
 #[test]
@@ -78,30 +112,32 @@ fn refuses_setups_in_their_order(rt: HostRuntime) -> Result<(), Fail> {
 fn answers_as_plain_memcached_does(rt: HostRuntime) -> Result<(), Fail> {
     let alloc = rt.alloc();
     let hasher = RandomState::new(&rt)?;
-    let mut site = Site::new(alloc, setup(1, 1, &hasher)?)
-        .ok()
-        .ok_or("no site")?;
-    let empty = set(alloc, b"e", 5, b"")?;
-    assert!(rt; matches!(site.act(alloc, 100, &empty), Reply::Stored));
-    let Reply::Values(found) = site.act(alloc, 100, &get(alloc, b"e", true)?) else {
-        return Err("no values")?;
-    };
-    let found = found.into_vec();
+    let mut site = opened(alloc, 1, 1, &hasher)?;
+    assert!(rt; stores(alloc, &mut site, b"e", b"")?);
+    let found = finds(alloc, &mut site, b"e")?;
     assert_eq!(rt; found.len(), 1);
     assert_eq!(rt; found[0].flags, 5);
     assert_eq!(rt; found[0].unique, Some(257));
     assert_eq!(rt; found[0].bytes.len(), 0);
-    let Reply::Values(missed) = site.act(alloc, 100, &get(alloc, b"f", false)?) else {
-        return Err("no values")?;
-    };
-    assert_eq!(rt; missed.into_vec().len(), 0);
-    assert!(rt; site.holds(&key(alloc, b"e")?));
-    assert!(rt; !site.holds(&key(alloc, b"f")?));
+    let missed = finds(alloc, &mut site, b"f")?;
+    assert_eq!(rt; missed.len(), 0);
+    Ok(())
+}
+
+#[test]
+fn tells_what_it_knows(rt: HostRuntime) -> Result<(), Fail> {
+    let alloc = rt.alloc();
+    let hasher = RandomState::new(&rt)?;
+    let mut site = opened(alloc, 1, 1, &hasher)?;
+    assert!(rt; stores(alloc, &mut site, b"e", b"")?);
+    assert!(rt; holds(alloc, &site, b"e")?);
+    assert!(rt; !holds(alloc, &site, b"f")?);
     assert_eq!(rt; site.records(), 1);
     assert_eq!(rt; site.known().entry(1), 1);
-    let version = site.version_of(&key(alloc, b"e")?).ok_or("no version")?;
+    let version = version(alloc, &site, b"e")?;
     assert_eq!(rt; version.digest, Digest::of(b""));
-    assert_eq!(rt; version.stamp, Stamp::new(1, 1).ok_or("no stamp")?);
+    assert_eq!(rt; version.stamp.time(), 1);
+    assert_eq!(rt; version.stamp.site(), 1);
     assert_eq!(rt; site.versions(alloc)?.len(), 1);
     Ok(())
 }
@@ -110,16 +146,13 @@ fn answers_as_plain_memcached_does(rt: HostRuntime) -> Result<(), Fail> {
 fn stores_up_to_a_mebibyte(rt: HostRuntime) -> Result<(), Fail> {
     let alloc = rt.alloc();
     let hasher = RandomState::new(&rt)?;
-    let mut site = Site::new(alloc, setup(1, 1, &hasher)?)
-        .ok()
-        .ok_or("no site")?;
+    let mut site = opened(alloc, 1, 1, &hasher)?;
     let mut bytes = vec![in alloc; 0u8; 1_048_576]?;
-    let most = set(alloc, b"a", 0, bytes.as_slice())?;
-    assert!(rt; matches!(site.act(alloc, 100, &most), Reply::Stored));
+    assert!(rt; stores(alloc, &mut site, b"a", bytes.as_slice())?);
     bytes.push(0)?;
     let more = set(alloc, b"a", 0, bytes.as_slice())?;
     assert!(rt; matches!(site.act(alloc, 100, &more), Reply::TooLarge));
-    let version = site.version_of(&key(alloc, b"a")?).ok_or("no version")?;
+    let version = version(alloc, &site, b"a")?;
     assert_eq!(rt; version.length, 1_048_576);
     assert_eq!(rt; site.known().greatest(), 1);
     Ok(())
@@ -140,30 +173,38 @@ fn parcel(alloc: Global, from: u8, to: u8, known: u64, told: u64) -> Parcel {
     }
 }
 
+/// Why a parcel is refused, where it is handed back as it was and nothing is learned.
+fn refusal(alloc: Global, site: &mut Site, sent: Parcel) -> Result<TakeError, Fail> {
+    let from = sent.from;
+    let refused = site.take(alloc, sent).err().ok_or("taken")?;
+    if refused.parcel.from != from || site.known().greatest() != 0 {
+        return Err("not as it was")?;
+    }
+    Ok(refused.why)
+}
+
 #[test]
 fn refuses_parcels_in_their_order(rt: HostRuntime) -> Result<(), Fail> {
     let alloc = rt.alloc();
     let hasher = RandomState::new(&rt)?;
-    let mut site = Site::new(alloc, setup(1, 2, &hasher)?)
-        .ok()
-        .ok_or("no site")?;
-    let rows = [
-        (parcel(alloc, 2, 1, 1, 1), TakeError::Gap),
-        (parcel(alloc, 2, 2, 1, 1), TakeError::NotForMe),
-        (parcel(alloc, 1, 1, 1, 1), TakeError::UnknownSite),
-        (parcel(alloc, 3, 1, 0, 1), TakeError::UnknownSite),
-    ];
-    for (sent, why) in rows {
-        let from = sent.from;
-        let refused = site.take(alloc, sent).err().ok_or("taken")?;
-        assert_eq!(rt; refused.why, why);
-        assert_eq!(rt; refused.parcel.from, from);
-        assert_eq!(rt; site.known().greatest(), 0);
-    }
-    let taken = site
-        .take(alloc, parcel(alloc, 2, 1, 0, LAST_TIME))
-        .ok()
-        .ok_or("refused")?;
+    let mut site = opened(alloc, 1, 2, &hasher)?;
+    let gap = refusal(alloc, &mut site, parcel(alloc, 2, 1, 1, 1))?;
+    assert_eq!(rt; gap, TakeError::Gap);
+    let other = refusal(alloc, &mut site, parcel(alloc, 2, 2, 1, 1))?;
+    assert_eq!(rt; other, TakeError::NotForMe);
+    let own = refusal(alloc, &mut site, parcel(alloc, 1, 1, 1, 1))?;
+    assert_eq!(rt; own, TakeError::UnknownSite);
+    let unknown = refusal(alloc, &mut site, parcel(alloc, 3, 1, 0, 1))?;
+    assert_eq!(rt; unknown, TakeError::UnknownSite);
+    Ok(())
+}
+
+#[test]
+fn has_no_stamp_after_the_last(rt: HostRuntime) -> Result<(), Fail> {
+    let alloc = rt.alloc();
+    let hasher = RandomState::new(&rt)?;
+    let mut site = opened(alloc, 1, 2, &hasher)?;
+    let taken = taken(alloc, &mut site, parcel(alloc, 2, 1, 0, LAST_TIME))?;
     assert!(rt; taken.rose);
     assert_eq!(rt; taken.dropped, 0);
     let late = set(alloc, b"a", 0, b"z")?;
@@ -173,44 +214,32 @@ fn refuses_parcels_in_their_order(rt: HostRuntime) -> Result<(), Fail> {
 }
 
 #[test]
+fn sends_to_another_site_alone(rt: HostRuntime) -> Result<(), Fail> {
+    let alloc = rt.alloc();
+    let hasher = RandomState::new(&rt)?;
+    let site = opened(alloc, 1, 2, &hasher)?;
+    assert_eq!(rt; site.send(alloc, 1).err(), Some(SendError::NoSuchSite));
+    assert_eq!(rt; site.send(alloc, 3).err(), Some(SendError::NoSuchSite));
+    assert_eq!(rt; sent(alloc, &site, 2)?.to, 2);
+    Ok(())
+}
+
+#[test]
 fn a_tie_goes_to_the_greater_site(rt: HostRuntime) -> Result<(), Fail> {
     let alloc = rt.alloc();
     let hasher = RandomState::new(&rt)?;
-    let mut one = Site::new(alloc, setup(1, 2, &hasher)?)
-        .ok()
-        .ok_or("no site")?;
-    let mut two = Site::new(alloc, setup(2, 2, &hasher)?)
-        .ok()
-        .ok_or("no site")?;
-    assert!(rt;
-        matches!(
-            one.act(alloc, 100, &set(alloc, b"a", 0, b"hi")?),
-            Reply::Stored
-        )
-    );
-    assert!(rt;
-        matches!(
-            two.act(alloc, 100, &set(alloc, b"a", 0, b"yo")?),
-            Reply::Stored
-        )
-    );
-    assert_eq!(rt; one.send(alloc, 1).err(), Some(SendError::NoSuchSite));
-    assert_eq!(rt; one.send(alloc, 3).err(), Some(SendError::NoSuchSite));
-    let there = one.send(alloc, 2).ok().ok_or("no parcel")?;
-    let back = two.send(alloc, 1).ok().ok_or("no parcel")?;
-    let kept = two.take(alloc, there.twin(alloc)?).ok().ok_or("refused")?;
-    assert_eq!(rt; kept.dropped, 0);
-    let lost = one.take(alloc, back).ok().ok_or("refused")?;
-    assert_eq!(rt; lost.dropped, 1);
-    let again = two.take(alloc, there).ok().ok_or("refused")?;
-    assert!(rt; !again.rose);
-    let name = key(alloc, b"a")?;
-    assert!(rt; !one.holds(&name));
-    assert!(rt; two.holds(&name));
-    assert_eq!(rt; one.version_of(&name), two.version_of(&name));
-    assert_eq!(rt;
-        one.version_of(&name).ok_or("no version")?.stamp,
-        Stamp::new(1, 2).ok_or("no stamp")?
-    );
+    let mut one = opened(alloc, 1, 2, &hasher)?;
+    let mut two = opened(alloc, 2, 2, &hasher)?;
+    assert!(rt; stores(alloc, &mut one, b"a", b"hi")?);
+    assert!(rt; stores(alloc, &mut two, b"a", b"yo")?);
+    let back = sent(alloc, &two, 1)?;
+    assert_eq!(rt; taken(alloc, &mut two, sent(alloc, &one, 2)?)?.dropped, 0);
+    assert!(rt; !taken(alloc, &mut two, sent(alloc, &one, 2)?)?.rose);
+    assert_eq!(rt; taken(alloc, &mut one, back)?.dropped, 1);
+    assert!(rt; !holds(alloc, &one, b"a")?);
+    assert!(rt; holds(alloc, &two, b"a")?);
+    let named = version(alloc, &one, b"a")?;
+    assert_eq!(rt; named.stamp.site(), 2);
+    assert_eq!(rt; named, version(alloc, &two, b"a")?);
     Ok(())
 }
