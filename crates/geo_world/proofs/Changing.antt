@@ -19,7 +19,7 @@ use Rattle.geo_world.specs.Agreement.{Stands, Carries, Agrees}
 use Rattle.geo_world.proofs.Worlds.{some_same, some_none}
 
 -- an element after a write is the new one, or one that was there
-get_written : {A : Type 0} (xs : List A) (s : ℕ) (x : A) (k : ℕ) (y : A) → slice_get (slice_set xs s x) k ≡ Some y → ((k ≡ s) × (y ≡ x)) ⊎ ((k ≢ s) × (slice_get xs k ≡ Some y))
+pub get_written : {A : Type 0} (xs : List A) (s : ℕ) (x : A) (k : ℕ) (y : A) → slice_get (slice_set xs s x) k ≡ Some y → ((k ≡ s) × (y ≡ x)) ⊎ ((k ≢ s) × (slice_get xs k ≡ Some y))
 get_written [] s x k y h = absurd (some_none (sym h))
 get_written (a ∷ xs) zero x zero y h = inl (refl, some_same (sym h))
 get_written (a ∷ xs) zero x (suc k) y h = inr (omega arith, h)

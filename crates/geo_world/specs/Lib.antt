@@ -1,3 +1,4 @@
 pub mod Setups
 pub mod There
 pub mod Agreement
+pub mod Plain

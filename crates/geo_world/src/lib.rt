@@ -7,6 +7,7 @@
 
 mod open;
 mod outcome;
+pub mod plain;
 mod run;
 mod step;
 mod world;

@@ -1,4 +1,6 @@
-//! Schedules worked by hand.
+//! Schedules worked by hand, and seeded ones beside the plain program.
+mod seeded;
+
 use crate::{WorldError, are_in_time, run_schedule};
 use geo_grammar::{Reply, Request, ValueBytes, Verb};
 use geo_lattice::Items;

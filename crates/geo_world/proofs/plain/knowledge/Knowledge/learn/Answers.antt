@@ -1,0 +1,10 @@
+use Rattle.std.proofs.Common.{◌++◌, refl}
+use Rattle.geo_world.specs.declared.plain.knowledge.Knowledge.{Knowledge}
+use Rattle.geo_world.specs.Plain.{operations_of}
+use Rattle.geo_world.proofs.Knowing.{knows_learned}
+use Rattle.geo_world.proofs.plain.knowledge.Knowledge.learn.Goals as goal
+
+pub returns : goal.returns
+returns c = λ ops held k.
+    let between : Knowledge = record { ops = c.add_copies.new.to; changes = c.args.self.now.changes } in
+    c.in_ok-settle.ensures.settles (ops ++ operations_of c.args.known.now) held (knows_learned c.args.self.now between c.args.known.now c.in_ok-add_copies.ensures refl ops held k)

@@ -1,0 +1,5 @@
+use Rattle.geo_world.proofs.Meeting.{meets_more, counts_more}
+use Rattle.geo_world.proofs.plain.known.sites_without.Goals as goal
+
+pub loop-made-preserved : goal.loop-made-preserved
+loop-made-preserved c = (counts_more _ _ _ _ c.in_ok-push.ensures.items c.loop-made.invariant.0, meets_more _ _ _ c.in_ok-push.ensures.items c.new.ensures.items c.new-in-loop-made.ensures.items c.loop-made.invariant.1)

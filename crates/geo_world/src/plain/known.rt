@@ -1,0 +1,207 @@
+//! What all sites know along a schedule with its trace.
+ghost use Rattle.std.specs.Prelude.{[], ◌≡◌, ◌≤◌, ◌<◌, ◌^◌, ℕ, List, length, IfOk, map, true};
+ghost use Rattle.geo_site.specs.Schedule.{Known as Knowing, happens, known, nobody, issues, owes, learns, carried};
+ghost use Rattle.geo_site.specs.Entries.{is_done as is_done_by};
+ghost use Rattle.geo_world.specs.There.{is_site};
+ghost use Rattle.geo_world.specs.Plain.{operations_of, Meets};
+
+use crate::plain::knowledge::{Knowledge, copies};
+use crate::plain::meaning::latest;
+use crate::plain::operation::{Operation, Written};
+use crate::run::LAST_MOMENT;
+use geo_grammar::{Reply, Request};
+use geo_lattice::{Items, Twin};
+use geo_site::{Event, LONGEST_VALUE, Trace, expiry_at};
+use geo_stamp::{LAST_TIME, Stamp};
+use std::alloc::{AllocError, Global};
+
+/// What each site knows and holds, and for whom and with what each parcel was sent.
+#[derive(Drop)]
+pub struct Known {
+    pub sites: Vec<Knowledge>,
+    pub sent: Vec<(u8, Items<Operation>)>,
+}
+
+/// Why the plain program gives up.
+#[derive(Clone, Copy, Debug, PartialEq, Eq)]
+pub enum PlainError {
+    /// The event names a site or a parcel that is not there, or a moment after the last.
+    NotThere,
+    Memory,
+}
+
+fn is_done(reply: &Reply) -> bool
+    ensures { result ≡ is_done_by reply.now }
+{
+    !matches!(reply, Reply::OutOfMemory)
+}
+
+impl Known {
+    fn has(&self, site: u8) -> bool
+        ensures { result ≡ is_site (length self.now.sites.items) site }
+    {
+        site >= 1 && site as usize <= self.sites.len()
+    }
+
+    fn issue(
+        &mut self,
+        alloc: Global,
+        site: u8,
+        now: u64,
+        request: &Request,
+    ) -> Result<(), PlainError>
+        requires there { is_site (length self.old.sites.items) site ≡ true }
+        requires moment { now ≤ 2 ^ 40 }
+        ensures kept { IfOk result (λ _. (w : Knowing) → Meets self.old.sites.items self.old.sent.items w → Meets self.new.sites.items self.new.sent.items (issues w site (owes w site now request.now).1)) }
+        ensures as_many { length self.new.sites.items ≡ length self.old.sites.items }
+    {
+        let Request::Store {
+            key,
+            flags,
+            exptime,
+            bytes,
+            ..
+        } = request
+        else {
+            return Ok(());
+        };
+        if bytes.len() > LONGEST_VALUE {
+            return Ok(());
+        }
+        let clock = latest(self.sites[site as usize - 1].ops.as_slice());
+        if clock >= LAST_TIME {
+            return Ok(());
+        }
+        let Some(stamp) = Stamp::new(clock + 1, site) else {
+            return Err(PlainError::NotThere);
+        };
+        let (Ok(key), Ok(bytes)) = (key.twin(alloc), bytes.twin(alloc)) else {
+            return Err(PlainError::Memory);
+        };
+        let written = Written {
+            key,
+            bytes,
+            flags: *flags,
+            expiry: expiry_at(*exptime, now),
+        };
+        let at = &mut self.sites[site as usize - 1];
+        match at.write(alloc, stamp, written) {
+            Ok(()) => Ok(()),
+            Err(_) => Err(PlainError::Memory),
+        }
+    }
+
+    fn send(&mut self, alloc: Global, site: u8, to: u8) -> Result<(), AllocError>
+        requires there { is_site (length self.old.sites.items) site ≡ true }
+        ensures kept { IfOk result (λ _. (w : Knowing) → Meets self.old.sites.items self.old.sent.items w → Meets self.new.sites.items self.new.sent.items (happens w (Event.Send site to) Trace.Sent)) }
+        ensures as_many { length self.new.sites.items ≡ length self.old.sites.items }
+    {
+        let known = copies(alloc, self.sites[site as usize - 1].ops.as_slice())?;
+        self.sent.push((to, known))?;
+        Ok(())
+    }
+
+    fn learn(&mut self, alloc: Global, site: u8, parcel: usize) -> Result<(), AllocError>
+        requires there { is_site (length self.old.sites.items) site ≡ true }
+        requires sent { parcel < length self.old.sent.items }
+        ensures kept { IfOk result (λ _. (w : Knowing) → Meets self.old.sites.items self.old.sent.items w → Meets self.new.sites.items self.new.sent.items (learns w site (carried w parcel))) }
+        ensures as_many { length self.new.sites.items ≡ length self.old.sites.items }
+    {
+        let sent = &self.sent[parcel];
+        let at = &mut self.sites[site as usize - 1];
+        at.learn(alloc, sent.1.as_slice())?;
+        Ok(())
+    }
+
+    /// What an event with its trace adds.
+    fn happens(&mut self, alloc: Global, event: &Event, trace: &Trace) -> Result<(), PlainError>
+        ensures kept { IfOk result (λ _. (w : Knowing) → Meets self.old.sites.items self.old.sent.items w → Meets self.new.sites.items self.new.sent.items (happens w event.now trace.now)) }
+        ensures as_many { length self.new.sites.items ≡ length self.old.sites.items }
+    {
+        match (event, trace) {
+            (Event::Command { site, now, request }, Trace::Replied(reply)) => {
+                if !is_done(reply) {
+                    return Ok(());
+                }
+                if !self.has(*site) || *now > LAST_MOMENT {
+                    return Err(PlainError::NotThere);
+                }
+                self.issue(alloc, *site, *now, request)
+            }
+            (Event::Send { site, to }, Trace::Sent) => {
+                if !self.has(*site) {
+                    return Err(PlainError::NotThere);
+                }
+                match self.send(alloc, *site, *to) {
+                    Ok(()) => Ok(()),
+                    Err(_) => Err(PlainError::Memory),
+                }
+            }
+            (Event::Take { site, parcel }, Trace::Taken) => {
+                if !self.has(*site) || *parcel >= self.sent.len() {
+                    return Err(PlainError::NotThere);
+                }
+                match self.learn(alloc, *site, *parcel) {
+                    Ok(()) => Ok(()),
+                    Err(_) => Err(PlainError::Memory),
+                }
+            }
+            _ => Ok(()),
+        }
+    }
+
+    /// What events with their traces add, one after the other.
+    pub fn follow(
+        &mut self,
+        alloc: Global,
+        events: &[Event],
+        traces: &[Trace],
+    ) -> Result<(), PlainError>
+        ensures kept { IfOk result (λ _. (w : Knowing) → Meets self.old.sites.items self.old.sent.items w → Meets self.new.sites.items self.new.sent.items (known w events.now traces.now)) }
+        ensures as_many { length self.new.sites.items ≡ length self.old.sites.items }
+    {
+        match events {
+            [] => Ok(()),
+            [event, events @ ..] => match traces {
+                [] => Ok(()),
+                [trace, traces @ ..] => {
+                    self.happens(alloc, event, trace)?;
+                    self.follow(alloc, events, traces)
+                }
+            },
+        }
+    }
+}
+
+fn sites_without(alloc: Global, sites: usize) -> Result<Vec<Knowledge>, AllocError>
+    ensures { IfOk result (λ all. (length all.items ≡ sites) × Meets all.items [] nobody) }
+{
+    let mut all = Vec::new(alloc);
+    for made in 0..sites {
+        all.push(Knowledge {
+            ops: Vec::new(alloc),
+            changes: Vec::new(alloc),
+        })?;
+    }
+    Ok(all)
+}
+
+/// What so many sites know after the events with their traces: the definition as it stands, in lists.
+pub fn known_after(
+    alloc: Global,
+    sites: usize,
+    events: &[Event],
+    traces: &[Trace],
+) -> Result<Known, PlainError>
+    ensures { IfOk result (λ k. (length k.sites.items ≡ sites) × Meets k.sites.items k.sent.items (known nobody events.now traces.now)) }
+{
+    let Ok(sites) = sites_without(alloc, sites) else {
+        return Err(PlainError::Memory);
+    };
+    let mut all = Known {
+        sites,
+        sent: Vec::new(alloc),
+    };
+    all.follow(alloc, events, traces)?;
+    Ok(all)
+}
