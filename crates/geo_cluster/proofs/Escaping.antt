@@ -1,15 +1,13 @@
 -- What is printed is read back, and a text is read byte by byte.
-use Rattle.std.proofs.Common.{◌≡◌, ℕ, ◌+◌, ◌*◌, ◌/◌, ◌%◌, ◌<◌, ◌≢◌, Bool, true, false, cond, ltb, subst, List, [], ◌∷◌, ◌++◌, length, get_or, drop, Option, Some, None, refl, sym, ap, ◌∙◌, arith, append_assoc, inl, inr}
+use Rattle.std.proofs.Common.{◌≡◌, ℕ, ◌+◌, ◌*◌, ◌/◌, ◌%◌, ◌<◌, ◌≢◌, Bool, true, false, cond, ltb, subst, List, [], ◌∷◌, ◌++◌, Option, Some, refl, sym, ap, ◌∙◌, arith, inl, inr}
 use Rattle.std.specs.Option.{option_map}
 use Rattle.std.specs.List.{All}
 use Rattle.std.specs.Char.{digit_value}
 use Rattle.std.proofs.lemmas.List.Elements.{All-head, All-tail}
 use Rattle.std.proofs.lemmas.Bool.{cases_eq, cond-true, cond-false, lt-ltb, ne_eqb}
 use Rattle.std.proofs.lemmas.Bool.Decides.{nat_tests}
-use Rattle.geo_cluster.specs.Escapes.{hex_digit, is_printable, escaped_byte, escaped, turn, turn_escape, unescaped_on, unescaped_from, unescaped}
-use Rattle.geo_cluster.specs.declared.script.escape.Spot.{Spot}
-use Rattle.geo_cluster.specs.declared.script.escape.Spot.TheVariants.{Between, Backslash, Hex, HexDigit}
-use Rattle.geo_cluster.specs.declared.script.escape.Turn.{Turn}
+use Rattle.geo_cluster.specs.Escapes.{hex_digit, is_printable, escaped_byte, escaped, turn, unescaped_on, unescaped_from, unescaped}
+use Rattle.geo_cluster.specs.declared.script.escape.Spot.TheVariants.{Hex, HexDigit}
 use Rattle.geo_cluster.specs.declared.script.escape.Turn.TheVariants.{Gives, Leads, Fails}
 
 -- what a text spells, behind bytes that were spelt before it

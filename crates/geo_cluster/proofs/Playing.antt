@@ -1,12 +1,12 @@
 -- Lines that are played one after the other.
-use Rattle.std.proofs.Common.{◌≡◌, ℕ, ◌+◌, Bool, true, false, List, [], ◌∷◌, ◌++◌, length, take, Option, Some, None, refl, sym, ap, subst, ◌∙◌, arith, append_assoc, append-nil, length-append, ◌⊎◌, inl, inr, Result, Ok, Err, IfErr, IfSome, OnOk, zero, suc}
+use Rattle.std.proofs.Common.{◌≡◌, ℕ, ◌+◌, Bool, List, [], ◌∷◌, ◌++◌, length, take, Option, Some, None, refl, sym, ap, subst, ◌∙◌, arith, append_assoc, append-nil, length-append, ◌⊎◌, inl, inr, Result, Ok, Err, IfErr, IfSome, OnOk, IsTrue, zero, suc}
 use Rattle.std.specs.Result.{IsErrAnd}
 use Rattle.std.specs.Io.KnownBytes.{Appends}
 use Rattle.std.proofs.KnownBytes.{Appends-nil, Appends-trans}
 use Rattle.std.proofs.Math.Seq.{take-append-add}
 use Rattle.geo_cluster.specs.Lines.{lines_of}
-use Rattle.geo_cluster.specs.Scenes.{Scene, scene_of, opening}
-use Rattle.geo_cluster.specs.Runs.{PlaysLine, IsBadLine, Plays, Prints, IsBadAt, StopsFor, Advances, Stops, Performs, EndsFor, Ends, EndsAtLine, IsFresh}
+use Rattle.geo_cluster.specs.Scenes.{Scene, scene_of}
+use Rattle.geo_cluster.specs.Runs.{PlaysLine, Plays, Prints, IsBadAt, StopsFor, Advances, Stops, Performs, EndsFor, Ends, EndsAtLine, IsFresh, IsOfDevices}
 use Rattle.geo_cluster.specs.declared.script.fault.ScriptFault.{ScriptFault}
 use Rattle.geo_cluster.specs.declared.script.fault.ScriptFault.TheVariants.{BadLine, Memory, Read, Write}
 use Rattle.geo_cluster.specs.declared.script.run.Run.{Run}
@@ -262,3 +262,14 @@ pub run_performs : (outcome : Result (Unit {0}) ScriptFault) (a b : Run) (r : Op
 run_performs (Err e) a b r u v w fresh ok written = tt
 run_performs (Ok x) a b None u v w fresh ok written = tt
 run_performs (Ok x) a b (Some input) u v w fresh ok written = performs a b (lines_of input) u v w fresh ok written
+
+-- a device that failed stays so
+of_devices_kept : (e : ScriptFault) (input : Option (List ℕ)) (reader old new : Bool) → (IsTrue old → IsTrue new) → IsOfDevices e input reader old → IsOfDevices e input reader new
+of_devices_kept (BadLine n) input reader old new stays h = tt
+of_devices_kept Memory input reader old new stays h = tt
+of_devices_kept Read input reader old new stays h = h
+of_devices_kept Write input reader old new stays h = stays h
+
+pub run_blames : (outcome : Result (Unit {0}) ScriptFault) (input : Option (List ℕ)) (reader old new : Bool) → (IsTrue old → IsTrue new) → IfErr outcome (λ e. IsOfDevices e input reader old) → IfErr outcome (λ e. IsOfDevices e input reader new)
+run_blames (Ok x) input reader old new stays h = tt
+run_blames (Err e) input reader old new stays h = of_devices_kept e input reader old new stays h

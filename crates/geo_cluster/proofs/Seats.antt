@@ -1,6 +1,6 @@
 -- A site keeps its seat, whatever it answers and takes.
-use Rattle.std.proofs.Common.{◌≡◌, ℕ, ◌+◌, ◌≤◌, zero, suc, Bool, true, false, ◌&&◌, List, [], ◌∷◌, ◌++◌, length, slice_set, max, refl, sym, ap, subst, ◌∙◌, arith, length-set, append_assoc, append-nil}
-use Rattle.geo_stamp.specs.Vectors.{raised, vector_joined, greatest_of}
+use Rattle.std.proofs.Common.{◌≡◌, ℕ, zero, suc, Bool, true, false, ◌&&◌, List, [], ◌∷◌, ◌++◌, length, refl, sym, ap, subst, ◌∙◌, arith, length-set, append_assoc, append-nil}
+use Rattle.geo_stamp.specs.Vectors.{raised, vector_joined}
 use Rattle.geo_versions.specs.Operations.{Act}
 use Rattle.geo_site.specs.Machine.{SiteState, Same, issue, issue_all, take, Delta}
 use Rattle.geo_site.specs.declared.site.Site.{Site}
@@ -8,7 +8,7 @@ use Rattle.geo_site.specs.Sites.{state_in, delta_of, Takes}
 use Rattle.geo_delta.specs.declared.parcel.Parcel.{Parcel}
 use Rattle.std.proofs.lemmas.Bool.{eqb-true}
 use Rattle.geo_grammar.specs.declared.item.Item.{Item}
-use Rattle.geo_cluster.specs.Answering.{KeepsSeat, Answers, AnswersItem, AnswersItems}
+use Rattle.geo_cluster.specs.Answering.{Answers, AnswersItems}
 
 length-raised : (v : List ℕ) (j t : ℕ) → length (raised v j t) ≡ length v
 length-raised v zero t = refl

@@ -10,15 +10,21 @@ use Rattle.geo_site.specs.declared.refusal.TakeError.{TakeError}
 use Rattle.geo_site.specs.declared.refusal.TakeError.TheVariants.{NotForMe, UnknownSite, Gap, Memory}
 use Rattle.geo_cluster.specs.Prints.{refused_text}
 
--- a site keeps its number, and knows of as many sites
+-- a site's number, and of how many sites it knows: it keeps both
+abbrev pub number_of : Site → ℕ
+number_of site = site.number
+
+abbrev pub sites_of : Site → ℕ
+sites_of site = length (state_in site).vector
+
 abbrev pub KeepsSeat : Site → Site → Type 0
-KeepsSeat old new = (new.number ≡ old.number) × (length new.vector ≡ length old.vector)
+KeepsSeat old new = (number_of new ≡ number_of old) × (sites_of new ≡ sites_of old)
 
 -- a site at a moment answers an item: a request as it owes to it, a fault by its text
 abbrev pub Answers : Site → ℕ → Item → List ℕ → Site → Type 0
 Answers old now (Request request) answer new =
     (answer ≡ answer_bytes request (owed_in old now request).0)
-    × Same (issue_all old.number (owed_in old now request).1 (state_in old)) (state_in new)
+    × Same (issue_all (number_of old) (owed_in old now request).1 (state_in old)) (state_in new)
 Answers old now (Fault fault) answer new = (answer ≡ fault_bytes fault) × (new ≡ old)
 
 -- behind what was answered before

@@ -1,5 +1,5 @@
 -- What the lines of a script print.
-use Rattle.std.specs.Prelude.{ℕ, List, [], ◌∷◌, ◌++◌, codes, decimal}
+use Rattle.std.specs.Prelude.{ℕ, List, ◌++◌, codes, decimal}
 use Rattle.geo_cluster.specs.Escapes.{escaped}
 
 -- what a site answered to its client's bytes, on one line whatever it is

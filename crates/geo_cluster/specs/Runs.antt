@@ -1,8 +1,8 @@
 -- What a script does, line after line, and where it ends before its end.
-use Rattle.std.specs.Prelude.{◌≡◌, ℕ, ◌+◌, Bool, true, false, List, [], ◌∷◌, ◌++◌, length, take, Option, MatchOption}
+use Rattle.std.specs.Prelude.{◌≡◌, ◌⊎◌, ℕ, ◌+◌, ◌^◌, ◌≤◌, Bool, true, false, List, [], ◌∷◌, ◌++◌, length, take, Option, MatchOption, IfSome, IsTrue}
 use Rattle.std.specs.Bool.{MatchBool}
 use Rattle.std.specs.Io.KnownBytes.{Appends}
-use Rattle.geo_cluster.specs.Sayings.{Said, said, skips}
+use Rattle.geo_cluster.specs.Sayings.{said, skips}
 use Rattle.geo_cluster.specs.Scenes.{Scene, scene_of, opening, can_carry, Carries}
 use Rattle.geo_cluster.specs.declared.script.fault.ScriptFault.{ScriptFault}
 use Rattle.geo_cluster.specs.declared.script.fault.ScriptFault.TheVariants.{BadLine, Memory, Read, Write}
@@ -22,6 +22,24 @@ EndsAtLine (BadLine n) scene line number = IsBadLine scene line × (n ≡ number
 EndsAtLine Memory scene line number = Unit {0}
 EndsAtLine Read scene line number = ⊥
 EndsAtLine Write scene line number = ⊥
+
+-- a write that failed is the writer's, and within a piece nothing is read
+abbrev pub IsOfWriter : ScriptFault → Bool → Type 0
+IsOfWriter (BadLine n) failed = Unit {0}
+IsOfWriter Memory failed = Unit {0}
+IsOfWriter Read failed = ⊥
+IsOfWriter Write failed = IsTrue failed
+
+-- so many reads are not enough for an input that is at least as long
+abbrev pub IsLong : Option (List ℕ) → Type 0
+IsLong input = IfSome input (λ bytes. 2 ^ 48 ≤ length bytes)
+
+-- a read that failed is the reader's, unless the input is long; a write that failed is the writer's
+abbrev pub IsOfDevices : ScriptFault → Option (List ℕ) → Bool → Bool → Type 0
+IsOfDevices (BadLine n) input reader writer = Unit {0}
+IsOfDevices Memory input reader writer = Unit {0}
+IsOfDevices Read input reader writer = IsTrue reader ⊎ IsLong input
+IsOfDevices Write input reader writer = IsTrue writer
 
 -- a run before its first byte
 pub record IsFresh (run : Run) : Type 0 where

@@ -1,5 +1,6 @@
 -- What a script has set up, which of its lines can be carried out there, and what a line does.
-use Rattle.std.specs.Prelude.{◌≡◌, ℕ, ◌+◌, ◌-◌, ◌<◌, ◌==◌, nat_lt, nat_le, not, ◌&&◌, Bool, true, false, List, [], ◌∷◌, ◌++◌, length, slice_get, slice_set, Some}
+use Rattle.std.specs.Prelude.{◌≡◌, ℕ, ◌-◌, ◌==◌, nat_lt, nat_le, not, ◌&&◌, Bool, true, false, List, [], ◌∷◌, ◌++◌, length, slice_get, slice_set, Option, None, Some, Vec}
+use Rattle.std.specs.declared.alloc.Global.{Global}
 use Rattle.geo_delta.specs.declared.parcel.Parcel.{Parcel}
 use Rattle.geo_site.specs.Sites.{IsSent}
 use Rattle.geo_cluster.specs.Sayings.{Said, SaysSites, SaysAt, SaysClient, SaysSend, SaysTake}
@@ -82,3 +83,8 @@ Carries old (SaysAt m) text new = (text ≡ []) × (new ≡ record old { moment 
 Carries old (SaysClient s bytes) text new = Feeds old s bytes text new
 Carries old (SaysSend s t) text new = CutsParcel old s t text new
 Carries old (SaysTake s k) text new = Brings old s k text new
+
+-- what comes of a line: it is carried out and prints a text, or it can't be and changes nothing
+abbrev pub Meets : Scene → Said → Option (Vec ℕ Global) → Scene → Type 0
+Meets old line None new = (can_carry old line ≡ false) × (new ≡ old)
+Meets old line (Some text) new = (can_carry old line ≡ true) × Carries old line text.items new

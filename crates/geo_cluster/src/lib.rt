@@ -6,7 +6,7 @@
 //! protocol, and knows nothing of sockets or threads.
 #![tactic(auto)]
 
-pub mod script;
+mod script;
 
 pub use script::escape::{escape, unescape};
 pub use script::fault::ScriptFault;

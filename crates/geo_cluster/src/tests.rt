@@ -1,5 +1,5 @@
 //! Whole scripts, with what they write and how they end, worked out by hand.
-use crate::{ScriptFault, run_script};
+use crate::{Line, ScriptFault, escape, is_skipped, parse_line, run_script, unescape};
 use geo_grammar::Device;
 use std::hash::RandomState;
 use std::io::{Error, ErrorKind, Read, Result as IoResult, Write};
@@ -254,6 +254,26 @@ fn stores_and_agrees(rt: HostRuntime) -> Result<(), Fail> {
     ];
     for case in &cases {
         assert!(rt; is_met(&rt, case)?, "{}", case.name);
+    }
+    Ok(())
+}
+
+#[test]
+fn spells_bytes(rt: HostRuntime) -> Result<(), Fail> {
+    let text = escape(rt.alloc(), b"a\r\n\\~\x7f\xff")?;
+    assert_eq!(rt; text.as_slice(), b"a\\r\\n\\\\~\\x7f\\xff".as_slice());
+    let bytes = unescape(rt.alloc(), b"\\x4A\\x4a\\n")?.ok_or("an escape was not read")?;
+    assert_eq!(rt; bytes.as_slice(), b"JJ\n".as_slice());
+    Ok(())
+}
+
+#[test]
+fn reads_a_line(rt: HostRuntime) -> Result<(), Fail> {
+    assert!(rt; is_skipped(b"# take 2 13"));
+    assert!(rt; !is_skipped(b"take 2 13"));
+    match parse_line(rt.alloc(), b"take 2 13")? {
+        Some(Line::Take { site, parcel }) => assert_eq!(rt; (site, parcel), (2, 13)),
+        _ => panic!(rt; "another line was read"),
     }
     Ok(())
 }

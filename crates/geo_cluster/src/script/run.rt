@@ -1,8 +1,8 @@
 //! A script from its first byte to its last.
-ghost use Rattle.std.specs.Prelude.{◌≡◌, ℕ, ◌+◌, ◌^◌, ◌<◌, ◌≤◌, List, [], ◌∷◌, ◌++◌, length, take, vec_len, IfErr, IfOk, IfSome, OnOk};
+ghost use Rattle.std.specs.Prelude.{◌≡◌, ℕ, ◌+◌, ◌^◌, ◌<◌, ◌≤◌, List, [], ◌∷◌, ◌++◌, length, take, vec_len, IfErr, IfOk, IfSome, OnErr, OnOk, IsTrue};
 ghost use Rattle.std.specs.Io.KnownBytes.{Appends};
 ghost use Rattle.geo_cluster.specs.Lines.{ended_in, left_in, lines_of};
-ghost use Rattle.geo_cluster.specs.Runs.{Performs, Ends};
+ghost use Rattle.geo_cluster.specs.Runs.{Performs, Ends, IsOfDevices};
 
 use crate::script::cut::cut_at;
 use crate::script::fault::ScriptFault;
@@ -43,7 +43,7 @@ struct Run {
 
 impl Run {
     ghost use Rattle.geo_cluster.specs.Scenes.{scene_of};
-    ghost use Rattle.geo_cluster.specs.Runs.{PlaysLine, EndsAtLine, IsFresh, Advances, Stops};
+    ghost use Rattle.geo_cluster.specs.Runs.{PlaysLine, EndsAtLine, IsFresh, Advances, Stops, IsOfWriter, IsOfDevices};
 
     fn new(alloc: Global, hasher: RandomState) -> Run
         ensures { IsFresh result }
@@ -60,6 +60,8 @@ impl Run {
     fn flush<W: Write>(&mut self, alloc: Global, writer: &mut Device<W>) -> Result<(), ScriptFault>
         ensures ok { OnOk result (Appends (W.contents writer.old.inner) (W.contents writer.new.inner) self.old.out.items) }
         ensures err { IfErr result (λ e. (e ≡ ScriptFault.Write) × ((n : ℕ) × Appends (W.contents writer.old.inner) (W.contents writer.new.inner) (take n self.old.out.items))) }
+        ensures failed { OnErr result (IsTrue writer.new.failed) }
+        ensures stays { IsTrue writer.old.failed → IsTrue writer.new.failed }
         ensures empty { self.new.out.items ≡ [] }
         ensures rest { self.new ≡ record self.old { out = self.new.out } }
     {
@@ -96,6 +98,7 @@ impl Run {
         requires { self.old.lines + 1 < 2 ^ 64 }
         ensures ok { OnOk result (Advances self.old self.new ((self.old.unfinished.items ++ front.now) ∷ []) (W.contents writer.old.inner) (W.contents writer.new.inner)) }
         ensures err { IfErr result (λ e. Stops e self.old ((self.old.unfinished.items ++ front.now) ∷ []) (W.contents writer.old.inner) (W.contents writer.new.inner) self.new.out.items) }
+        ensures failed { IfErr result (λ e. IsOfWriter e writer.new.failed) }
         ensures ended { OnOk result ((self.new.unfinished.items ≡ []) × (self.new.lines ≡ self.old.lines + 1)) }
     {
         self.unfinished.extend_from_slice(front)?;
@@ -118,6 +121,7 @@ impl Run {
         requires { self.old.lines + length piece.now < 2 ^ 64 }
         ensures ok { OnOk result (Advances self.old self.new (ended_in self.old.unfinished.items piece.now) (W.contents writer.old.inner) (W.contents writer.new.inner)) }
         ensures err { IfErr result (λ e. Stops e self.old (ended_in self.old.unfinished.items piece.now) (W.contents writer.old.inner) (W.contents writer.new.inner) self.new.out.items) }
+        ensures failed { IfErr result (λ e. IsOfWriter e writer.new.failed) }
         ensures left { OnOk result (self.new.unfinished.items ≡ left_in self.old.unfinished.items piece.now) }
         ensures few { OnOk result (self.new.lines ≤ self.old.lines + length piece.now) }
     {
@@ -140,6 +144,7 @@ impl Run {
         requires { IsFresh self.old }
         ensures ok { OnOk result (IfSome (R.remaining reader.old.inner) (λ input. Advances self.old self.new (lines_of input) (W.contents writer.old.inner) (W.contents writer.new.inner))) }
         ensures err { IfErr result (λ e. IfSome (R.remaining reader.old.inner) (λ input. Stops e self.old (lines_of input) (W.contents writer.old.inner) (W.contents writer.new.inner) self.new.out.items)) }
+        ensures failed { IfErr result (λ e. IsOfDevices e (R.remaining reader.old.inner) reader.new.failed writer.new.failed) }
     {
         let mut buffer = piece_buffer(alloc)?;
         for _read in 0..MOST_READS {
@@ -164,6 +169,8 @@ impl Run {
 fn write_all<W: Write>(writer: &mut Device<W>, bytes: &[u8]) -> Result<(), ScriptFault>
     ensures ok { OnOk result (Appends (W.contents writer.old.inner) (W.contents writer.new.inner) bytes.now) }
     ensures err { IfErr result (λ e. (e ≡ ScriptFault.Write) × ((n : ℕ) × Appends (W.contents writer.old.inner) (W.contents writer.new.inner) (take n bytes.now))) }
+    ensures failed { OnErr result (IsTrue writer.new.failed) }
+    ensures stays { IsTrue writer.old.failed → IsTrue writer.new.failed }
 {
     let mut at = 0;
     while at < bytes.len() {
@@ -186,6 +193,7 @@ pub fn run_script<R: Read, W: Write>(
 ) -> Result<(), ScriptFault>
     ensures ok { OnOk result (IfSome (R.remaining reader.old.inner) (λ input. Performs (lines_of input) (W.contents writer.old.inner) (W.contents writer.new.inner))) }
     ensures err { IfErr result (λ e. IfSome (R.remaining reader.old.inner) (λ input. Ends e (lines_of input) (W.contents writer.old.inner) (W.contents writer.new.inner))) }
+    ensures failed { IfErr result (λ e. IsOfDevices e (R.remaining reader.old.inner) reader.new.failed writer.new.failed) }
 {
     let mut run = Run::new(alloc, hasher);
     let outcome = run.read_all(alloc, reader, writer);

@@ -38,7 +38,7 @@ pub struct Stage {
 }
 
 impl Stage {
-    ghost use Rattle.geo_cluster.specs.Scenes.{opening, scene_of, has_site, can_carry, Carries};
+    ghost use Rattle.geo_cluster.specs.Scenes.{opening, scene_of, has_site, Meets};
 
     /// No sites yet, and the moment 1.
     pub fn new(alloc: Global, hasher: RandomState) -> Stage
@@ -56,8 +56,7 @@ impl Stage {
     /// Want of memory may leave the line half done.
     pub fn carry_out(&mut self, alloc: Global, line: Line) -> Result<Option<Vec<u8>>, AllocError>
         requires { IsInRange line }
-        ensures bad { IfOk result (λ o. IfNone o ((can_carry (scene_of self.old) (said_by line) ≡ false) × (scene_of self.new ≡ scene_of self.old))) }
-        ensures carried { IfOk result (λ o. IfSome o (λ text. (can_carry (scene_of self.old) (said_by line) ≡ true) × Carries (scene_of self.old) (said_by line) text.items (scene_of self.new))) }
+        ensures { IfOk result (λ o. Meets (scene_of self.old) (said_by line) o (scene_of self.new)) }
     {
         match line {
             Line::Sites(count) => self.set_up(alloc, count),
@@ -82,8 +81,7 @@ impl Stage {
     fn set_up(&mut self, alloc: Global, count: u8) -> Result<Option<Vec<u8>>, AllocError>
         requires least { 1 ≤ count }
         requires most { count ≤ 16 }
-        ensures bad { IfOk result (λ o. IfNone o ((can_carry (scene_of self.old) (SaysSites count) ≡ false) × (scene_of self.new ≡ scene_of self.old))) }
-        ensures carried { IfOk result (λ o. IfSome o (λ text. (can_carry (scene_of self.old) (SaysSites count) ≡ true) × Carries (scene_of self.old) (SaysSites count) text.items (scene_of self.new))) }
+        ensures { IfOk result (λ o. Meets (scene_of self.old) (SaysSites count) o (scene_of self.new)) }
     {
         if !self.posts.is_empty() {
             return Ok(None);
@@ -94,8 +92,7 @@ impl Stage {
 
     fn set_moment(&mut self, alloc: Global, moment: u64) -> Option<Vec<u8>>
         requires { moment ≤ 2 ^ 40 }
-        ensures bad { IfNone result ((can_carry (scene_of self.old) (SaysAt moment) ≡ false) × (scene_of self.new ≡ scene_of self.old)) }
-        ensures carried { IfSome result (λ text. (can_carry (scene_of self.old) (SaysAt moment) ≡ true) × Carries (scene_of self.old) (SaysAt moment) text.items (scene_of self.new)) }
+        ensures { Meets (scene_of self.old) (SaysAt moment) result (scene_of self.new) }
     {
         if self.posts.is_empty() {
             return None;
@@ -105,8 +102,7 @@ impl Stage {
     }
 
     fn feed(&mut self, alloc: Global, site: u8, bytes: &[u8]) -> Result<Option<Vec<u8>>, AllocError>
-        ensures bad { IfOk result (λ o. IfNone o ((can_carry (scene_of self.old) (SaysClient site bytes.now) ≡ false) × (scene_of self.new ≡ scene_of self.old))) }
-        ensures carried { IfOk result (λ o. IfSome o (λ text. (can_carry (scene_of self.old) (SaysClient site bytes.now) ≡ true) × Carries (scene_of self.old) (SaysClient site bytes.now) text.items (scene_of self.new))) }
+        ensures { IfOk result (λ o. Meets (scene_of self.old) (SaysClient site bytes.now) o (scene_of self.new)) }
     {
         let Some(at) = self.place(site) else {
             return Ok(None);
@@ -117,8 +113,7 @@ impl Stage {
 
     fn send(&mut self, alloc: Global, from: u8, to: u8) -> Result<Option<Vec<u8>>, AllocError>
         requires { from ≢ to }
-        ensures bad { IfOk result (λ o. IfNone o ((can_carry (scene_of self.old) (SaysSend from to) ≡ false) × (scene_of self.new ≡ scene_of self.old))) }
-        ensures carried { IfOk result (λ o. IfSome o (λ text. (can_carry (scene_of self.old) (SaysSend from to) ≡ true) × Carries (scene_of self.old) (SaysSend from to) text.items (scene_of self.new))) }
+        ensures { IfOk result (λ o. Meets (scene_of self.old) (SaysSend from to) o (scene_of self.new)) }
     {
         let Some(at) = self.place(from) else {
             return Ok(None);
@@ -133,8 +128,7 @@ impl Stage {
     }
 
     fn take(&mut self, alloc: Global, site: u8, parcel: u64) -> Result<Option<Vec<u8>>, AllocError>
-        ensures bad { IfOk result (λ o. IfNone o ((can_carry (scene_of self.old) (SaysTake site parcel) ≡ false) × (scene_of self.new ≡ scene_of self.old))) }
-        ensures carried { IfOk result (λ o. IfSome o (λ text. (can_carry (scene_of self.old) (SaysTake site parcel) ≡ true) × Carries (scene_of self.old) (SaysTake site parcel) text.items (scene_of self.new))) }
+        ensures { IfOk result (λ o. Meets (scene_of self.old) (SaysTake site parcel) o (scene_of self.new)) }
     {
         let Some(at) = self.place(site) else {
             return Ok(None);

@@ -1,4 +1,4 @@
-use Rattle.std.proofs.Common.{◌≡◌, Some, take, drop, sym, ap, ◌∙◌, None}
+use Rattle.std.proofs.Common.{Some, None}
 use Rattle.geo_cluster.proofs.Cutting.{position_says, cut_none, cut_some}
 use Rattle.geo_cluster.proofs.script.cut.cut_at.Goals as goal
 

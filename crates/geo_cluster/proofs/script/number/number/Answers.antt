@@ -1,4 +1,4 @@
-use Rattle.std.proofs.Common.{rules, arith, ◌≡◌, ℕ, ◌<◌, ◌+◌, ◌*◌, ◌-◌, get_or, sym, ◌∙◌}
+use Rattle.std.proofs.Common.{rules, arith}
 use Rattle.geo_cluster.proofs.Digits.{number_over}
 use Rattle.geo_cluster.proofs.script.number.number.Goals as goal
 

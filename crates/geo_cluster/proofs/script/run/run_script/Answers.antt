@@ -1,4 +1,4 @@
-use Rattle.geo_cluster.proofs.Playing.{at_err, run_cut, run_ends}
+use Rattle.geo_cluster.proofs.Playing.{at_err, run_cut, run_ends, run_blames}
 use Rattle.std.proofs.Common.{sym, subst, IfSome}
 use Rattle.geo_cluster.specs.Lines.{lines_of}
 use Rattle.geo_cluster.specs.Runs.{Ends}
@@ -26,3 +26,8 @@ returns-clause-err g c =
     let w = g.W.Write.contents c.flush.new.writer.inner in
     let r = g.R.Read.remaining c.args.reader.now.inner in
     run_ends c.read_all-outcome.result c.new-run.result c.read_all-outcome.new.self r u v w c.new-run.ensures all.err c.in_ok-flush.ensures.ok
+
+pub returns-clause-failed : goal.returns-clause-failed
+returns-clause-failed g c =
+    run_blames c.read_all-outcome.result (g.R.Read.remaining c.args.reader.now.inner) c.read_all-outcome.new.reader.failed c.read_all-outcome.new.writer.failed c.flush.new.writer.failed
+    c.flush.ensures.stays c.read_all-outcome.ensures.failed

@@ -1,4 +1,4 @@
-use Rattle.std.proofs.Common.{rules, ◌≡◌, ℕ, ◌+◌, ◌++◌, ◌∷◌, [], List, length, arith, sym, ap, subst, ◌∙◌, length-append}
+use Rattle.std.proofs.Common.{◌≡◌, ℕ, ◌+◌, ◌++◌, ◌∷◌, [], List, length, sym, ap, subst, ◌∙◌, length-append}
 use Rattle.geo_cluster.specs.Posts.{AreOpened, IsOpened}
 use Rattle.geo_cluster.specs.declared.script.post.Post.{Post}
 use Rattle.geo_cluster.proofs.Stages.{opened_push}

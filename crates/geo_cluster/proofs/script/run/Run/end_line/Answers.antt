@@ -1,4 +1,4 @@
-use Rattle.std.proofs.Common.{rules, ◌≡◌, ◌+◌, ◌++◌, ◌∷◌, [], List, ℕ, sym, ap, subst, ◌∙◌}
+use Rattle.std.proofs.Common.{rules, ◌≡◌, ◌+◌, ◌++◌, ◌∷◌, [], List, ℕ, subst}
 use Rattle.geo_cluster.specs.Scenes.{scene_of}
 use Rattle.geo_cluster.specs.Runs.{Advances, EndsAtLine, PlaysLine}
 use Rattle.geo_cluster.proofs.Playing.{at_err, stop_line, stop_written, advance_one, advance_written}

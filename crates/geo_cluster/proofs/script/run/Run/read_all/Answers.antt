@@ -1,8 +1,8 @@
-use Rattle.std.proofs.Common.{rules, arith, refl, ◌≡◌, ◌+◌, ◌<◌, ◌++◌, ◌∷◌, [], List, ℕ, length, take, inl, inr, sym, ap, subst, ◌∙◌, append-nil}
+use Rattle.std.proofs.Common.{rules, arith, refl, ◌≡◌, ◌<◌, ◌++◌, [], List, ℕ, length, take, inl, inr, sym, ap, subst, ◌∙◌, length-append}
 use Rattle.std.specs.Io.KnownBytes.{Consumes, IsAtEnd}
 use Rattle.std.proofs.KnownBytes.{Consumes-nil}
-use Rattle.geo_cluster.specs.Lines.{ended_in, left_in}
-use Rattle.geo_cluster.specs.Runs.{Advances, Stops}
+use Rattle.geo_cluster.specs.Lines.{ended_in}
+use Rattle.geo_cluster.specs.Runs.{Advances}
 use Rattle.geo_cluster.specs.declared.script.fault.ScriptFault.TheVariants.{Memory, Read}
 use Rattle.geo_cluster.specs.declared.script.run.Run.{Run}
 use Rattle.geo_cluster.proofs.Playing.{at_err, stop_here, stop_now, stop_written, advance_written}
@@ -142,6 +142,7 @@ loop-read-preserved g c =
       left = ap (λ (x : Run). x.unfinished.items) rest ∙ piece_left b inv.input piece d.unfinished.items inv.left c.in_ok-take_piece.ensures.left;
       advances = advance_written a d e (ended_in [] (inv.input ++ piece)) u v' w advances c.in_ok-flush.ensures.ok c.in_ok-flush.ensures.empty rest;
       few = omega (arith, lines, inv.few, c.in_ok-take_piece.ensures.few, c.split_at.ensures.front_len, c.in-Ok.ensures.bound.0, c.as_mut_slice.ensures.len, c.read.auto.buf, inv.room);
+      long = omega (arith, inv.long, c.if-count-eq0.false, c.split_at.ensures.front_len, length-append inv.input piece);
       room = inv.room;
     }
 

@@ -1,4 +1,4 @@
-use Rattle.std.proofs.Common.{◌≡◌, ◌*◌, ◌≤◌, ◌++◌, List, ℕ, [], vec_len}
+use Rattle.std.proofs.Common.{◌≡◌, ◌*◌, ◌≤◌, List, ℕ, [], vec_len, length}
 use Rattle.std.specs.Io.KnownBytes.{Consumes}
 use Rattle.geo_cluster.specs.Lines.{ended_in, left_in}
 use Rattle.geo_cluster.specs.Runs.{Advances}
@@ -11,5 +11,6 @@ invariant-loop-read g l = record {
   left : l.self.unfinished.items ≡ left_in [] input;
   advances : Advances l.fn.self l.self (ended_in [] input) (g.W.Write.contents l.fn.writer.inner) (g.W.Write.contents l.writer.inner);
   few : l.self.lines ≤ l._read * 16384;
+  long : l._read ≤ length input;
   room : vec_len l.buffer ≡ 16384;
 }

@@ -1,6 +1,6 @@
-use Rattle.std.proofs.Common.{rules, arith, ◌≡◌, ◌+◌, ◌++◌, ◌∷◌, [], List, ℕ, length, sym, ap, subst, ◌∙◌, append_assoc, append-nil}
+use Rattle.std.proofs.Common.{arith, ◌≡◌, ◌++◌, ◌∷◌, [], List, ℕ, sym, ap, subst, ◌∙◌, append_assoc, append-nil}
 use Rattle.geo_cluster.specs.Lines.{ended_in, left_in}
-use Rattle.geo_cluster.specs.Runs.{Advances, Stops}
+use Rattle.geo_cluster.specs.Runs.{Stops}
 use Rattle.geo_cluster.proofs.Cutting.{cut_some_says, cut_none_says}
 use Rattle.geo_cluster.proofs.Playing.{at_err, advance_then, stop_after, stop_more}
 use Rattle.geo_cluster.proofs.script.run.Run.take_piece.Goals as goal

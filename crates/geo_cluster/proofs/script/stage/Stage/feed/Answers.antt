@@ -1,10 +1,9 @@
-use Rattle.std.proofs.Common.{rules, ap, ◌∙◌}
-use Rattle.geo_cluster.specs.Scenes.{Scene}
+use Rattle.std.proofs.Common.{rules, ap}
 use Rattle.geo_cluster.proofs.Stages.{get_at, set_at}
 use Rattle.geo_cluster.proofs.script.stage.Stage.feed.Goals as goal
 
-pub returns-clause-carried : goal.returns-clause-carried
-returns-clause-carried c =
+pub returns : goal.returns
+returns c =
     let posts = c.args.self.now.posts.items in
     let found = c.in-Some.ensures in (
       found.0,

@@ -8,8 +8,8 @@ invariant_of-self-clause-numbered c =
     let found = c.in-Some.ensures in
     numbered_set c.args.self.now.posts.items c.in-Some.at c.index_mut.result.now c.take.new.self c.args.self.now.numbered found.2 c.index_mut.ensures.value c.take.ensures.seat
 
-pub returns-clause-carried : goal.returns-clause-carried
-returns-clause-carried c =
+pub returns : goal.returns
+returns c =
     let posts = c.args.self.now.posts.items in
     let parcels = c.args.self.now.parcels.items in
     let found = c.in-Some.ensures in (
