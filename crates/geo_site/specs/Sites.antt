@@ -38,6 +38,10 @@ state_in site = record {
   held = λ key. get same_key site.held key;
 }
 
+-- the most records that it may keep
+abbrev pub most_records : Site → ℕ
+most_records site = site.max_records
+
 -- what it owes to a request at a moment
 abbrev pub owed_in : Site → ℕ → Request → Reply × List Act
 owed_in site now request = owed (clock_of (state_in site)) now (visible_in (state_in site) now) request

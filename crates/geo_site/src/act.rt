@@ -7,7 +7,7 @@ ghost use Rattle.geo_stamp.specs.Stamps.{last_time};
 ghost use Rattle.geo_versions.specs.Keys.{same_key};
 ghost use Rattle.geo_site.specs.Entries.{longest_value, found_at, found_of, Answers, is_done};
 ghost use Rattle.geo_site.specs.Machine.{Same, clock_of, issue, issue_all, visible_in};
-ghost use Rattle.geo_site.specs.Sites.{state_in, owed_in, StoreDoes, WriteDoes};
+ghost use Rattle.geo_site.specs.Sites.{state_in, owed_in, most_records, StoreDoes, WriteDoes};
 
 use crate::blob::Blob;
 use crate::expiry::{expiry_at, is_live};
@@ -41,6 +41,7 @@ impl Site {
         ensures done { is_done result ≡ true → Same (issue_all self.old.number (owed_in self.old now request.now).1 (state_in self.old)) (state_in self.new) }
         ensures refused { is_done result ≡ false → Same (state_in self.old) (state_in self.new) }
         ensures number { self.new.number ≡ self.old.number }
+        ensures limit { most_records self.new ≡ most_records self.old }
     {
         match request {
             Request::Store {
@@ -72,6 +73,7 @@ impl Site {
         requires moment { now ≤ 2 ^ 40 }
         ensures does { StoreDoes self.old self.new now key.now flags exptime bytes.now result }
         ensures number { self.new.number ≡ self.old.number }
+        ensures limit { most_records self.new ≡ most_records self.old }
     {
         if bytes.len() > LONGEST_VALUE {
             return Reply::TooLarge;
@@ -108,6 +110,7 @@ impl Site {
         ensures written { OnOk result (WriteDoes self.old self.new key.now flags expiry bytes.now) }
         ensures err { OnErr result (Same (state_in self.old) (state_in self.new)) }
         ensures number { self.new.number ≡ self.old.number }
+        ensures limit { most_records self.new ≡ most_records self.old }
     {
         let blob = Blob::new(bytes.twin(alloc)?);
         let own_key = key.twin(alloc)?;
