@@ -1,11 +1,13 @@
 -- The plain program's operations, as those of the definitions.
-use Rattle.std.specs.Prelude.{◌≡◌, ℕ, ◌+◌, cond, List, [], ◌∷◌, Option, None, Some, map, slice_get}
+use Rattle.std.specs.Prelude.{◌≡◌, ℕ, ◌+◌, Bool, ◌&&◌, cond, List, [], ◌∷◌, Option, None, Some, map, slice_get}
 use Rattle.std.specs.Borrow.{Bor}
 use Rattle.geo_stamp.specs.Stamps.{Moment}
 use Rattle.geo_versions.specs.declared.version.Version.{Version}
 use Rattle.geo_versions.specs.Keys.{same_key}
 use Rattle.geo_site.specs.Entries.{Held, named_by, Entry, cas_of}
 use Rattle.geo_site.specs.Schedule.{Known}
+use Rattle.geo_site.specs.declared.event.Event.{Event}
+use Rattle.geo_world.specs.There.{is_there, is_in_time}
 use Rattle.geo_versions.specs.Operations as spec
 use Rattle.geo_world.specs.declared.plain.operation.Written.{Written}
 use Rattle.geo_world.specs.declared.plain.operation.Act.{Act}
@@ -63,3 +65,7 @@ lent (Some bytes) = Some bytes.now
 abbrev pub entry_shown : Option (Bor (List ℕ) × Version) → Option Entry
 entry_shown None = None
 entry_shown (Some (bytes, v)) = Some (record { bytes = bytes.now; flags = v.flags; expiry = v.expiry; unique = cas_of v.stamp })
+
+-- an event that can be followed: it is there, and its moment is in range
+abbrev pub can_follow : ℕ → ℕ → Event → Bool
+can_follow sites parcels event = is_there sites parcels event && is_in_time event

@@ -1,9 +1,9 @@
 //! What all sites know along a schedule with its trace.
-ghost use Rattle.std.specs.Prelude.{[], ◌≡◌, ◌≤◌, ◌<◌, ◌^◌, ℕ, List, length, IfOk, map, true};
+ghost use Rattle.std.specs.Prelude.{[], ◌≡◌, ◌≤◌, ◌<◌, ◌^◌, ℕ, List, length, IfOk, IfErr, map, true, false};
 ghost use Rattle.geo_site.specs.Schedule.{Known as Knowing, happens, known, nobody, issues, owes, learns, carried};
 ghost use Rattle.geo_site.specs.Entries.{is_done as is_done_by};
-ghost use Rattle.geo_world.specs.There.{is_site};
-ghost use Rattle.geo_world.specs.Plain.{operations_of, Meets};
+ghost use Rattle.geo_world.specs.There.{is_site, all_in_time, EachThere};
+ghost use Rattle.geo_world.specs.Plain.{operations_of, Meets, can_follow};
 
 use crate::plain::knowledge::{Knowledge, copies};
 use crate::plain::meaning::latest;
@@ -25,7 +25,7 @@ pub struct Known {
 /// Why the plain program gives up.
 #[derive(Clone, Copy, Debug, PartialEq, Eq)]
 pub enum PlainError {
-    /// The event names a site or a parcel that is not there, or a moment after the last.
+    /// There are more than 16 sites, or the event names a site or a parcel that is not there, or a moment after the last.
     NotThere,
     Memory,
 }
@@ -52,7 +52,9 @@ impl Known {
     ) -> Result<(), PlainError>
         requires there { is_site (length self.old.sites.items) site ≡ true }
         requires moment { now ≤ 2 ^ 40 }
+        requires few { length self.old.sites.items ≤ 16 }
         ensures kept { IfOk result (λ _. (w : Knowing) → Meets self.old.sites.items self.old.sent.items w → Meets self.new.sites.items self.new.sent.items (issues w site (owes w site now request.now).1)) }
+        ensures memory { IfErr result (λ e. e ≡ PlainError.Memory) }
         ensures as_many { length self.new.sites.items ≡ length self.old.sites.items }
     {
         let Request::Store {
@@ -115,7 +117,9 @@ impl Known {
 
     /// What an event with its trace adds.
     fn happens(&mut self, alloc: Global, event: &Event, trace: &Trace) -> Result<(), PlainError>
+        requires few { length self.old.sites.items ≤ 16 }
         ensures kept { IfOk result (λ _. (w : Knowing) → Meets self.old.sites.items self.old.sent.items w → Meets self.new.sites.items self.new.sent.items (happens w event.now trace.now)) }
+        ensures missing { IfErr result (λ e. e ≡ PlainError.NotThere → can_follow (length self.old.sites.items) (length self.old.sent.items) event.now ≡ false) }
         ensures as_many { length self.new.sites.items ≡ length self.old.sites.items }
     {
         match (event, trace) {
@@ -157,7 +161,9 @@ impl Known {
         events: &[Event],
         traces: &[Trace],
     ) -> Result<(), PlainError>
+        requires few { length self.old.sites.items ≤ 16 }
         ensures kept { IfOk result (λ _. (w : Knowing) → Meets self.old.sites.items self.old.sent.items w → Meets self.new.sites.items self.new.sent.items (known w events.now traces.now)) }
+        ensures missing { IfErr result (λ e. e ≡ PlainError.NotThere → (w : Knowing) → Meets self.old.sites.items self.old.sent.items w → EachThere (length self.old.sites.items) w events.now traces.now → all_in_time events.now ≡ true → ⊥) }
         ensures as_many { length self.new.sites.items ≡ length self.old.sites.items }
     {
         match events {
@@ -193,8 +199,12 @@ pub fn known_after(
     events: &[Event],
     traces: &[Trace],
 ) -> Result<Known, PlainError>
-    ensures { IfOk result (λ k. (length k.sites.items ≡ sites) × Meets k.sites.items k.sent.items (known nobody events.now traces.now)) }
+    ensures known { IfOk result (λ k. (length k.sites.items ≡ sites) × Meets k.sites.items k.sent.items (known nobody events.now traces.now)) }
+    ensures missing { IfErr result (λ e. e ≡ PlainError.NotThere → sites ≤ 16 → EachThere sites nobody events.now traces.now → all_in_time events.now ≡ true → ⊥) }
 {
+    if sites > 16 {
+        return Err(PlainError::NotThere);
+    }
     let Ok(sites) = sites_without(alloc, sites) else {
         return Err(PlainError::Memory);
     };
