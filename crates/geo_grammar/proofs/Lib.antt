@@ -1,4 +1,4 @@
 pub mod Splitting
-pub mod Digits
 pub mod Turns
 pub mod Whole
+pub mod Ends

@@ -1,18 +1,19 @@
 -- What a piece of bytes does from a place on.
-use Rattle.std.proofs.Common.{◌≡◌, ℕ, suc, ◌+◌, ◌-◌, ◌<◌, ◌≤◌, true, eqb, List, [], ◌∷◌, ◌++◌, length, get_or, take, drop, refl, sym, ap, ◌∙◌, append_assoc, arith}
-use Rattle.std.specs.Option.{MatchOption, is_none}
-use Rattle.std.proofs.Common.{Option, Some, None}
-use Rattle.std.proofs.lemmas.Bool.{cond-true, cond-false, le-ltb, lt-ltb, ne_eqb, eq-eqb, eqb-true}
+use Rattle.std.proofs.Common.{◌≡◌, ℕ, suc, ◌+◌, ◌-◌, ◌<◌, ◌≤◌, true, eqb, List, [], ◌∷◌, ◌++◌, length, get_or, take, drop, refl, sym, ap, ◌∙◌, append_assoc, arith, inl, inr}
+use Rattle.std.proofs.Math.Seq.{drop-append-add}
+use Rattle.std.proofs.lemmas.Bool.{cases_lt, cond-true, cond-false, le-ltb, lt-ltb, ne_eqb, eq-eqb, eqb-true}
 use Rattle.std.proofs.lemmas.List.{append-nil, length-append, length_push, length-take, length-drop, get_or-take, take-append-drop, drop_more, drop_all, at_drop_more}
 use Rattle.geo_grammar.specs.declared.fault.BlockFault.{BlockFault}
 use Rattle.geo_grammar.specs.declared.fault.BlockFault.TheVariants.{BadData}
-use Rattle.geo_grammar.specs.declared.line.Head.{Head}
+use Rattle.geo_grammar.specs.declared.head.Head.{Head}
 use Rattle.geo_grammar.specs.declared.item.Item.{Item}
 use Rattle.geo_grammar.specs.declared.item.Item.TheVariants as item
+use Rattle.geo_grammar.specs.Limits.{longest_line}
 use Rattle.geo_grammar.specs.Faults.{block_fault}
 use Rattle.geo_grammar.specs.declared.fault.Fault.{Fault}
+use Rattle.geo_grammar.specs.declared.fault.Fault.TheVariants.{LineTooLong}
 use Rattle.geo_grammar.specs.Commands.{stored}
-use Rattle.geo_grammar.specs.Places.{Place, InLine, InData, AtReturn, Skips, Turn, turn, items_from, place_after, line_turn, skip_turn, goes_to, Leads, NoEnd}
+use Rattle.geo_grammar.specs.Places.{Place, InLine, InData, AtReturn, Skips, Ended, Turn, turn, items_from, place_after, line_turn, skip_turn, goes_to, Leads, NoEnd}
 
 -- ---- pieces joined
 
@@ -76,19 +77,37 @@ leads_all p q a gs d = record { gives = d.gives ∙ sym (append-nil gs); ends = 
 
 -- ---- lines
 
-pub turn_line : (seen : List ℕ) (b : ℕ) → (b ≡ 10 → ⊥) → turn (InLine seen) b ≡ goes_to (InLine (seen ++ b ∷ []))
-turn_line seen b h = cond-false _ _ _ (ne_eqb b 10 h)
+turn_line : (seen : List ℕ) (b : ℕ) → (b ≡ 10 → ⊥) → length seen < longest_line → turn (InLine seen) b ≡ goes_to (InLine (seen ++ b ∷ []))
+turn_line seen b h lt = cond-false _ _ _ (ne_eqb b 10 h) ∙ cond-true _ _ _ (lt-ltb (length seen) longest_line lt)
 
-pub in_line : (seen a : List ℕ) → NoEnd a → Does (InLine seen) a [] (InLine (seen ++ a))
-in_line seen [] h = record { gives = refl; ends = ap InLine (sym (append-nil seen)) }
-in_line seen (b ∷ a) h =
-    let d = in_line (seen ++ b ∷ []) a h.1 in
-    let e = does_byte (InLine seen) b _ a [] _ (turn_line seen b h.0) d in
+pub in_line : (seen a : List ℕ) → NoEnd a → length seen + length a ≤ longest_line → Does (InLine seen) a [] (InLine (seen ++ a))
+in_line seen [] h le = record { gives = refl; ends = ap InLine (sym (append-nil seen)) }
+in_line seen (b ∷ a) h le =
+    let d = in_line (seen ++ b ∷ []) a h.1 (omega (arith, length_push seen b)) in
+    let e = does_byte (InLine seen) b _ a [] _ (turn_line seen b h.0 (omega arith)) d in
     record { gives = e.gives; ends = e.ends ∙ ap InLine (append_assoc seen (b ∷ []) a) }
 
 -- the end of a line
-pub line_end : (seen a : List ℕ) → NoEnd a → Does (InLine seen) (a ++ 10 ∷ []) ((line_turn (seen ++ a)).gives) ((line_turn (seen ++ a)).next)
-line_end seen a h = does_then (InLine seen) (InLine (seen ++ a)) _ a (10 ∷ []) [] _ (in_line seen a h) (record { gives = append-nil (line_turn (seen ++ a)).gives; ends = refl })
+pub line_end : (seen a : List ℕ) → NoEnd a → length seen + length a ≤ longest_line → Does (InLine seen) (a ++ 10 ∷ []) ((line_turn (seen ++ a)).gives) ((line_turn (seen ++ a)).next)
+line_end seen a h le = does_then (InLine seen) (InLine (seen ++ a)) _ a (10 ∷ []) [] _ (in_line seen a h le) (record { gives = append-nil (line_turn (seen ++ a)).gives; ends = refl })
+
+-- ---- a line that is too long
+
+pub at_end : (a : List ℕ) → Does Ended a [] Ended
+at_end [] = record { gives = refl; ends = refl }
+at_end (b ∷ a) = record { gives = (at_end a).gives; ends = (at_end a).ends }
+
+turn_long : (seen : List ℕ) (b : ℕ) → (b ≡ 10 → ⊥) → longest_line ≤ length seen → turn (InLine seen) b ≡ record { gives = item.Fault LineTooLong ∷ []; next = Ended }
+turn_long seen b h le = cond-false _ _ _ (ne_eqb b 10 h) ∙ cond-false _ _ _ (le-ltb (length seen) longest_line le)
+
+-- whatever comes behind
+pub long_line : (seen a b : List ℕ) → NoEnd a → length seen ≤ longest_line → longest_line < length seen + length a → Does (InLine seen) (a ++ b) (item.Fault LineTooLong ∷ []) Ended
+long_line seen [] b h le lt = absurd (omega arith)
+long_line seen (x ∷ a) b h le lt =
+    elim (cases_lt (length seen) longest_line) [
+      | inl room ↦ does_byte (InLine seen) x _ (a ++ b) _ Ended (turn_line seen x h.0 room) (long_line (seen ++ x ∷ []) a b h.1 (omega (arith, length_push seen x)) (omega (arith, length_push seen x)))
+      | inr full ↦ does_byte (InLine seen) x _ (a ++ b) [] Ended (turn_long seen x h.0 full) (at_end (a ++ b))
+    ]
 
 -- ---- what is skipped
 
@@ -135,14 +154,27 @@ turn_after head got b h = cond-false _ _ _ (ne_eqb b 10 h)
 
 -- ---- the steps of the reader
 
-pub step_seen : (seen piece after : List ℕ) → NoEnd piece → after ≡ seen ++ piece → Leads (InLine seen) piece [] (InLine after) []
-step_seen seen piece after h e = leads_same (InLine seen) (InLine after) (InLine (seen ++ piece)) piece piece [] [] [] [] refl refl (ap InLine e) refl (leads_all (InLine seen) _ piece [] (in_line seen piece h))
+pub step_seen : (seen piece : List ℕ) → NoEnd piece → length seen + length piece ≤ longest_line → Leads (InLine seen) piece [] (InLine (seen ++ piece)) []
+step_seen seen piece h le = leads_all (InLine seen) _ piece [] (in_line seen piece h le)
 
-pub step_line : (seen piece front rest line after : List ℕ) (gs : List Item) (q : Place) → NoEnd front → piece ≡ front ++ 10 ∷ rest → line ≡ seen ++ front → gs ≡ (line_turn line).gives → q ≡ (line_turn line).next → after ≡ rest → Leads (InLine seen) piece gs q after
-step_line seen piece front rest line after gs q h e el eg eq ea =
+pub step_line : (seen piece front rest : List ℕ) → NoEnd front → length seen + length front ≤ longest_line → piece ≡ front ++ 10 ∷ rest → Leads (InLine seen) piece (line_turn (seen ++ front)).gives (line_turn (seen ++ front)).next rest
+step_line seen piece front rest h le e =
     let t = line_turn (seen ++ front) in
-    leads_same (InLine seen) q t.next piece ((front ++ 10 ∷ []) ++ rest) after rest gs t.gives (e ∙ sym (append_assoc front (10 ∷ []) rest)) (eg ∙ ap (λ l. (line_turn l).gives) el) (eq ∙ ap (λ l. (line_turn l).next) el) ea
-    (leads (InLine seen) t.next (front ++ 10 ∷ []) rest t.gives (line_end seen front h))
+    leads_same (InLine seen) t.next t.next piece ((front ++ 10 ∷ []) ++ rest) rest rest t.gives t.gives (e ∙ sym (append_assoc front (10 ∷ []) rest)) refl refl refl
+    (leads (InLine seen) t.next (front ++ 10 ∷ []) rest t.gives (line_end seen front h le))
+
+pub step_long : (seen piece : List ℕ) (n : ℕ) → NoEnd (take n piece) → length seen ≤ longest_line → longest_line < length seen + length (take n piece) → Leads (InLine seen) piece (item.Fault LineTooLong ∷ []) Ended []
+step_long seen piece n h le lt = leads_same (InLine seen) Ended Ended piece (take n piece ++ drop n piece) [] [] _ _ (sym (take-append-drop n piece)) refl refl refl
+    (leads_all (InLine seen) Ended _ _ (long_line seen (take n piece) (drop n piece) h le lt))
+
+after_front : (front rest : List ℕ) → drop (length front + 1) (front ++ 10 ∷ rest) ≡ rest
+after_front front rest = drop-append-add front (10 ∷ rest) 1
+
+-- a line's end in the front of a piece
+pub near_line : (piece front rest : List ℕ) (n : ℕ) → take n piece ≡ front ++ 10 ∷ rest → piece ≡ front ++ 10 ∷ drop (length front + 1) piece
+near_line piece front rest n e =
+    let whole : piece ≡ front ++ 10 ∷ (rest ++ drop n piece) = sym (take-append-drop n piece) ∙ ap (λ (t : List ℕ). t ++ drop n piece) e ∙ append_assoc front (10 ∷ rest) (drop n piece) in
+    whole ∙ ap (λ (t : List ℕ). front ++ 10 ∷ t) (sym (ap (drop (length front + 1)) whole ∙ after_front front (rest ++ drop n piece)))
 
 pub step_skip : (left : ℕ) (why : BlockFault) (piece : List ℕ) → length piece ≤ left → Leads (Skips left why) piece [] (Skips (left - length piece) why) []
 step_skip left why piece le = leads_all (Skips left why) _ piece [] (skips left why piece le)
@@ -236,10 +268,6 @@ block_bad head got piece n e lt h more k =
 
 pub leads_stay : (p : Place) (a : List ℕ) → Leads p a [] p a
 leads_stay p a = record { gives = refl; ends = refl }
-
-pub none_says : {A : Type 0} (o : Option A) (P : Type 0) (Q : A → Type 0) → is_none o ≡ true → MatchOption o P Q → P
-none_says None P Q e h = h
-none_says (Some x) P Q e h = absurd cc
 
 -- a further piece
 pub goes_on : (done fed after : List Item) (p q : Place) (a rest text : List ℕ) (all : List Item) → after ≡ done ++ fed → fed ≡ items_from p a → q ≡ place_after p a → text ≡ a ++ rest → done ++ items_from p text ≡ all → after ++ items_from q rest ≡ all

@@ -1,19 +1,21 @@
 -- The items of a text are what the bytes give one by one.
 use Rattle.std.proofs.Common.{◌≡◌, ℕ, zero, suc, ◌<◌, ◌≤◌, cond, eqb, List, [], ◌∷◌, ◌++◌, length, take, drop, refl, sym, ap, ◌∙◌, append_assoc, arith, inl, inr}
-use Rattle.std.proofs.lemmas.Bool.{cases_lt, cases_eq, cases_Bool, both_ways, cond_both, eqb-true, eqb-false}
-use Rattle.std.proofs.lemmas.List.{length-append, length-take, length-drop, take-append-drop, drop_all}
+use Rattle.std.proofs.lemmas.Bool.{cases_lt, cases_eq, cases_Bool, both_ways, cond_both, cond-true, cond-false, le-ltb, lt-ltb, eqb-true, eqb-false}
+use Rattle.std.proofs.lemmas.List.{append-nil, length-append, length-take, length-drop, take-append-drop, drop_all}
 use Rattle.std.proofs.lemmas.Slice.Eq.{bytes_eq-Decides}
+use Rattle.geo_grammar.specs.Limits.{longest_line}
 use Rattle.geo_grammar.specs.Faults.{line_fault, block_fault}
-use Rattle.geo_grammar.specs.declared.fault.BlockFault.TheVariants.{BadData}
-use Rattle.geo_grammar.specs.declared.line.Head.{Head}
-use Rattle.geo_grammar.specs.declared.line.Line.{Line}
-use Rattle.geo_grammar.specs.declared.line.Line.TheVariants.{Whole, Storage, Bad}
+use Rattle.geo_grammar.specs.declared.fault.Fault.TheVariants.{LineTooLong}
+use Rattle.geo_grammar.specs.declared.fault.BlockFault.TheVariants.{BadData, TooLarge}
+use Rattle.geo_grammar.specs.declared.head.Head.{Head}
+use Rattle.geo_grammar.specs.declared.line.Line as line
+use Rattle.geo_grammar.specs.declared.line.Line.TheVariants.{Whole, Storage, Huge, Bad}
 use Rattle.geo_grammar.specs.declared.item.Item.{Item}
 use Rattle.geo_grammar.specs.declared.item.Item.TheVariants as item
 use Rattle.geo_grammar.specs.Commands.{stored, line_says}
 use Rattle.geo_grammar.specs.Places.{Place, InLine, InData, Skips, Turn, items_from, said_turn, NoEnd}
-use Rattle.geo_grammar.specs.Protocol.{Cut, Open, Ends, cut_line, onto, items_in, items_of, line_items, said_items, block_items, is_return}
-use Rattle.geo_grammar.proofs.Turns.{Does, leads, in_line, line_end, skips_line, skips_end, in_data, turn_full, turn_after, turn_rest, full_bad}
+use Rattle.geo_grammar.specs.Protocol.{Cut, Open, Ends, cut_line, onto, items_in, items_of, line_items, said_items, block_items, skip_items, is_return}
+use Rattle.geo_grammar.proofs.Turns.{Does, leads, in_line, line_end, long_line, step_skip, step_skip_open, step_skip_end, skips_line, skips_end, in_data, turn_full, turn_after, turn_rest, full_bad}
 
 -- ---- what a cut says
 
@@ -104,18 +106,48 @@ store_block n more head text k le =
           ∙ sym (ap (items_from (InData head [])) (sym (take-append-drop head.size text)) ∙ (leads (InData head []) (InData head got) got tail [] d).gives)
     ]
 
+-- ---- data that is too large
+
+skip_is : (n : ℕ) (more : List ℕ → List Item) (size : ℕ) (text : List ℕ) (c : Cut) → Known n more → length text ≤ n → size < length text → IsCut (drop size text) c → skip_items more c ≡ items_from (Skips size TooLarge) text
+skip_is n more size text Open k le lt i = sym (step_skip_open size TooLarge text lt i).gives
+skip_is n more size text (Ends line rest) k le lt i =
+    let shorter = line_shorter (drop size text) line rest i.1 in
+    ap (λ (t : List Item). item.Fault (block_fault TooLarge) ∷ t) (k rest (omega (arith, length-drop size text)))
+    ∙ sym (step_skip_end size TooLarge text line rest [] (block_fault TooLarge) lt i.0 i.1 refl refl).gives
+
+huge_is : (n : ℕ) (more : List ℕ → List Item) (size : ℕ) (text : List ℕ) → Known n more → length text ≤ n → skip_items more (cut_line (drop size text)) ≡ items_from (Skips size TooLarge) text
+huge_is n more size text k le =
+    elim (cases_lt size (length text)) [
+      | inl lt ↦ skip_is n more size text (cut_line (drop size text)) k le lt (cut_line_is (drop size text))
+      | inr low ↦ ap (λ (t : List ℕ). skip_items more (cut_line t)) (drop_all size text low) ∙ sym (step_skip size TooLarge text low).gives
+    ]
+
 -- ---- lines
 
-said_is : (n : ℕ) (more : List ℕ → List Item) (rest : List ℕ) (s : Line) → Known n more → length rest ≤ n → said_items more rest s ≡ (said_turn s).gives ++ items_from (said_turn s).next rest
+said_is : (n : ℕ) (more : List ℕ → List Item) (rest : List ℕ) (s : line.Line) → Known n more → length rest ≤ n → said_items more rest s ≡ (said_turn s).gives ++ items_from (said_turn s).next rest
 said_is n more rest (Whole request) k le = ap (λ (t : List Item). item.Request request ∷ t) (k rest le)
 said_is n more rest (Bad why) k le = ap (λ (t : List Item). item.Fault (line_fault why) ∷ t) (k rest le)
 said_is n more rest (Storage head) k le = store_block n more head rest k le
+said_is n more rest (Huge size) k le = huge_is n more size rest k le
 
-line_is : (n : ℕ) (more : List ℕ → List Item) (text : List ℕ) (c : Cut) → Known n more → length text ≤ suc n → IsCut text c → line_items more c ≡ items_from (InLine []) text
-line_is n more text Open k le i = sym (in_line [] text i).gives
+-- behind more bytes than a line may have
+too_long : (text a b : List ℕ) → NoEnd a → longest_line < length a → text ≡ a ++ b → items_from (InLine []) text ≡ item.Fault LineTooLong ∷ []
+too_long text a b h lt e = ap (items_from (InLine [])) e ∙ (long_line [] a b h (omega arith) (omega arith)).gives
+
+line_is : (n : ℕ) (more : List ℕ → List Item) (text : List ℕ) (c : Cut) → Known n more → length text ≤ suc n → IsCut text c → line_items more text c ≡ items_from (InLine []) text
+line_is n more text Open k le i =
+    elim (cases_lt longest_line (length text)) [
+      | inl lt ↦ cond-true _ _ _ (lt-ltb longest_line (length text) lt) ∙ sym (too_long text text [] i lt (sym (append-nil text)))
+      | inr low ↦ cond-false _ _ _ (le-ltb longest_line (length text) low) ∙ sym (in_line [] text i (omega arith)).gives
+    ]
 line_is n more text (Ends line rest) k le i =
-    said_is n more rest (line_says line) k (omega (arith, line_shorter text line rest i.1))
-    ∙ sym (ap (items_from (InLine [])) (i.1 ∙ sym (append_assoc line (10 ∷ []) rest)) ∙ (leads (InLine []) _ (line ++ 10 ∷ []) rest _ (line_end [] line i.0)).gives)
+    elim (cases_lt longest_line (length line)) [
+      | inl lt ↦ cond-true _ _ _ (lt-ltb longest_line (length line) lt) ∙ sym (too_long text line (10 ∷ rest) i.0 lt i.1)
+      | inr low ↦
+          cond-false _ _ _ (le-ltb longest_line (length line) low)
+          ∙ said_is n more rest (line_says line) k (omega (arith, line_shorter text line rest i.1))
+          ∙ sym (ap (items_from (InLine [])) (i.1 ∙ sym (append_assoc line (10 ∷ []) rest)) ∙ (leads (InLine []) _ (line ++ 10 ∷ []) rest _ (line_end [] line i.0 (omega arith))).gives)
+    ]
 
 in_is : (n : ℕ) → Known n (items_in n)
 unfolding items_in

@@ -1,8 +1,10 @@
+pub mod Limits
 pub mod Words
 pub mod Faults
 pub mod Commands
 pub mod Protocol
 pub mod Places
+pub mod Lines
 pub mod Blocks
 pub mod States
 pub mod Replies

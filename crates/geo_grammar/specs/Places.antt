@@ -1,13 +1,15 @@
--- What a text means byte by byte: where a reader stands between two bytes, and what the next one does there. It is proved
--- to be what the text means as a whole, in Protocol.
-use Rattle.std.specs.Prelude.{◌≡◌, ◌≤◌, ℕ, ◌-◌, ◌==◌, nat_lt, List, [], ◌∷◌, ◌++◌, length, if◌then◌else◌}
+-- What a text means byte by byte: where a reader stands between two bytes, and what the next one does there.
+use Rattle.std.specs.Prelude.{◌≡◌, ◌≤◌, ℕ, ◌-◌, ◌==◌, nat_lt, Bool, true, false, List, [], ◌∷◌, ◌++◌, length, if◌then◌else◌}
+use Rattle.geo_grammar.specs.Limits.{longest_line}
 use Rattle.geo_grammar.specs.Faults.{line_fault, block_fault}
 use Rattle.geo_grammar.specs.Commands.{stored, line_says}
 use Rattle.geo_grammar.specs.declared.fault.BlockFault.{BlockFault}
-use Rattle.geo_grammar.specs.declared.fault.BlockFault.TheVariants.{BadData}
-use Rattle.geo_grammar.specs.declared.line.Head.{Head}
+use Rattle.geo_grammar.specs.declared.fault.BlockFault.TheVariants.{BadData, TooLarge}
+use Rattle.geo_grammar.specs.declared.fault.Fault.{Fault}
+use Rattle.geo_grammar.specs.declared.fault.Fault.TheVariants as fault
+use Rattle.geo_grammar.specs.declared.head.Head.{Head}
 use Rattle.geo_grammar.specs.declared.line.Line.{Line}
-use Rattle.geo_grammar.specs.declared.line.Line.TheVariants.{Whole, Storage, Bad}
+use Rattle.geo_grammar.specs.declared.line.Line.TheVariants.{Whole, Storage, Huge, Bad}
 use Rattle.geo_grammar.specs.declared.item.Item.{Item}
 use Rattle.geo_grammar.specs.declared.item.Item.TheVariants as item
 
@@ -20,6 +22,8 @@ pub data Place : Type 0 where
   AtReturn : (head : Head) (got : List ℕ) → Place
   -- that many bytes are skipped, and then all up to the next line end, where the fault is given
   Skips : (left : ℕ) (why : BlockFault) → Place
+  -- behind a line that was too long: nothing more is read
+  Ended : Place
 
 -- a new reader is at the front of a line
 abbrev pub start_place : Place
@@ -41,24 +45,25 @@ abbrev pub said_turn : Line → Turn
 said_turn (Whole request) = gives_one (item.Request request)
 said_turn (Bad why) = gives_one (item.Fault (line_fault why))
 said_turn (Storage head) = goes_to (InData head [])
+said_turn (Huge size) = goes_to (Skips size TooLarge)
 
 abbrev pub line_turn : List ℕ → Turn
 line_turn line = said_turn (line_says line)
+
+-- in a line, at a byte that is none of its end
+abbrev pub seen_turn : List ℕ → ℕ → Turn
+seen_turn seen b = if nat_lt (length seen) longest_line then goes_to (InLine (seen ++ b ∷ [])) else record { gives = item.Fault fault.LineTooLong ∷ []; next = Ended }
 
 -- behind what is skipped
 abbrev pub skip_turn : BlockFault → ℕ → Turn
 skip_turn why b = if b == 10 then gives_one (item.Fault (block_fault why)) else goes_to (Skips 0 why)
 
--- what one byte does: 10 is a newline and 13 a return
 abbrev pub turn : Place → ℕ → Turn
-turn (InLine seen) b = if b == 10 then line_turn seen else goes_to (InLine (seen ++ b ∷ []))
-turn (InData head got) b =
-    if nat_lt (length got) head.size
-    then goes_to (InData head (got ++ b ∷ []))
-    else (if b == 13 then goes_to (AtReturn head got) else skip_turn BadData b)
-turn (AtReturn head got) b =
-    if b == 10 then gives_one (item.Request (stored head got)) else goes_to (Skips 0 BadData)
+turn (InLine seen) b = if b == 10 then line_turn seen else seen_turn seen b
+turn (InData head got) b = if nat_lt (length got) head.size then goes_to (InData head (got ++ b ∷ [])) else (if b == 13 then goes_to (AtReturn head got) else skip_turn BadData b)
+turn (AtReturn head got) b = if b == 10 then gives_one (item.Request (stored head got)) else goes_to (Skips 0 BadData)
 turn (Skips left why) b = if nat_lt 0 left then goes_to (Skips (left - 1) why) else skip_turn why b
+turn Ended b = goes_to Ended
 
 -- the items that bytes give from a place on
 abbrev pub items_from : Place → List ℕ → List Item
@@ -82,7 +87,29 @@ pub record Leads (p : Place) (a : List ℕ) (gs : List Item) (q : Place) (b : Li
 
 -- where a reader can stand
 abbrev pub IsPlace : Place → Type 0
-IsPlace (InLine seen) = Unit {0}
+IsPlace (InLine seen) = length seen ≤ longest_line
 IsPlace (InData head got) = length got ≤ head.size
 IsPlace (AtReturn head got) = length got ≡ head.size
 IsPlace (Skips left why) = Unit {0}
+IsPlace Ended = Unit {0}
+
+-- nothing more is read
+abbrev pub is_ended : Place → Bool
+is_ended (InLine seen) = false
+is_ended (InData head got) = false
+is_ended (AtReturn head got) = false
+is_ended (Skips left why) = false
+is_ended Ended = true
+
+abbrev pub is_long_fault : Fault → Bool
+is_long_fault fault.Unknown = false
+is_long_fault fault.BadLine = false
+is_long_fault fault.BadData = false
+is_long_fault fault.LineTooLong = true
+is_long_fault fault.TooLarge = false
+is_long_fault fault.BadNumber = false
+
+-- the item says that a line was too long
+abbrev pub says_too_long : Item → Bool
+says_too_long (item.Request request) = false
+says_too_long (item.Fault why) = is_long_fault why

@@ -3,7 +3,7 @@ ghost use Rattle.std.specs.Prelude.{◌≡◌, ◌<◌, ◌≤◌, length};
 ghost use Rattle.geo_grammar.specs.Places.{IsPlace, InData, AtReturn};
 ghost use Rattle.geo_grammar.specs.Blocks.{BlockLeads, block_place, rest_length};
 
-use crate::line::Head;
+use crate::head::Head;
 
 /// What a piece brings of a data block and of the `\r\n` behind it.
 #[derive(Clone, Copy)]

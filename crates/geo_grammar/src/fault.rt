@@ -12,6 +12,12 @@ pub enum Fault {
     BadLine,
     /// A data block that is not followed by `\r\n`.
     BadData,
+    /// A line of more than 65,536 bytes. Nothing more is read.
+    LineTooLong,
+    /// A data block of more than 1,048,576 bytes, which was skipped.
+    TooLarge,
+    /// A number that can't be read, in a line that is no storage line.
+    BadNumber,
 }
 
 /// The text that answers a fault, with its line end (memcached's protocol.txt, "Error strings").
@@ -22,6 +28,9 @@ pub fn fault_text(fault: Fault) -> &'static [u8]
         Fault::Unknown => b"ERROR\r\n",
         Fault::BadLine => b"CLIENT_ERROR bad command line format\r\n",
         Fault::BadData => b"CLIENT_ERROR bad data chunk\r\n",
+        Fault::LineTooLong => b"CLIENT_ERROR line too long\r\n",
+        Fault::TooLarge => b"SERVER_ERROR object too large for cache\r\n",
+        Fault::BadNumber => b"CLIENT_ERROR invalid numeric argument\r\n",
     }
 }
 
@@ -30,6 +39,7 @@ pub fn fault_text(fault: Fault) -> &'static [u8]
 pub enum LineFault {
     Unknown,
     BadLine,
+    BadNumber,
 }
 
 impl LineFault {
@@ -39,6 +49,7 @@ impl LineFault {
         match self {
             LineFault::Unknown => Fault::Unknown,
             LineFault::BadLine => Fault::BadLine,
+            LineFault::BadNumber => Fault::BadNumber,
         }
     }
 }
@@ -47,6 +58,7 @@ impl LineFault {
 #[derive(Clone, Copy, Debug, PartialEq, Eq)]
 pub enum BlockFault {
     BadData,
+    TooLarge,
 }
 
 impl BlockFault {
@@ -55,6 +67,7 @@ impl BlockFault {
     {
         match self {
             BlockFault::BadData => Fault::BadData,
+            BlockFault::TooLarge => Fault::TooLarge,
         }
     }
 }

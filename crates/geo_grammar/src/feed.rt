@@ -1,31 +1,37 @@
 //! A piece taken from where a reader stands. What an `Err` leaves is what was there: all that can fail comes first.
 ghost use Rattle.std.specs.Prelude.{◌≡◌, ◌++◌, IfOk, OnOk, OnErr};
+ghost use Rattle.std.specs.Option.{option_to_list};
 ghost use Rattle.geo_grammar.specs.Places.{IsPlace, start_place, items_from, place_after};
 ghost use Rattle.geo_grammar.specs.States.{IsBlock, place_of, finished};
 
 use crate::block::{BlockCut, cut_block};
-use crate::fault::Fault;
+use crate::cut::{LineCut, cut_seen};
+use crate::fault::{BlockFault, Fault};
 use crate::item::Item;
 use crate::state::State;
-use crate::step::{cut_line, run};
+use crate::step::{Turn, line_end, run};
 use std::alloc::{AllocError, Global};
 use std::mem;
 
-/// Reads a piece from another state on, and goes there.
+/// Gives a first item, if there is one, reads the piece from another state on, and goes there.
 fn feed_from(
     alloc: Global,
     state: &mut State,
+    first: Option<Item>,
     from: State,
     piece: &[u8],
 ) -> Result<Vec<Item>, AllocError>
     requires from { IsPlace (place_of from) }
     requires old { IsPlace (place_of state.old) }
-    ensures items { IfOk result (λ out. out.items ≡ items_from (place_of from) piece.now) }
+    ensures items { IfOk result (λ out. out.items ≡ option_to_list first ++ items_from (place_of from) piece.now) }
     ensures next { OnOk result (place_of state.new ≡ place_after (place_of from) piece.now) }
     ensures place { IsPlace (place_of state.new) }
     ensures err { OnErr result (place_of state.new ≡ place_of state.old) }
 {
     let mut out = Vec::new(alloc);
+    if let Some(item) = first {
+        out.push(item)?;
+    }
     let next = run(alloc, from, piece, &mut out)?;
     *state = next;
     Ok(out)
@@ -69,14 +75,24 @@ pub fn feed_state(alloc: Global, state: &mut State, piece: &[u8]) -> Result<Vec<
     ensures err { OnErr result (place_of state.new ≡ place_of state.old) }
 {
     match state {
-        State::Line(seen) => {
-            if cut_line(piece).is_none() {
+        State::Line(seen) => match cut_seen(seen.as_slice(), piece) {
+            LineCut::Open => {
                 seen.extend_from_slice(piece)?;
-                return Ok(Vec::new(alloc));
+                Ok(Vec::new(alloc))
             }
-            let seen = Vec::from_slice(alloc, seen.as_slice())?;
-            feed_from(alloc, state, State::Line(seen), piece)
-        }
+            LineCut::Ends { front, rest } => {
+                let Turn {
+                    item,
+                    state: from,
+                    rest,
+                } = line_end(alloc, seen.as_slice(), front, rest)?;
+                feed_from(alloc, state, item, from, rest)
+            }
+            LineCut::TooLong => {
+                let fault = Some(Item::Fault(Fault::LineTooLong));
+                feed_from(alloc, state, fault, State::Ended, &[])
+            }
+        },
         State::Data {
             head,
             got,
@@ -91,14 +107,18 @@ pub fn feed_state(alloc: Global, state: &mut State, piece: &[u8]) -> Result<Vec<
                 Ok(Vec::new(alloc))
             }
             BlockCut::Good { front, rest } => feed_last(alloc, state, front, rest),
-            BlockCut::Bad { rest } => feed_from(alloc, state, State::bad_data(), rest),
+            BlockCut::Bad { rest } => feed_from(
+                alloc,
+                state,
+                None,
+                State::skip(0, BlockFault::BadData),
+                rest,
+            ),
         },
         State::Skip { left, fault } => {
-            let from = State::Skip {
-                left: *left,
-                fault: *fault,
-            };
-            feed_from(alloc, state, from, piece)
+            let from = State::skip(*left, *fault);
+            feed_from(alloc, state, None, from, piece)
         }
+        State::Ended => feed_from(alloc, state, None, State::Ended, piece),
     }
 }

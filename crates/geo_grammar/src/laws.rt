@@ -1,7 +1,7 @@
 //! What holds of all texts, whatever pieces they come in. The laws run nothing: a caller names them for their contract.
-ghost use Rattle.std.specs.Prelude.{◌≡◌, ◌++◌, List, ℕ, IfOk};
-ghost use Rattle.std.specs.List.{flat_map};
-ghost use Rattle.geo_grammar.specs.Places.{Place, start_place, items_from, place_after};
+ghost use Rattle.std.specs.Prelude.{◌≡◌, ◌++◌, ◌||◌, [], List, ℕ, IfOk};
+ghost use Rattle.std.specs.List.{flat_map, list_any};
+ghost use Rattle.geo_grammar.specs.Places.{Place, Ended, start_place, items_from, place_after, is_ended, says_too_long};
 ghost use Rattle.geo_grammar.specs.Protocol.{items_of};
 
 use crate::item::Item;
@@ -17,6 +17,13 @@ pub fn items_of_text()
 pub fn items_of_parts()
     ensures items { (p : Place) (a b : List ℕ) → items_from p (a ++ b) ≡ items_from p a ++ items_from (place_after p a) b }
     ensures next { (p : Place) (a b : List ℕ) → place_after p (a ++ b) ≡ place_after (place_after p a) b }
+{}
+
+/// A reader has ended exactly where it gave that a line was too long, and then gives nothing more.
+pub fn ended_where_too_long()
+    ensures text { (text : List ℕ) → is_ended (place_after start_place text) ≡ list_any says_too_long (items_of text) }
+    ensures from { (p : Place) (bytes : List ℕ) → is_ended (place_after p bytes) ≡ (is_ended p || list_any says_too_long (items_from p bytes)) }
+    ensures silent { (bytes : List ℕ) → items_from Ended bytes ≡ [] }
 {}
 
 /// All items of a text that comes in these pieces: those of the pieces joined, wherever they are cut.

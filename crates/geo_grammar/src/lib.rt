@@ -8,17 +8,24 @@
 #![tactic(auto)]
 
 mod block;
+mod command;
+mod cut;
 mod device;
 mod fault;
 mod feed;
+mod fetch;
+mod head;
 mod item;
 mod laws;
+mod limits;
 mod line;
 mod reader;
 mod reply;
 mod request;
 mod state;
+mod stats;
 mod step;
+mod storage;
 mod texts;
 mod value;
 mod words;
@@ -26,12 +33,15 @@ mod words;
 pub use device::Device;
 pub use fault::{Fault, fault_text};
 pub use item::Item;
-pub use laws::{items_of_parts, items_of_text, read_all};
+pub use limits::{LONGEST_VALUE, MOST_NUMBER};
+pub use laws::{ended_where_too_long, items_of_parts, items_of_text, read_all};
 pub use reader::Reader;
 pub use reply::{Found, Reply};
 pub use request::{Request, Verb};
+pub use stats::Stats;
 pub use texts::{push_answer, render};
 pub use value::ValueBytes;
+pub use words::number;
 
 #[cfg(test)]
 mod tests;

@@ -1,6 +1,6 @@
 //! A reader of requests.
 ghost use Rattle.std.specs.Prelude.{◌≡◌, IfOk, OnOk, OnErr};
-ghost use Rattle.geo_grammar.specs.Places.{start_place, items_from, place_after};
+ghost use Rattle.geo_grammar.specs.Places.{start_place, items_from, place_after, is_ended};
 
 use crate::feed::feed_state;
 use crate::item::Item;
@@ -48,5 +48,12 @@ impl Reader {
         ensures err { OnErr result (self.new ≡ self.old) }
     {
         feed_state(self.alloc, &mut self.state, piece)
+    }
+
+    /// Whether a line was too long. Nothing more is read then, so whoever feeds it can close the connection.
+    pub fn ended(&self) -> bool
+        ensures { result ≡ is_ended self.now }
+    {
+        matches!(&self.state, State::Ended)
     }
 }

@@ -1,7 +1,9 @@
 //! Replies.
+use crate::stats::Stats;
 use crate::value::ValueBytes;
-use geo_lattice::Items;
+use geo_lattice::{Items, Twin};
 use geo_versions::Key;
+use std::alloc::{AllocError, Global};
 
 /// A value that was found. Its unique number is there where the client asked for numbers.
 #[derive(Drop)]
@@ -12,17 +14,73 @@ pub struct Found {
     pub bytes: ValueBytes,
 }
 
-/// The answer to a request (memcached's protocol.txt, "Error strings", "Storage commands" and "Retrieval command").
+impl Twin for Found {
+    fn twin(&self, alloc: Global) -> Result<Self, AllocError> {
+        Ok(Found {
+            key: self.key.twin(alloc)?,
+            flags: self.flags,
+            unique: self.unique,
+            bytes: self.bytes.twin(alloc)?,
+        })
+    }
+}
+
+/// The answer to a request (memcached's protocol.txt, "Error strings" and the section of each command).
 #[derive(Drop)]
 pub enum Reply {
     /// The value was stored.
     Stored,
+    /// The value was not stored, for a key was there that must not be, or was not there that must be.
+    NotStored,
+    /// The value was not replaced, for it changed since the client saw it.
+    Exists,
+    /// There is no value of the key.
+    NotFound,
+    /// The value was deleted.
+    Deleted,
+    /// The request was carried out.
+    Done,
+    /// The number that the value is now.
+    Number(u64),
     /// The values that were found, in the order of the request's keys.
     Values(Items<Found>),
+    /// The version of the server.
+    Version,
+    /// The site's numbers.
+    Stats(Stats),
+    /// The connection ends, and nothing is written.
+    Closed,
+    /// The value is no number, so nothing can be added to it.
+    NotANumber,
     /// The value would have more bytes than a value may have.
     TooLarge,
+    /// The site keeps as many records as it may, so it takes no new key.
+    MapFull,
     /// The site's clock has reached its end, so nothing can be written any more.
     ClockEnded,
     /// There was no memory for it.
     OutOfMemory,
+}
+
+impl Twin for Reply {
+    fn twin(&self, alloc: Global) -> Result<Self, AllocError> {
+        Ok(match self {
+            Reply::Stored => Reply::Stored,
+            Reply::NotStored => Reply::NotStored,
+            Reply::Exists => Reply::Exists,
+            Reply::NotFound => Reply::NotFound,
+            Reply::Deleted => Reply::Deleted,
+            Reply::Done => Reply::Done,
+            Reply::Number(number) => Reply::Number(*number),
+            Reply::Values(values) => Reply::Values(values.twin(alloc)?),
+            Reply::Version => Reply::Version,
+            Reply::Stats(stats) => Reply::Stats(*stats),
+            Reply::Closed => Reply::Closed,
+            Reply::NotANumber => Reply::NotANumber,
+            Reply::TooLarge => Reply::TooLarge,
+            Reply::MapFull => Reply::MapFull,
+            Reply::ClockEnded => Reply::ClockEnded,
+            Reply::OutOfMemory => Reply::OutOfMemory,
+        })
+    }
 }

@@ -12,14 +12,23 @@ use std::alloc::{AllocError, Global};
 pub enum Verb {
     /// Stores the data, whatever is there.
     Set,
+    /// Stores it where there is no value of the key.
+    Add,
+    /// Stores it where there is a value of the key.
+    Replace,
+    /// Stores it behind the value that is there.
+    Append,
+    /// Stores it in front of the value that is there.
+    Prepend,
+    /// Stores it where the value is still the one that has the client's number ("check and set").
+    Cas,
 }
 
 /// What a client asks for (memcached's protocol.txt).
 #[derive(Drop)]
 pub enum Request {
-    /// Store a value. `exptime` 0 never expires, a negative one has expired, one of up to 30 days counts seconds from now,
-    /// and a greater one is a moment. `unique` is the number of the value that is to be replaced, where the client names one.
-    /// With `noreply` no answer is written.
+    /// Store a value. A positive `exptime` is in seconds, 0 never expires, a negative one has expired. `unique` is the number
+    /// of the value that is to be replaced, and there for [`Verb::Cas`] alone. With `noreply` no answer is written.
     Store {
         verb: Verb,
         key: Key,
@@ -34,6 +43,28 @@ pub enum Request {
         keys: Items<Key>,
         numbers: bool,
     },
+    /// Delete a value.
+    Delete {
+        key: Key,
+        noreply: bool,
+    },
+    /// Add `by` to a value that is a decimal number where `up`, else take it away.
+    Arith {
+        up: bool,
+        key: Key,
+        by: u64,
+        noreply: bool,
+    },
+    /// Show the version of the server.
+    ShowVersion,
+    /// Set how much the server logs. It is answered, and nothing more.
+    Verbosity {
+        noreply: bool,
+    },
+    /// Show the site's numbers.
+    Stats,
+    /// End the connection.
+    Quit,
 }
 
 impl Request {
@@ -42,15 +73,18 @@ impl Request {
         ensures { result ≡ is_noreply self.now }
     {
         match self {
-            Request::Store { noreply, .. } => *noreply,
-            Request::Fetch { .. } => false,
+            Request::Store { noreply, .. }
+            | Request::Delete { noreply, .. }
+            | Request::Arith { noreply, .. }
+            | Request::Verbosity { noreply } => *noreply,
+            Request::Fetch { .. } | Request::ShowVersion | Request::Stats | Request::Quit => false,
         }
     }
 }
 
 impl Twin for Request {
     fn twin(&self, alloc: Global) -> Result<Self, AllocError> {
-        match self {
+        Ok(match self {
             Request::Store {
                 verb,
                 key,
@@ -59,7 +93,7 @@ impl Twin for Request {
                 unique,
                 bytes,
                 noreply,
-            } => Ok(Request::Store {
+            } => Request::Store {
                 verb: *verb,
                 key: key.twin(alloc)?,
                 flags: *flags,
@@ -67,11 +101,30 @@ impl Twin for Request {
                 unique: *unique,
                 bytes: bytes.twin(alloc)?,
                 noreply: *noreply,
-            }),
-            Request::Fetch { keys, numbers } => Ok(Request::Fetch {
+            },
+            Request::Fetch { keys, numbers } => Request::Fetch {
                 keys: keys.twin(alloc)?,
                 numbers: *numbers,
-            }),
-        }
+            },
+            Request::Delete { key, noreply } => Request::Delete {
+                key: key.twin(alloc)?,
+                noreply: *noreply,
+            },
+            Request::Arith {
+                up,
+                key,
+                by,
+                noreply,
+            } => Request::Arith {
+                up: *up,
+                key: key.twin(alloc)?,
+                by: *by,
+                noreply: *noreply,
+            },
+            Request::ShowVersion => Request::ShowVersion,
+            Request::Verbosity { noreply } => Request::Verbosity { noreply: *noreply },
+            Request::Stats => Request::Stats,
+            Request::Quit => Request::Quit,
+        })
     }
 }

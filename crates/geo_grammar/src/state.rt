@@ -1,10 +1,9 @@
 //! Where a reader stands.
 ghost use Rattle.std.specs.Prelude.{◌≡◌};
 ghost use Rattle.geo_grammar.specs.declared.state.State.TheVariants.{Skip};
-ghost use Rattle.geo_grammar.specs.declared.fault.BlockFault.TheVariants.{BadData};
 
 use crate::fault::BlockFault;
-use crate::line::Head;
+use crate::head::Head;
 
 /// Where a reader stands between two pieces.
 #[derive(Drop)]
@@ -22,16 +21,15 @@ pub enum State {
         left: usize,
         fault: BlockFault,
     },
+    /// Behind a line that was too long.
+    Ended,
 }
 
 impl State {
-    /// What is skipped behind a data block that does not end in `\r\n`.
-    pub fn bad_data() -> State
-        ensures { result ≡ Skip 0 BadData }
+    /// The state in which so many bytes are skipped, and then all up to the next line end.
+    pub fn skip(left: usize, fault: BlockFault) -> State
+        ensures { result ≡ Skip left fault }
     {
-        State::Skip {
-            left: 0,
-            fault: BlockFault::BadData,
-        }
+        State::Skip { left, fault }
     }
 }

@@ -1,41 +1,29 @@
 //! One step of a reader: what a part of a piece does.
 ghost use Rattle.std.specs.Prelude.{◌≡◌, ◌++◌, ◌+◌, ◌<◌, ◌≤◌, ◌∷◌, [], length, MatchOption, IfSome, IfOk, OnOk};
 ghost use Rattle.std.specs.Option.{option_to_list};
-ghost use Rattle.geo_grammar.specs.Places.{InLine, Skips, IsPlace, NoEnd, line_turn, items_from, place_after};
+ghost use Rattle.geo_grammar.specs.Places.{InLine, Skips, Leads, IsPlace, line_turn, items_from, place_after};
 ghost use Rattle.geo_grammar.specs.Blocks.{block_place};
-ghost use Rattle.geo_grammar.specs.States.{TurnLeads, place_of};
+ghost use Rattle.geo_grammar.specs.States.{place_of};
 
 use crate::block::{BlockCut, cut_block};
-use crate::fault::BlockFault;
+use crate::cut::{LineCut, cut_line, cut_seen};
+use crate::fault::{BlockFault, Fault};
+use crate::head::Head;
 use crate::item::Item;
-use crate::line::{Head, Line, read_line};
+use crate::line::{Line, read_line};
 use crate::state::State;
-use memchr::memchr;
 use std::alloc::{AllocError, Global};
 
 /// What a part of a piece does: an item or none, the state behind it, and the rest of the piece.
 #[derive(Drop)]
-struct Turn<'a> {
-    item: Option<Item>,
-    state: State,
-    rest: &'a [u8],
+pub struct Turn<'a> {
+    pub item: Option<Item>,
+    pub state: State,
+    pub rest: &'a [u8],
 }
 
-/// The bytes before the first line end, and those behind it; None where there is none.
-pub fn cut_line(piece: &[u8]) -> Option<(&[u8], &[u8])>
-    ensures end { MatchOption result (NoEnd piece.now) (λ x. NoEnd x.0.now × (piece.now ≡ x.0.now ++ 10 ∷ x.1.now)) }
-    ensures shorter { IfSome result (λ x. length x.0.now + length x.1.now < length piece.now) }
-{
-    let Some(at) = memchr(b'\n', piece) else {
-        return None;
-    };
-    let (front, _) = piece.split_at(at);
-    let (_, rest) = piece.split_at(at + 1);
-    Some((front, rest))
-}
-
-/// What the end of a line does.
-fn line_end<'a>(alloc: Global, line: &[u8], rest: &'a [u8]) -> Result<Turn<'a>, AllocError>
+/// What a line does.
+fn line_turn<'a>(alloc: Global, line: &[u8], rest: &'a [u8]) -> Result<Turn<'a>, AllocError>
     ensures gives { IfOk result (λ t. option_to_list t.item ≡ (line_turn line.now).gives) }
     ensures next { IfOk result (λ t. place_of t.state ≡ (line_turn line.now).next) }
     ensures place { IfOk result (λ t. IsPlace (place_of t.state)) }
@@ -58,36 +46,65 @@ fn line_end<'a>(alloc: Global, line: &[u8], rest: &'a [u8]) -> Result<Turn<'a>, 
                 },
             )
         }
+        Line::Huge(left) => (
+            None,
+            State::Skip {
+                left,
+                fault: BlockFault::TooLarge,
+            },
+        ),
     };
     Ok(Turn { item, state, rest })
 }
 
+/// What a line does of which `seen` came before.
+pub fn line_end<'a>(
+    alloc: Global,
+    seen: &[u8],
+    front: &[u8],
+    rest: &'a [u8],
+) -> Result<Turn<'a>, AllocError>
+    ensures gives { IfOk result (λ t. option_to_list t.item ≡ (line_turn (seen.now ++ front.now)).gives) }
+    ensures next { IfOk result (λ t. place_of t.state ≡ (line_turn (seen.now ++ front.now)).next) }
+    ensures place { IfOk result (λ t. IsPlace (place_of t.state)) }
+    ensures rest { IfOk result (λ t. t.rest.now ≡ rest.now) }
+{
+    if seen.is_empty() {
+        return line_turn(alloc, front, rest);
+    }
+    let mut line = Vec::from_slice(alloc, seen)?;
+    line.extend_from_slice(front)?;
+    line_turn(alloc, line.as_slice(), rest)
+}
+
 fn line_step<'a>(alloc: Global, mut seen: Vec<u8>, piece: &'a [u8]) -> Result<Turn<'a>, AllocError>
-    requires { 0 < length piece.now }
-    ensures leads { IfOk result (λ t. TurnLeads (InLine seen.items) piece.now t) }
+    requires place { IsPlace (InLine seen.items) }
+    requires some { 0 < length piece.now }
+    ensures leads { IfOk result (λ t. Leads (InLine seen.items) piece.now (option_to_list t.item) (place_of t.state) t.rest.now) }
     ensures place { IfOk result (λ t. IsPlace (place_of t.state)) }
     ensures shorter { IfOk result (λ t. length t.rest.now < length piece.now) }
 {
-    let Some((front, rest)) = cut_line(piece) else {
-        seen.extend_from_slice(piece)?;
-        return Ok(Turn {
-            item: None,
-            state: State::Line(seen),
+    match cut_seen(seen.as_slice(), piece) {
+        LineCut::Open => {
+            seen.extend_from_slice(piece)?;
+            Ok(Turn {
+                item: None,
+                state: State::Line(seen),
+                rest: &[],
+            })
+        }
+        LineCut::Ends { front, rest } => line_end(alloc, seen.as_slice(), front, rest),
+        LineCut::TooLong => Ok(Turn {
+            item: Some(Item::Fault(Fault::LineTooLong)),
+            state: State::Ended,
             rest: &[],
-        });
-    };
-    if seen.is_empty() {
-        let turn = line_end(alloc, front, rest)?;
-        return Ok(turn);
+        }),
     }
-    seen.extend_from_slice(front)?;
-    let turn = line_end(alloc, seen.as_slice(), rest)?;
-    Ok(turn)
 }
 
 fn skip_step<'a>(alloc: Global, left: usize, fault: BlockFault, piece: &'a [u8]) -> Turn<'a>
     requires { 0 < length piece.now }
-    ensures leads { TurnLeads (Skips left fault) piece.now result }
+    ensures leads { Leads (Skips left fault) piece.now (option_to_list result.item) (place_of result.state) result.rest.now }
     ensures place { IsPlace (place_of result.state) }
     ensures shorter { length result.rest.now < length piece.now }
 {
@@ -125,7 +142,7 @@ fn block_step<'a>(
 ) -> Result<Turn<'a>, AllocError>
     requires place { IsPlace (block_place head got.items returned) }
     requires some { 0 < length piece.now }
-    ensures leads { IfOk result (λ t. TurnLeads (block_place head got.items returned) piece.now t) }
+    ensures leads { IfOk result (λ t. Leads (block_place head got.items returned) piece.now (option_to_list t.item) (place_of t.state) t.rest.now) }
     ensures place { IfOk result (λ t. IsPlace (place_of t.state)) }
     ensures shorter { IfOk result (λ t. length t.rest.now < length piece.now) }
 {
@@ -158,7 +175,7 @@ fn block_step<'a>(
 fn step<'a>(alloc: Global, state: State, piece: &'a [u8]) -> Result<Turn<'a>, AllocError>
     requires place { IsPlace (place_of state) }
     requires some { 0 < length piece.now }
-    ensures leads { IfOk result (λ t. TurnLeads (place_of state) piece.now t) }
+    ensures leads { IfOk result (λ t. Leads (place_of state) piece.now (option_to_list t.item) (place_of t.state) t.rest.now) }
     ensures place { IfOk result (λ t. IsPlace (place_of t.state)) }
     ensures shorter { IfOk result (λ t. length t.rest.now < length piece.now) }
 {
@@ -170,6 +187,11 @@ fn step<'a>(alloc: Global, state: State, piece: &'a [u8]) -> Result<Turn<'a>, Al
             returned,
         } => block_step(alloc, head, got, returned, piece),
         State::Skip { left, fault } => Ok(skip_step(alloc, left, fault, piece)),
+        State::Ended => Ok(Turn {
+            item: None,
+            state: State::Ended,
+            rest: &[],
+        }),
     }
 }
 

@@ -1,149 +1,119 @@
-ghost use Rattle.std.specs.Prelude.{◌≤◌, IfOk};
+ghost use Rattle.std.specs.Prelude.{◌<◌, ◌≤◌, IfOk};
 
 use super::*;
 use geo_lattice::{Items, Twin};
 use geo_versions::Key;
 use std::alloc::{AllocError, Global};
 use std::io;
+use std::process::Abort;
 use std::test::Fail;
 
-/// Texts, and the items that they hold by the protocol: `get` with its keys, `set` with its key, flags and data, or a fault,
-/// each ended by a semicolon.
-const TEXTS: &[(&[u8], &[u8])] = &[
-    // Lines and their ends.
-    (b"", b""),
-    (b"get a", b""),
-    (b"get a\r", b""),
-    (b"get a\n", b"get a;"),
-    (b"get a\r\n", b"get a;"),
-    (b"get a\r\r\n", b"BadLine;"),
-    (b"\n", b"Unknown;"),
-    (b"\r\n", b"Unknown;"),
-    (b"\r\r\n", b"Unknown;"),
-    (b" \r\n", b"Unknown;"),
-    (b"\n\n", b"Unknown;Unknown;"),
-    (b"ge\nt a\n", b"Unknown;Unknown;"),
-    (b"get\r a\n", b"Unknown;"),
-    (b"get a\r \r\n", b"BadLine;"),
-    // Words and names.
-    (b"  get   a    b  \r\n", b"get a b;"),
-    (b"GET a\r\n", b"Unknown;"),
-    (b"getx a\r\n", b"Unknown;"),
-    (b"gets a\r\n", b"Unknown;"),
-    (b"version\r\n", b"Unknown;"),
-    (b"add a 0 0 1\r\nx\r\n", b"Unknown;Unknown;"),
-    (b"get\r\n", b"BadLine;"),
-    (b"set\r\n", b"BadLine;"),
-    (b"set a 0 0\r\n", b"BadLine;"),
-    (b"set a 0 0 1 noreply\r\nx\r\n", b"BadLine;Unknown;"),
-    (b"set a x 0 2 noreply\r\n", b"BadLine;"),
-    (b"set a 0 0 1 noreply x\r\n", b"BadLine;"),
-    // Keys.
-    (b"get !~\x80\xff\n", b"get !~\x80\xff;"),
-    (b"get a b\x7f c\n", b"BadLine;"),
-    (b"get \x1f\n", b"BadLine;"),
-    (b"get a\tb\n", b"BadLine;"),
-    (b"set \x7f 0 0 1\r\nx\r\n", b"BadLine;Unknown;"),
-    // Numbers.
-    (b"set a 4294967295 0 1\r\nx\r\n", b"set a 4294967295 x;"),
-    (b"set a 0004294967295 0 01\r\nx\r\n", b"set a 4294967295 x;"),
-    (b"set a 4294967296 0 1\r\nx\r\n", b"BadLine;Unknown;"),
-    (b"set a 99999999999999999999 0 1\r\n", b"BadLine;"),
-    (b"set a -0 0 1\r\n", b"BadLine;"),
-    (b"set a +1 0 1\r\n", b"BadLine;"),
-    (b"set a 1x 0 1\r\n", b"BadLine;"),
-    (b"set a 7 00 1\r\nx\r\n", b"set a 7 x;"),
-    (b"set a 7 -0 1\r\nx\r\n", b"set a 7 x;"),
-    (b"set a 7 - 1\r\n", b"BadLine;"),
-    (b"set a 7 --0 1\r\n", b"BadLine;"),
-    (b"set a 7 +0 1\r\n", b"BadLine;"),
-    (b"set a 7 1 1\r\nx\r\n", b"BadLine;Unknown;"),
-    (b"set a 7 -1 1\r\nx\r\n", b"BadLine;Unknown;"),
-    (b"set a 7 0 -1\r\n", b"BadLine;"),
-    (b"set a 7 0 1.0\r\n", b"BadLine;"),
-    (b"set a 7 0 1048577\r\nget b\r\n", b"BadLine;get b;"),
-    // Data.
-    (b"set a 0 0 2\r\nhi\r\n", b"set a 0 hi;"),
-    (b"set a 0 0 2\nhi\r\nget a\r\n", b"set a 0 hi;get a;"),
-    (b" set  a  0  0  2 \r\nhi\r\n", b"set a 0 hi;"),
-    (b"set e 5 0 0\r\n\r\n", b"set e 5 ;"),
-    (b"set a 0 0 4\r\n\r\n\r\n\r\n", b"set a 0 \r\n\r\n;"),
-    (b"set a 0 0 3\r\na\nb\r\n", b"set a 0 a\nb;"),
-    (b"set a 0 0 2\r\nhi", b""),
-    (b"set a 0 0 2\r\nhi\r", b""),
-    (b"set a 0 0 2\r\nhi\nget a\r\n", b"BadData;get a;"),
-    (b"set a 0 0 2\r\nh\r\nget a\r\n", b"BadData;get a;"),
-    (b"set a 0 0 2\r\nhix\r\nget a\r\n", b"BadData;get a;"),
-    (b"set a 0 0 2\r\nhi\rx\nget a\r\n", b"BadData;get a;"),
-    (b"set a 0 0 2\r\nhi\r\r\nget a\r\n", b"BadData;get a;"),
-    (b"set a 0 0 0\r\nhi\r\nget a\r\n", b"BadData;get a;"),
-    (b"set a 0 0 1\r\nhi", b""),
-];
+mod table;
+
+use table::Row;
+
+fn verb_name(verb: Verb) -> &'static str {
+    match verb {
+        Verb::Set => "set",
+        Verb::Add => "add",
+        Verb::Replace => "replace",
+        Verb::Append => "append",
+        Verb::Prepend => "prepend",
+        Verb::Cas => "cas",
+    }
+}
+
+fn fault_name(fault: Fault) -> &'static [u8] {
+    match fault {
+        Fault::Unknown => b"Unknown",
+        Fault::BadLine => b"BadLine",
+        Fault::BadData => b"BadData",
+        Fault::LineTooLong => b"LineTooLong",
+        Fault::TooLarge => b"TooLarge",
+        Fault::BadNumber => b"BadNumber",
+    }
+}
+
+fn show_keyed(out: &mut Vec<u8>, name: &str, key: &Key) -> Result<(), AllocError> {
+    out.extend_from_slice(name.as_bytes())?;
+    out.extend_from_slice(b" ")?;
+    out.extend_from_slice(key.bytes())
+}
+
+fn show_request(out: &mut Vec<u8>, request: &Request) -> Result<(), AllocError> {
+    let alloc = *out.allocator();
+    match request {
+        Request::Store {
+            verb,
+            key,
+            flags,
+            exptime,
+            unique,
+            bytes,
+            ..
+        } => {
+            show_keyed(out, verb_name(*verb), key)?;
+            out.extend_from_slice(format!(in alloc; " {flags} ")?.as_bytes())?;
+            if *exptime != 0 || unique.is_some() != (*verb == Verb::Cas) {
+                out.extend_from_slice(b"wrong ")?;
+            }
+            if let Some(number) = unique {
+                out.extend_from_slice(format!(in alloc; "{number} ")?.as_bytes())?;
+            }
+            out.extend_from_slice(bytes.as_slice())
+        }
+        Request::Fetch { keys, numbers } => {
+            out.extend_from_slice(if *numbers { b"gets" } else { b"get" })?;
+            for key in keys.as_slice() {
+                show_keyed(out, "", key)?;
+            }
+            Ok(())
+        }
+        Request::Delete { key, .. } => show_keyed(out, "delete", key),
+        Request::Arith { up, key, by, .. } => {
+            show_keyed(out, if *up { "incr" } else { "decr" }, key)?;
+            out.extend_from_slice(format!(in alloc; " {by}")?.as_bytes())
+        }
+        Request::ShowVersion => out.extend_from_slice(b"version"),
+        Request::Verbosity { .. } => out.extend_from_slice(b"verbosity"),
+        Request::Stats => out.extend_from_slice(b"stats"),
+        Request::Quit => out.extend_from_slice(b"quit"),
+    }
+}
 
 fn show(out: &mut Vec<u8>, item: &Item) -> Result<(), AllocError> {
     match item {
-        Item::Request(
-            Request::Fetch {
-                keys,
-                numbers: false,
-            },
-        ) => {
-            out.extend_from_slice(b"get")?;
-            for key in keys.as_slice() {
-                out.extend_from_slice(b" ")?;
-                out.extend_from_slice(key.bytes())?;
+        Item::Request(request) => {
+            show_request(out, request)?;
+            if request.is_noreply() {
+                out.extend_from_slice(b" quiet")?;
             }
         }
-        Item::Request(
-            Request::Store {
-                verb: Verb::Set,
-                key,
-                flags,
-                exptime: 0,
-                unique: None,
-                bytes,
-                noreply: false,
-            },
-        ) => {
-            let alloc = *out.allocator();
-            out.extend_from_slice(b"set ")?;
-            out.extend_from_slice(key.bytes())?;
-            out.extend_from_slice(format!(in alloc; " {flags} ")?.as_bytes())?;
-            out.extend_from_slice(bytes.as_slice())?;
-        }
-        Item::Request(_) => out.extend_from_slice(b"other")?,
-        Item::Fault(Fault::Unknown) => out.extend_from_slice(b"Unknown")?,
-        Item::Fault(Fault::BadLine) => out.extend_from_slice(b"BadLine")?,
-        Item::Fault(Fault::BadData) => out.extend_from_slice(b"BadData")?,
+        Item::Fault(fault) => out.extend_from_slice(fault_name(*fault))?,
     }
     out.extend_from_slice(b";")
 }
 
 fn feed(reader: &mut Reader, piece: &[u8], out: &mut Vec<u8>) -> Result<(), AllocError> {
-    // A piece that is refused for memory counts as not fed: `rt try --test --fail-alloc N` refuses one.
-    let items = match reader.feed(piece) {
-        Ok(items) => items,
-        Err(_) => reader.feed(piece)?,
-    };
-    for item in &items {
+    for item in &reader.feed(piece)? {
         show(out, item)?;
     }
     Ok(())
 }
 
-#[test]
-fn reads_the_same_items_however_a_text_is_cut(rt: HostRuntime) -> Result<(), Fail> {
-    for (text, items) in TEXTS {
+/// Each text gives its items, cut at each place, and byte by byte.
+fn reads(rt: &impl Abort, alloc: Global, rows: &[Row]) -> Result<(), Fail> {
+    for (text, items) in rows {
         for at in 0..=text.len() {
             let (front, rest) = text.split_at(at);
-            let mut reader = Reader::new(rt.alloc());
-            let mut out = Vec::new(rt.alloc());
+            let mut reader = Reader::new(alloc);
+            let mut out = Vec::new(alloc);
             feed(&mut reader, front, &mut out)?;
             feed(&mut reader, rest, &mut out)?;
             assert_eq!(rt; out.as_slice(), *items, "{text:?} cut at {at}");
         }
-        let mut reader = Reader::new(rt.alloc());
-        let mut out = Vec::new(rt.alloc());
+        let mut reader = Reader::new(alloc);
+        let mut out = Vec::new(alloc);
         for byte in text.iter() {
             feed(&mut reader, &[*byte], &mut out)?;
         }
@@ -153,22 +123,73 @@ fn reads_the_same_items_however_a_text_is_cut(rt: HostRuntime) -> Result<(), Fai
 }
 
 #[test]
-fn gives_an_item_with_its_last_byte(rt: HostRuntime) -> Result<(), Fail> {
-    let mut reader = Reader::new(rt.alloc());
-    for (piece, items) in [
-        (b"se".as_slice(), b"".as_slice()),
-        (b"t a 0 0 2\r", b""),
-        (b"\nh", b""),
-        (b"i\r\nget a\r", b"set a 0 hi;"),
-        (b"\nset b 0 0 0\n\r", b"get a;"),
-        (b"x", b""),
-        (b"\n", b"BadData;"),
-    ] {
-        let mut out = Vec::new(rt.alloc());
-        feed(&mut reader, piece, &mut out)?;
-        assert_eq!(rt; out.as_slice(), items, "{piece:?}");
-    }
-    Ok(())
+fn ends_lines_at_newlines(rt: HostRuntime) -> Result<(), Fail> {
+    reads(&rt, rt.alloc(), table::LINES)
+}
+
+#[test]
+fn cuts_words_at_spaces(rt: HostRuntime) -> Result<(), Fail> {
+    reads(&rt, rt.alloc(), table::WORDS)
+}
+
+#[test]
+fn knows_its_names_alone(rt: HostRuntime) -> Result<(), Fail> {
+    reads(&rt, rt.alloc(), table::NAMES)
+}
+
+#[test]
+fn wants_no_words_behind_some_names(rt: HostRuntime) -> Result<(), Fail> {
+    reads(&rt, rt.alloc(), table::LONE)
+}
+
+#[test]
+fn takes_the_bytes_of_keys_alone(rt: HostRuntime) -> Result<(), Fail> {
+    reads(&rt, rt.alloc(), table::KEYS)
+}
+
+#[test]
+fn fetches_by_one_key_or_more(rt: HostRuntime) -> Result<(), Fail> {
+    reads(&rt, rt.alloc(), table::FETCHES)
+}
+
+#[test]
+fn reads_the_lines_of_storage_commands(rt: HostRuntime) -> Result<(), Fail> {
+    reads(&rt, rt.alloc(), table::STORES)
+}
+
+#[test]
+fn reads_numbers_up_to_their_limits(rt: HostRuntime) -> Result<(), Fail> {
+    reads(&rt, rt.alloc(), table::NUMBERS)
+}
+
+#[test]
+fn reads_an_exptime_of_0_and_sizes(rt: HostRuntime) -> Result<(), Fail> {
+    reads(&rt, rt.alloc(), table::SIZES)
+}
+
+#[test]
+fn ends_data_by_a_return_and_a_newline(rt: HostRuntime) -> Result<(), Fail> {
+    reads(&rt, rt.alloc(), table::DATA)
+}
+
+#[test]
+fn takes_noreply_in_its_place_alone(rt: HostRuntime) -> Result<(), Fail> {
+    reads(&rt, rt.alloc(), table::NOREPLY)
+}
+
+#[test]
+fn deletes_with_a_0_or_without(rt: HostRuntime) -> Result<(), Fail> {
+    reads(&rt, rt.alloc(), table::DELETIONS)
+}
+
+#[test]
+fn reads_what_is_added(rt: HostRuntime) -> Result<(), Fail> {
+    reads(&rt, rt.alloc(), table::ARITHMETIC)
+}
+
+#[test]
+fn reads_verbosity(rt: HostRuntime) -> Result<(), Fail> {
+    reads(&rt, rt.alloc(), table::VERBOSITY)
 }
 
 /// A store of a key and data of these lengths, with its data.
@@ -181,27 +202,109 @@ fn long_store(alloc: Global, key: usize, data: usize) -> Result<Vec<u8>, AllocEr
     Ok(text)
 }
 
+/// Names of the items of a text that comes in pieces of so many bytes, with `long` for a store of more than two bytes.
+fn names(alloc: Global, text: &[u8], size: usize) -> Result<Vec<u8>, AllocError>
+    requires { 0 < size }
+{
+    let mut pieces = Vec::new(alloc);
+    for piece in text.chunks(size) {
+        pieces.push(Vec::from_slice(alloc, piece)?)?;
+    }
+    let mut out = Vec::new(alloc);
+    for item in &read_all(alloc, pieces.as_slice())? {
+        match item {
+            Item::Request(Request::Store { key, bytes, .. }) => {
+                let (key, data) = (key.bytes().len(), bytes.len());
+                out.extend_from_slice(format!(in alloc; "set {key} {data};")?.as_bytes())?;
+            }
+            item => show(&mut out, item)?,
+        }
+    }
+    Ok(out)
+}
+
 #[test]
 fn takes_keys_and_values_up_to_their_limits(rt: HostRuntime) -> Result<(), Fail> {
-    for (key, data, taken) in [
-        (250, 2, true),
-        (251, 2, false),
-        (1, 1048576, true),
-        (1, 1048577, false),
-    ] {
-        let text = long_store(rt.alloc(), key, data)?;
-        let mut pieces = Vec::new(rt.alloc());
-        for piece in text.chunks(16384) {
-            pieces.push(Vec::from_slice(rt.alloc(), piece)?)?;
+    let rows: [(usize, usize, &[u8]); 4] = [
+        (250, 2, b"set 250 2;version;"),
+        (251, 2, b"BadLine;Unknown;version;"),
+        (1, 1048576, b"set 1 1048576;version;"),
+        (1, 1048577, b"TooLarge;version;"),
+    ];
+    for (key, data, items) in rows {
+        let mut text = long_store(rt.alloc(), key, data)?;
+        text.extend_from_slice(b"version\r\n")?;
+        for size in [1, 2, 16384, 2000000] {
+            let out = names(rt.alloc(), text.as_slice(), size)?;
+            assert_eq!(rt; out.as_slice(), items, "{key} {data} by {size}");
         }
-        let items = read_all(rt.alloc(), pieces.as_slice())?;
-        match items.as_slice() {
-            [Item::Request(Request::Store { key: k, bytes, .. })] => {
-                assert_eq!(rt; (k.bytes().len(), bytes.len(), true), (key, data, taken));
-            }
-            [Item::Fault(Fault::BadLine), Item::Fault(Fault::Unknown)] => assert!(rt; !taken),
-            _ => panic!(rt; "{key} {data}"),
+    }
+    Ok(())
+}
+
+#[test]
+fn skips_too_large_data_to_the_end_of_its_line(rt: HostRuntime) -> Result<(), Fail> {
+    let mut text = long_store(rt.alloc(), 1, 1048577)?;
+    assert_eq!(rt; text.pop(), Some(b'\n'));
+    text.extend_from_slice(b"get a\nget b\r\n")?;
+    for size in [7, 4096] {
+        let out = names(rt.alloc(), text.as_slice(), size)?;
+        assert_eq!(rt; out.as_slice(), b"TooLarge;get b;".as_slice());
+    }
+    Ok(())
+}
+
+#[test]
+fn ends_at_a_line_that_is_too_long(rt: HostRuntime) -> Result<(), Fail> {
+    let rows: [(&[u8], usize, &[u8], &[u8]); 7] = [
+        (b"", 65536, b"\nget a\n", b"Unknown;get a;"),
+        (b"", 65535, b"\r\nget a\n", b"Unknown;get a;"),
+        (b"", 65536, b"\r\nget a\n", b"LineTooLong;"),
+        (b"", 65537, b"\nget a\n", b"LineTooLong;"),
+        (b"", 200000, b"\nget a\n", b"LineTooLong;"),
+        (b"get ", 65532, b"\nget a\n", b"BadLine;get a;"),
+        (b"quit\n", 65537, b"", b"quit;LineTooLong;"),
+    ];
+    for (front, count, rest, items) in rows {
+        let mut text = Vec::from_slice(rt.alloc(), front)?;
+        text.extend_from_slice(vec![in rt.alloc(); b'x'; count]?.as_slice())?;
+        text.extend_from_slice(rest)?;
+        for size in [1, 3, 16384, 65536, 65537, 65538, 300000] {
+            let out = names(rt.alloc(), text.as_slice(), size)?;
+            assert_eq!(rt; out.as_slice(), items, "{count} by {size}");
         }
+    }
+    Ok(())
+}
+
+#[test]
+fn gives_a_long_line_with_its_first_byte_too_many(rt: HostRuntime) -> Result<(), Fail> {
+    let mut reader = Reader::new(rt.alloc());
+    let line = vec![in rt.alloc(); b'x'; 65536]?;
+    assert_eq!(rt; reader.feed(line.as_slice())?.len(), 0);
+    assert!(rt; !reader.ended());
+    let mut out = Vec::new(rt.alloc());
+    feed(&mut reader, b"x", &mut out)?;
+    assert!(rt; reader.ended());
+    feed(&mut reader, b"\nversion\r\n", &mut out)?;
+    assert!(rt; reader.ended());
+    assert_eq!(rt; out.as_slice(), b"LineTooLong;".as_slice());
+    Ok(())
+}
+
+#[test]
+fn gives_an_item_with_the_piece_of_its_last_byte(rt: HostRuntime) -> Result<(), Fail> {
+    let mut reader = Reader::new(rt.alloc());
+    let pieces: [(&[u8], &[u8]); 4] = [
+        (b"se", b""),
+        (b"t a 0 0 2\r", b""),
+        (b"\nh", b""),
+        (b"i\r\nget a\r\n", b"set a 0 hi;get a;"),
+    ];
+    for (piece, items) in pieces {
+        let mut out = Vec::new(rt.alloc());
+        feed(&mut reader, piece, &mut out)?;
+        assert_eq!(rt; out.as_slice(), items);
     }
     Ok(())
 }
@@ -228,54 +331,125 @@ fn found(
     })
 }
 
-#[test]
-fn answers_in_the_texts_of_the_protocol(rt: HostRuntime) -> Result<(), Fail> {
-    let alloc = rt.alloc();
-    let fetch = Request::Fetch {
-        keys: Items::of(vec![in alloc; key_a(alloc)?]?),
-        numbers: false,
-    };
+fn store(alloc: Global, noreply: bool) -> Result<Request, AllocError> {
+    Ok(Request::Store {
+        verb: Verb::Cas,
+        key: key_a(alloc)?,
+        flags: 0,
+        exptime: 0,
+        unique: Some(7),
+        bytes: value(alloc, b"hi")?,
+        noreply,
+    })
+}
+
+const STATS: Stats = Stats {
+    curr_items: 1,
+    get_hits: 2,
+    get_misses: 3,
+    evictions: 4,
+    site: 16,
+    clock: 72057594037927935,
+    records: 0,
+};
+
+/// Every reply, with its text.
+fn replies(alloc: Global) -> Result<Vec<(Reply, &'static [u8])>, AllocError> {
     let values = vec![in alloc;
         found(alloc, 0, Some(257), b"hi")?,
         found(alloc, 4294967295, None, b"")?,
     ]?;
-    let replies = [
+    Ok(vec![in alloc;
         (Reply::Stored, b"STORED\r\n".as_slice()),
+        (Reply::NotStored, b"NOT_STORED\r\n"),
+        (Reply::Exists, b"EXISTS\r\n"),
+        (Reply::NotFound, b"NOT_FOUND\r\n"),
+        (Reply::Deleted, b"DELETED\r\n"),
+        (Reply::Done, b"OK\r\n"),
+        (Reply::Number(0), b"0\r\n"),
+        (
+            Reply::Number(18446744073709551615),
+            b"18446744073709551615\r\n"
+        ),
         (Reply::Values(Items::of(Vec::new(alloc))), b"END\r\n"),
         (
             Reply::Values(Items::of(values)),
-            b"VALUE a 0 2 257\r\nhi\r\nVALUE a 4294967295 0\r\n\r\nEND\r\n",
+            b"VALUE a 0 2 257\r\nhi\r\nVALUE a 4294967295 0\r\n\r\nEND\r\n"
+        ),
+        (Reply::Version, b"VERSION 1.0.0\r\n"),
+        (
+            Reply::Stats(STATS),
+            b"STAT curr_items 1\r\nSTAT get_hits 2\r\nSTAT get_misses 3\r\nSTAT evictions 4\r\nSTAT site 16\r\nSTAT clock 72057594037927935\r\nSTAT records 0\r\nEND\r\n"
+        ),
+        (Reply::Closed, b""),
+        (
+            Reply::NotANumber,
+            b"CLIENT_ERROR cannot increment or decrement non-numeric value\r\n"
         ),
         (
             Reply::TooLarge,
-            b"SERVER_ERROR object too large for cache\r\n",
+            b"SERVER_ERROR object too large for cache\r\n"
         ),
+        (Reply::MapFull, b"SERVER_ERROR version map full\r\n"),
         (Reply::ClockEnded, b"SERVER_ERROR clock ended\r\n"),
         (Reply::OutOfMemory, b"SERVER_ERROR out of memory\r\n"),
+    ]?)
+}
+
+#[test]
+fn answers_in_the_texts_of_the_protocol(rt: HostRuntime) -> Result<(), Fail> {
+    let alloc = rt.alloc();
+    let answered = [
+        store(alloc, false)?,
+        Request::Fetch {
+            keys: Items::of(vec![in alloc; key_a(alloc)?]?),
+            numbers: true,
+        },
+        Request::ShowVersion,
+        Request::Stats,
+        Request::Quit,
     ];
-    for (reply, text) in &replies {
-        assert_eq!(rt; render(alloc, &fetch, reply)?.as_slice(), *text);
-        for noreply in [false, true] {
-            let store = Request::Store {
-                verb: Verb::Set,
-                key: key_a(alloc)?,
-                flags: 0,
-                exptime: 0,
-                unique: None,
-                bytes: value(alloc, b"hi")?,
-                noreply,
-            };
-            let wanted: &[u8] = if noreply { b"" } else { *text };
-            assert_eq!(rt;
-                render(alloc, &store.twin(alloc)?, reply)?.as_slice(),
-                wanted
-            );
+    let quiet = [
+        store(alloc, true)?,
+        Request::Delete {
+            key: key_a(alloc)?,
+            noreply: true,
+        },
+        Request::Arith {
+            up: false,
+            key: key_a(alloc)?,
+            by: 1,
+            noreply: true,
+        },
+        Request::Verbosity { noreply: true },
+    ];
+    for (reply, text) in &replies(alloc)? {
+        for request in &answered {
+            let twins = (request.twin(alloc)?, reply.twin(alloc)?);
+            assert_eq!(rt; render(alloc, &twins.0, &twins.1)?.as_slice(), *text);
+        }
+        for request in &quiet {
+            assert_eq!(rt; render(alloc, &request.twin(alloc)?, reply)?.len(), 0);
         }
     }
+    Ok(())
+}
+
+#[test]
+fn answers_each_fault_in_its_text(rt: HostRuntime) -> Result<(), Fail> {
     let faults = [
         (Fault::Unknown, b"ERROR\r\n".as_slice()),
         (Fault::BadLine, b"CLIENT_ERROR bad command line format\r\n"),
         (Fault::BadData, b"CLIENT_ERROR bad data chunk\r\n"),
+        (Fault::LineTooLong, b"CLIENT_ERROR line too long\r\n"),
+        (
+            Fault::TooLarge,
+            b"SERVER_ERROR object too large for cache\r\n",
+        ),
+        (
+            Fault::BadNumber,
+            b"CLIENT_ERROR invalid numeric argument\r\n",
+        ),
     ];
     for (fault, text) in faults {
         assert_eq!(rt; fault_text(fault), text);

@@ -1,10 +1,11 @@
 //! The texts of answers.
-ghost use Rattle.std.specs.Prelude.{◌≡◌, ◌++◌, decimal, IfOk, OnOk};
+ghost use Rattle.std.specs.Prelude.{◌≡◌, ◌++◌, List, codes, decimal, length, IfOk, OnOk};
 ghost use Rattle.std.specs.List.{flat_map};
-ghost use Rattle.geo_grammar.specs.Replies.{answer_bytes, reply_bytes, found_bytes, head_bytes, unique_bytes};
+ghost use Rattle.geo_grammar.specs.Replies.{answer_bytes, reply_bytes, found_bytes, unique_bytes, stat_bytes, stats_bytes};
 
 use crate::reply::{Found, Reply};
 use crate::request::Request;
+use crate::stats::Stats;
 use itoa::Buffer;
 use std::alloc::{AllocError, Global};
 
@@ -16,7 +17,7 @@ fn push_number(out: &mut Vec<u8>, number: u64) -> Result<(), AllocError>
 }
 
 fn push_head(out: &mut Vec<u8>, found: &Found) -> Result<(), AllocError>
-    ensures { OnOk result (out.new.items ≡ out.old.items ++ head_bytes found.now) }
+    ensures { OnOk result (out.new.items ≡ out.old.items ++ codes "VALUE " ++ found.now.key ++ codes " " ++ decimal found.now.flags ++ codes " " ++ decimal (length found.now.bytes)) }
 {
     out.extend_from_slice(b"VALUE ")?;
     out.extend_from_slice(found.key.bytes())?;
@@ -55,16 +56,56 @@ fn push_all(out: &mut Vec<u8>, values: &[Found]) -> Result<(), AllocError>
     Ok(())
 }
 
+#[tactic(auto, unfolding(crate::specs::Replies::stat_bytes))]
+fn push_stat(out: &mut Vec<u8>, name: &[u8], value: u64) -> Result<(), AllocError>
+    ensures { OnOk result (out.new.items ≡ out.old.items ++ stat_bytes name.now value) }
+{
+    out.extend_from_slice(b"STAT ")?;
+    out.extend_from_slice(name)?;
+    out.extend_from_slice(b" ")?;
+    push_number(out, value)?;
+    out.extend_from_slice(b"\r\n")
+}
+
+fn push_stats(out: &mut Vec<u8>, stats: &Stats) -> Result<(), AllocError>
+    ensures { OnOk result (out.new.items ≡ out.old.items ++ stats_bytes stats.now) }
+{
+    push_stat(out, b"curr_items", stats.curr_items)?;
+    push_stat(out, b"get_hits", stats.get_hits)?;
+    push_stat(out, b"get_misses", stats.get_misses)?;
+    push_stat(out, b"evictions", stats.evictions)?;
+    push_stat(out, b"site", stats.site)?;
+    push_stat(out, b"clock", stats.clock)?;
+    push_stat(out, b"records", stats.records)?;
+    out.extend_from_slice(b"END\r\n")
+}
+
 fn push_reply(out: &mut Vec<u8>, reply: &Reply) -> Result<(), AllocError>
     ensures { OnOk result (out.new.items ≡ out.old.items ++ reply_bytes reply.now) }
 {
     match reply {
         Reply::Stored => out.extend_from_slice(b"STORED\r\n"),
+        Reply::NotStored => out.extend_from_slice(b"NOT_STORED\r\n"),
+        Reply::Exists => out.extend_from_slice(b"EXISTS\r\n"),
+        Reply::NotFound => out.extend_from_slice(b"NOT_FOUND\r\n"),
+        Reply::Deleted => out.extend_from_slice(b"DELETED\r\n"),
+        Reply::Done => out.extend_from_slice(b"OK\r\n"),
+        Reply::Number(number) => {
+            push_number(out, *number)?;
+            out.extend_from_slice(b"\r\n")
+        }
         Reply::Values(values) => {
             push_all(out, values.as_slice())?;
             out.extend_from_slice(b"END\r\n")
         }
+        Reply::Version => out.extend_from_slice(b"VERSION 1.0.0\r\n"),
+        Reply::Stats(stats) => push_stats(out, stats),
+        Reply::Closed => Ok(()),
+        Reply::NotANumber => out.extend_from_slice(
+            b"CLIENT_ERROR cannot increment or decrement non-numeric value\r\n",
+        ),
         Reply::TooLarge => out.extend_from_slice(b"SERVER_ERROR object too large for cache\r\n"),
+        Reply::MapFull => out.extend_from_slice(b"SERVER_ERROR version map full\r\n"),
         Reply::ClockEnded => out.extend_from_slice(b"SERVER_ERROR clock ended\r\n"),
         Reply::OutOfMemory => out.extend_from_slice(b"SERVER_ERROR out of memory\r\n"),
     }

@@ -1,6 +1,7 @@
 //! The words of a line, and the numbers that they write.
 ghost use Rattle.std.specs.Prelude.{◌≡◌, ℕ, ◌∷◌, [], ◌<◌, ◌≤◌, length, MatchOption, IfSome};
 ghost use Rattle.geo_grammar.specs.Words.{words_of, number_of, signed_of, exptime_of, line_text};
+ghost use Rattle.geo_grammar.specs.Commands.{noreply_of};
 
 /// The first word of a line, and what follows it; None where there is none. Words stand between spaces.
 pub fn next_word(line: &[u8]) -> Option<(&[u8], &[u8])>
@@ -66,12 +67,26 @@ pub fn signed(word: &[u8]) -> Option<i64>
 }
 
 /// The exptime that a word writes. Only 0 is read so far.
-pub fn read_exptime(word: &[u8]) -> Option<i64>
+pub fn exptime(word: &[u8]) -> Option<i64>
     ensures { result ≡ exptime_of word.now }
 {
     match signed(word) {
         Some(0) => Some(0),
         _ => None,
+    }
+}
+
+/// Whether `noreply` stands in its place, where nothing else may stand; None where something does.
+pub fn noreply(line: &[u8]) -> Option<bool>
+    ensures { result ≡ noreply_of (words_of line.now) }
+{
+    let Some((word, rest)) = next_word(line) else {
+        return Some(false);
+    };
+    if word == b"noreply".as_slice() && next_word(rest).is_none() {
+        Some(true)
+    } else {
+        None
     }
 }
 

@@ -3,9 +3,12 @@ pub mod Registers
 pub mod Records
 pub mod Steps
 pub mod Sound
+pub mod Verdicts
 pub mod Served
 pub mod Writing
 pub mod Written
+pub mod Acting
 pub mod Found
+pub mod Listed
 pub mod Filtered
 pub mod Taking

@@ -1,31 +1,36 @@
 -- Values that are served are what was written.
-use Rattle.std.proofs.Common.{◌≡◌, ℕ, ◌+◌, Bool, true, false, cond, true≢false, nat_lt, ◌==◌, ◌&&◌, List, [], ◌∷◌, ◌++◌, length, Option, None, Some, refl, sym, ap, ◌∙◌, subst}
+use Rattle.std.proofs.Common.{◌≡◌, ℕ, Bool, true, false, cond, true≢false, ◌==◌, ◌&&◌, List, [], ◌∷◌, ◌++◌, length, Option, None, Some, refl, sym, ap, ◌∙◌, subst, inl, inr}
 use Rattle.std.specs.Str.{bytes_eq}
 use Rattle.std.specs.Cmp.Lexicographic.{same_text}
 use Rattle.sha2.specs.Sha256.{sha256}
 use Rattle.geo_lattice.specs.Registers.{by_both}
-use Rattle.geo_stamp.specs.Stamps.{Moment, stamp_cmp, last_time}
+use Rattle.geo_stamp.specs.Stamps.{Moment, stamp_cmp}
 use Rattle.geo_versions.specs.Keys.{same_key}
 use Rattle.geo_versions.specs.Bodies.{body_cmp}
 use Rattle.geo_versions.specs.Operations.{Operation, Act, Register, Record, body_of, floor_of, winner, record_of, latest, Among, version_in, version_of}
-use Rattle.geo_versions.specs.Operations.Act.{Write, Delete, Touch, Flush}
+use Rattle.geo_versions.specs.Operations.Act.{Write, Touch, Flush, Delete}
 use Rattle.geo_versions.specs.declared.body.Body.{Body}
 use Rattle.geo_versions.specs.declared.body.Body.TheVariants.{Gone, Value}
 use Rattle.geo_versions.specs.declared.version.Version.{Version}
 use Rattle.geo_grammar.specs.declared.request.Request.{Request}
-use Rattle.geo_grammar.specs.declared.request.Request.TheVariants.{Store, Fetch}
+use Rattle.geo_grammar.specs.declared.request.Request.TheVariants.{Store, Fetch, Arith, ShowVersion, Verbosity, Quit}
+use Rattle.geo_grammar.specs.declared.request.Request.TheVariants as request
 use Rattle.geo_grammar.specs.declared.reply.Reply.{Reply}
-use Rattle.geo_grammar.specs.declared.reply.Reply.TheVariants.{Stored, Values, TooLarge, ClockEnded, OutOfMemory}
+use Rattle.geo_grammar.specs.declared.reply.Reply.TheVariants.{MapFull, ClockEnded}
 use Rattle.geo_grammar.specs.declared.reply.Found.{Found}
+use Rattle.geo_grammar.specs.declared.stats.Stats.{Stats}
+use Rattle.geo_memcache.specs.Entries.{is_live}
+use Rattle.geo_memcache.specs.Decisions.{stores, deletes, counts}
 use Rattle.geo_site.specs.declared.event.Event.{Event}
 use Rattle.geo_site.specs.declared.event.Event.TheVariants.{Command, Send, Take}
 use Rattle.geo_site.specs.declared.event.Trace.{Trace}
 use Rattle.geo_site.specs.declared.event.Trace.TheVariants.{Replied, Sent, SendRefused, Taken, TakeRefused}
-use Rattle.geo_site.specs.Entries.{names, entry_in, found_at, found_of, unique_if, cas_of, is_live, lacks, longest_value, expiry_at, Answers}
-use Rattle.geo_site.specs.Schedule.{Known, visible, owes, happens, known, Lawful, EachLawful}
-use Rattle.geo_site.specs.Served.{Written, NoCollision, ServedBy, EachServed, ReplyServes, TraceServes, AllServe}
+use Rattle.geo_site.specs.Entries.{names, entry_in, found_at, found_of, unique_if, cas_of, Basis, replied, issued, is_crowded, lacks, owed}
+use Rattle.geo_site.specs.Schedule.{Known, visible, basis, RepliesTo, happens, known, Lawful, EachLawful}
+use Rattle.geo_site.specs.Served.{Written, NoCollision, ServedBy, EachServed, values_in, ReplyServes, TraceServes, AllServe}
 use Rattle.geo_site.proofs.Registers.{found}
 use Rattle.geo_site.proofs.Records.{B, above_is}
+use Rattle.geo_site.proofs.Verdicts.{stores_plain, deletes_plain, counts_plain}
 use Rattle.geo_site.proofs.Sound.{Sound, some_same, some_none, sound_happens, grown}
 
 both_true : (a b : Bool) → a && b ≡ true → (a ≡ true) × (b ≡ true)
@@ -123,24 +128,35 @@ module _ (w : Known) (s : ℕ) (sound : Sound w) (apart : NoCollision w) where
       (serve_at now numbers q (w.held s q) (version_of (w.at s) q) refl refl)
       (serve_keys now numbers keys)
 
-  serve_owed : (now : ℕ) (request : Request) → ReplyServes w s (owes w s now request).0
-  serve_owed now (Fetch keys numbers) = serve_keys now numbers keys
-  serve_owed now (Store verb key flags exptime unique bytes noreply) = by (nat_lt longest_value (length bytes))
+  silent : (r : Reply) → values_in r ≡ [] → ReplyServes w s r
+  silent r h = subst (λ xs. EachServed w (w.at s) xs) (sym h) tt
+
+  serve_plain : (now : ℕ) (stats : Stats) (request : Request) → ReplyServes w s (replied now (visible w s now) stats request)
+  serve_plain now stats (Store verb key flags exptime unique bytes noreply) = silent (stores verb flags exptime unique bytes now (visible w s now key)).0 (stores_plain verb flags exptime unique bytes now (visible w s now key)).silent
+  serve_plain now stats (Fetch keys numbers) = serve_keys now numbers keys
+  serve_plain now stats (request.Delete key noreply) = silent (deletes (visible w s now key)).0 (deletes_plain (visible w s now key)).silent
+  serve_plain now stats (Arith up key by noreply) = silent (counts up by (visible w s now key)).0 (counts_plain up by (visible w s now key)).silent
+  serve_plain now stats ShowVersion = tt
+  serve_plain now stats (Verbosity noreply) = tt
+  serve_plain now stats request.Stats = tt
+  serve_plain now stats Quit = tt
+
+  serve_owed : (now records items : ℕ) (request : Request) → ReplyServes w s (owed now (basis w s now records items) request)
+  serve_owed now records items request = by (is_crowded b (issued now (visible w s now) request)) (lacks (latest (w.at s)) (issued now (visible w s now) request))
     where
-      last : (t : Bool) → ReplyServes w s (cond {A = Reply × List Act} t (ClockEnded, []) (Stored, Write key bytes flags (expiry_at exptime now) ∷ [])).0
-      last true = tt
-      last false = tt
+      b : Basis
+      b = basis w s now records items
 
-      by : (t : Bool) → let p = cond {A = Reply × List Act} t (TooLarge, []) (Stored, Write key bytes flags (expiry_at exptime now) ∷ []) in ReplyServes w s (cond {A = Reply × List Act} (lacks (latest (w.at s)) p.1) (ClockEnded, []) p).0
-      by true = tt
-      by false = last (nat_lt last_time (latest (w.at s) + length (Write key bytes flags (expiry_at exptime now) ∷ [])))
+      by : (t u : Bool) → ReplyServes w s (cond t MapFull (cond u ClockEnded (replied now (visible w s now) b.stats request)))
+      by true u = tt
+      by false true = tt
+      by false false = serve_plain now (basis w s now records items).stats request
 
-  serve_reply : (now : ℕ) (request : Request) (reply : Reply) → Answers (owes w s now request).0 reply → ReplyServes w s reply
-  serve_reply now request Stored h = tt
-  serve_reply now request (Values found) h = subst (λ a. ReplyServes w s a) (sym h) (serve_owed now request)
-  serve_reply now request TooLarge h = tt
-  serve_reply now request ClockEnded h = tt
-  serve_reply now request OutOfMemory h = tt
+  serve_reply : (now : ℕ) (request : Request) (reply : Reply) → RepliesTo w s now request reply → ReplyServes w s reply
+  serve_reply now request reply h = elim h.answers [
+    | inl e ↦ subst (λ r. ReplyServes w s r) (sym e) (serve_owed now h.records h.items request)
+    | inr e ↦ subst (λ r. ReplyServes w s r) (sym e.0) tt
+  ]
 
 serve_trace : (w : Known) (e : Event) (t : Trace) → Sound w → NoCollision w → Lawful w e t → TraceServes w e t
 serve_trace w (Command s now request) (Replied reply) sound apart h = serve_reply w s sound apart now request reply h

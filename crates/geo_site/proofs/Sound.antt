@@ -11,9 +11,9 @@ use Rattle.geo_site.specs.declared.event.Event.{Event}
 use Rattle.geo_site.specs.declared.event.Event.TheVariants.{Command, Send, Take}
 use Rattle.geo_site.specs.declared.event.Trace.{Trace}
 use Rattle.geo_site.specs.declared.event.Trace.TheVariants.{Replied, Sent, SendRefused, Taken, TakeRefused}
-use Rattle.geo_site.specs.Entries.{Held, names, named_by, is_done}
+use Rattle.geo_site.specs.Entries.{Held, Counts, names, named_by, is_done}
 use Rattle.geo_site.specs.Machine.{act_held}
-use Rattle.geo_site.specs.Schedule.{Known, nobody, still_held, settles, new_operation, issues, learns, carried, owes, happens}
+use Rattle.geo_site.specs.Schedule.{Known, nothing_known, still_held, settles, new_operation, issues, learns, carried, issues_on, counts_keys, carries_out, happens}
 use Rattle.geo_site.specs.Served.{Writing}
 use Rattle.geo_site.proofs.Steps.{among_append, at_most_latest}
 
@@ -180,7 +180,7 @@ sent_more [] x (suc p) op h = inl h
 sent_more (y ∷ xs) x zero op h = inl h
 sent_more (y ∷ xs) x (suc p) op h = sent_more xs x p op h
 
-pub sound_sends : (w : Known) (s to : ℕ) → Sound w → Sound (record { at = w.at; held = w.held; sent = w.sent ++ (to, w.at s) ∷ [] })
+pub sound_sends : (w : Known) (s to : ℕ) → Sound w → Sound (record { at = w.at; held = w.held; counts = w.counts; limit = w.limit; sent = w.sent ++ (to, w.at s) ∷ [] })
 sound_sends w s to sound = record {
   home = sound.home;
   home_sent = λ p op a. elim (sent_more w.sent (to, w.at s) p op a) [ inl x ↦ sound.home_sent p op x | inr x ↦ sound.home s op x ];
@@ -189,12 +189,16 @@ sound_sends w s to sound = record {
   named = sound.named;
 }
 
+-- what is counted is no matter
+sound_counts : (w : Known) (s : ℕ) (counts : Counts) → Sound w → Sound (counts_keys w s counts)
+sound_counts w s counts sound = record { home = sound.home; home_sent = sound.home_sent; once = sound.once; written = sound.written; named = sound.named }
+
 sound_done : (t : Bool) (w v : Known) → Sound w → Sound v → Sound (cond t v w)
 sound_done true w v a b = b
 sound_done false w v a b = a
 
 pub sound_happens : (w : Known) (e : Event) (t : Trace) → Sound w → Sound (happens w e t)
-sound_happens w (Command s now request) (Replied reply) sound = sound_done (is_done reply) w _ sound (sound_issues w s (owes w s now request).1 sound)
+sound_happens w (Command s now request) (Replied reply) sound = sound_done (is_done reply) w (carries_out w s now request) sound (sound_counts (issues w s (issues_on w s now request)) s _ (sound_issues w s (issues_on w s now request) sound))
 sound_happens w (Command s now request) Sent sound = sound
 sound_happens w (Command s now request) (SendRefused why) sound = sound
 sound_happens w (Command s now request) Taken sound = sound
@@ -210,8 +214,8 @@ sound_happens w (Take s p) Sent sound = sound
 sound_happens w (Take s p) (SendRefused why) sound = sound
 sound_happens w (Take s p) (TakeRefused why) sound = sound
 
-pub sound_nobody : Sound nobody
-sound_nobody = record {
+pub sound_nothing : (limit : ℕ → ℕ) → Sound (nothing_known limit)
+sound_nothing limit = record {
   home = λ t op a. absurd a;
   home_sent = λ p op a. absurd (none p op a);
   once = λ t a b x y e. absurd x;
@@ -233,7 +237,7 @@ grown_done true w v t op a c = c
 grown_done false w v t op a c = a
 
 pub grown : (w : Known) (e : Event) (t : Trace) (s : ℕ) (op : Operation) → Among (w.at s) op → Among ((happens w e t).at s) op
-grown w (Command s now request) (Replied reply) t op a = grown_done (is_done reply) w _ t op a (grown_issues w s (owes w s now request).1 t op a)
+grown w (Command s now request) (Replied reply) t op a = grown_done (is_done reply) w (carries_out w s now request) t op a (grown_issues w s (issues_on w s now request) t op a)
 grown w (Command s now request) Sent t op a = a
 grown w (Command s now request) (SendRefused why) t op a = a
 grown w (Command s now request) Taken t op a = a

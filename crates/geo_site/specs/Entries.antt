@@ -1,31 +1,23 @@
 -- Plain memcached (protocol.txt) over the keys that are visible: what it answers, and what it issues.
-use Rattle.std.specs.Prelude.{◌≡◌, ℕ, ℤ, pos, negsuc, zero, suc, ◌+◌, ◌*◌, Bool, true, false, cond, ◌==◌, ◌&&◌, ◌||◌, nat_lt, nat_le, List, [], ◌∷◌, ◌++◌, length, Option, None, Some}
+use Rattle.std.specs.Prelude.{◌≡◌, ℕ, ◌+◌, ◌-◌, ◌*◌, min, not, Bool, true, false, cond, ◌==◌, ◌&&◌, ◌||◌, nat_lt, List, [], ◌∷◌, ◌++◌, length, Option, None, Some, ◌⊎◌, if◌then◌else◌}
+use Rattle.std.specs.List.{list_any}
 use Rattle.std.specs.Str.{bytes_eq}
 use Rattle.sha2.specs.Sha256.{sha256}
 use Rattle.geo_stamp.specs.Stamps.{Moment, last_time}
 use Rattle.geo_versions.specs.Operations.{Act}
-use Rattle.geo_versions.specs.Operations.Act.{Write}
+use Rattle.geo_versions.specs.Operations.Act.{Write, Delete, Touch, Flush}
 use Rattle.geo_versions.specs.declared.version.Version.{Version}
+use Rattle.geo_grammar.specs.Limits.{most_number}
 use Rattle.geo_grammar.specs.declared.request.Request.{Request}
-use Rattle.geo_grammar.specs.declared.request.Request.TheVariants.{Store, Fetch}
+use Rattle.geo_grammar.specs.declared.request.Request.TheVariants as request
 use Rattle.geo_grammar.specs.declared.reply.Reply.{Reply}
-use Rattle.geo_grammar.specs.declared.reply.Reply.TheVariants.{Stored, Values, TooLarge, ClockEnded, OutOfMemory}
+use Rattle.geo_grammar.specs.declared.reply.Reply.TheVariants as reply
 use Rattle.geo_grammar.specs.declared.reply.Found.{Found}
-
--- the longest value, in bytes
-abbrev pub longest_value : ℕ
-longest_value = 1048576
-
--- the moment at which an exptime that is given at another moment ends an entry: 0 is never, a negative one at once, up to
--- thirty days count from now, and a greater one is a moment itself
-abbrev pub expiry_at : ℤ → ℕ → ℕ
-expiry_at (pos zero) now = 0
-expiry_at (pos (suc n)) now = cond (nat_le (suc n) 2592000) (now + suc n) (suc n)
-expiry_at (negsuc n) now = 1
-
--- whether an entry with this expiry is live
-abbrev pub is_live : ℕ → ℕ → Bool
-is_live expiry now = (expiry == 0) || nat_lt now expiry
+use Rattle.geo_grammar.specs.declared.stats.Stats.{Stats}
+use Rattle.geo_memcache.specs.Entries.{Entry, is_live}
+use Rattle.geo_memcache.specs.Decisions.{stores, deletes, counts}
+use Rattle.geo_memcache.specs.declared.decision.Effect.{Effect}
+use Rattle.geo_memcache.specs.declared.decision.Effect.TheVariants.{Nothing, Keep, Made, Tomb}
 
 -- a version names the bytes of its SHA-256 and length
 abbrev pub names : Option Version → List ℕ → Bool
@@ -41,13 +33,6 @@ abbrev pub named_by : Option Version → Option (List ℕ) → Option (List ℕ)
 named_by version None = None
 named_by version (Some bytes) = cond (names version bytes) (Some bytes) None
 
--- what is visible of a key: the bytes are what is held, all else comes from the version
-pub record Entry : Type 0 where
-  pub bytes : List ℕ
-  pub flags : ℕ
-  pub expiry : ℕ
-  pub unique : ℕ
-
 -- the number that gets shows and cas compares
 abbrev pub cas_of : Moment → ℕ
 cas_of stamp = stamp.time * 256 + stamp.site
@@ -56,7 +41,7 @@ abbrev pub entry_of_version : ℕ → List ℕ → Option Version → Option Ent
 entry_of_version now bytes None = None
 entry_of_version now bytes (Some v) = cond (is_live v.expiry now) (Some (record { bytes = bytes; flags = v.flags; expiry = v.expiry; unique = cas_of v.stamp })) None
 
--- a key is visible where its bytes are held and its version is live
+-- a key is visible where its bytes are held and its version is live: the bytes are what is held, all else comes from the version
 abbrev pub entry_in : ℕ → Option Version → Option (List ℕ) → Option Entry
 entry_in now version None = None
 entry_in now version (Some bytes) = entry_of_version now bytes version
@@ -77,42 +62,129 @@ abbrev pub found_of : Bool → Visible → List (List ℕ) → List Found
 found_of numbers visible [] = []
 found_of numbers visible (key ∷ keys) = found_at numbers key (visible key) ++ found_of numbers visible keys
 
--- the answer, and what is issued
-abbrev pub plain : ℕ → Visible → Request → Reply × List Act
-plain now visible (Store verb key flags exptime unique bytes noreply) = cond {A = Reply × List Act} (nat_lt longest_value (length bytes)) (TooLarge, []) (Stored, Write key bytes flags (expiry_at exptime now) ∷ [])
-plain now visible (Fetch keys numbers) = (Values (found_of numbers visible keys), [])
+-- what plain memcached answers
+abbrev pub replied : ℕ → Visible → Stats → Request → Reply
+replied now visible stats (request.Store verb key flags exptime unique bytes noreply) = (stores verb flags exptime unique bytes now (visible key)).0
+replied now visible stats (request.Fetch keys numbers) = reply.Values (found_of numbers visible keys)
+replied now visible stats (request.Delete key noreply) = (deletes (visible key)).0
+replied now visible stats (request.Arith up key by noreply) = (counts up by (visible key)).0
+replied now visible stats request.ShowVersion = reply.Version
+replied now visible stats (request.Verbosity noreply) = reply.Done
+replied now visible stats request.Stats = reply.Stats stats
+replied now visible stats request.Quit = reply.Closed
+
+-- what an effect on a key issues, where the request has these bytes
+abbrev pub acts_of : List ℕ → List ℕ → Effect → List Act
+acts_of key bytes Nothing = []
+acts_of key bytes (Keep flags expiry) = Write key bytes flags expiry ∷ []
+acts_of key bytes (Made made flags expiry) = Write key made flags expiry ∷ []
+acts_of key bytes Tomb = Delete key ∷ []
+
+-- and what plain memcached issues
+abbrev pub issued : ℕ → Visible → Request → List Act
+issued now visible (request.Store verb key flags exptime unique bytes noreply) = acts_of key bytes (stores verb flags exptime unique bytes now (visible key)).1
+issued now visible (request.Fetch keys numbers) = []
+issued now visible (request.Delete key noreply) = acts_of key [] (deletes (visible key)).1
+issued now visible (request.Arith up key by noreply) = acts_of key [] (counts up by (visible key)).1
+issued now visible request.ShowVersion = []
+issued now visible (request.Verbosity noreply) = []
+issued now visible request.Stats = []
+issued now visible request.Quit = []
+
+-- how many keys were found, and how many were not; both stay at the greatest number that they can show
+pub record Counts : Type 0 where
+  pub hits : ℕ
+  pub misses : ℕ
+
+abbrev pub none_counted : Counts
+none_counted = record { hits = 0; misses = 0 }
+
+abbrev pub counted_on : Counts → ℕ → ℕ → Counts
+counted_on c found missed = record { hits = min (c.hits + found) most_number; misses = min (c.misses + missed) most_number }
+
+-- a fetch counts each of its keys, and no other request counts
+abbrev pub counted : Visible → Request → Counts → Counts
+counted visible (request.Store verb key flags exptime unique bytes noreply) c = c
+counted visible (request.Fetch keys numbers) c = let found = length (found_of numbers visible keys) in counted_on c found (length keys - found)
+counted visible (request.Delete key noreply) c = c
+counted visible (request.Arith up key by noreply) c = c
+counted visible request.ShowVersion c = c
+counted visible (request.Verbosity noreply) c = c
+counted visible request.Stats c = c
+counted visible request.Quit c = c
+
+-- what a site goes by when it answers: what is visible, the greatest time that it knows, of which keys it has a record, whether
+-- it has as many records as it may, and its numbers
+pub record Basis : Type 0 where
+  pub visible : Visible
+  pub clock : ℕ
+  pub recorded : List ℕ → Bool
+  pub full : Bool
+  pub stats : Stats
 
 -- after a clock, no stamps are left for as many acts
 abbrev pub lacks : ℕ → List Act → Bool
 lacks clock [] = false
 lacks clock (act ∷ acts) = nat_lt last_time (clock + length (act ∷ acts))
 
--- what is owed where there is memory: plain memcached, or where no stamps are left the refusal for that
-abbrev pub owed : ℕ → ℕ → Visible → Request → Reply × List Act
-owed clock now visible request =
-    let p = plain now visible request in
-    cond {A = Reply × List Act} (lacks clock p.1) (ClockEnded, []) p
+-- an act wants a record of its key where there is none
+abbrev pub wants_record : (List ℕ → Bool) → Act → Bool
+wants_record recorded (Write key bytes flags expiry) = not (recorded key)
+wants_record recorded (Delete key) = not (recorded key)
+wants_record recorded (Touch key expiry) = not (recorded key)
+wants_record recorded Flush = false
 
--- want of memory comes after every other refusal
-abbrev pub is_refusal : Reply → Bool
-is_refusal Stored = false
-is_refusal (Values found) = false
-is_refusal TooLarge = true
-is_refusal ClockEnded = true
-is_refusal OutOfMemory = true
+abbrev pub is_crowded : Basis → List Act → Bool
+is_crowded basis acts = basis.full && list_any (wants_record basis.recorded) acts
 
--- the reply is the one that is owed, or want of memory in the place of one that is no refusal
-abbrev pub Answers : Reply → Reply → Type 0
-Answers answer Stored = Stored ≡ answer
-Answers answer (Values found) = Values found ≡ answer
-Answers answer TooLarge = TooLarge ≡ answer
-Answers answer ClockEnded = ClockEnded ≡ answer
-Answers answer OutOfMemory = is_refusal answer ≡ false
+-- what is owed where there is memory: plain memcached's answer, or in its place the refusal that comes first
+abbrev pub owed : ℕ → Basis → Request → Reply
+owed now basis request =
+    let acts = issued now basis.visible request in
+    if is_crowded basis acts then reply.MapFull
+    else (if lacks basis.clock acts then reply.ClockEnded
+    else replied now basis.visible basis.stats request)
 
--- where want of memory was answered, nothing is done
+-- memory is wanted by what issues something, and to show values
+abbrev pub shows_values : Request → Bool
+shows_values (request.Store verb key flags exptime unique bytes noreply) = false
+shows_values (request.Fetch keys numbers) = true
+shows_values (request.Delete key noreply) = false
+shows_values (request.Arith up key by noreply) = false
+shows_values request.ShowVersion = false
+shows_values (request.Verbosity noreply) = false
+shows_values request.Stats = false
+shows_values request.Quit = false
+
+abbrev pub is_some_act : List Act → Bool
+is_some_act [] = false
+is_some_act (act ∷ acts) = true
+
+-- want of memory comes after every other refusal, and never where no memory is wanted
+abbrev pub may_want_memory : ℕ → Basis → Request → Bool
+may_want_memory now basis request =
+    let acts = issued now basis.visible request in
+    (is_some_act acts || shows_values request) && not (is_crowded basis acts) && not (lacks basis.clock acts)
+
+-- the reply is the one that is owed, or want of memory where it may be wanted
+abbrev pub Answers : ℕ → Basis → Request → Reply → Type 0
+Answers now basis request answer = (answer ≡ owed now basis request) ⊎ ((answer ≡ reply.OutOfMemory) × (may_want_memory now basis request ≡ true))
+
+-- where a site refused what plain memcached does, nothing is done
 abbrev pub is_done : Reply → Bool
-is_done Stored = true
-is_done (Values found) = true
-is_done TooLarge = true
-is_done ClockEnded = true
-is_done OutOfMemory = false
+is_done reply.Stored = true
+is_done reply.NotStored = true
+is_done reply.Exists = true
+is_done reply.NotFound = true
+is_done reply.Deleted = true
+is_done reply.Done = true
+is_done (reply.Number n) = true
+is_done (reply.Values found) = true
+is_done reply.Version = true
+is_done (reply.Stats stats) = true
+is_done reply.Closed = true
+is_done reply.NotANumber = true
+is_done reply.TooLarge = true
+is_done reply.MapFull = false
+is_done reply.ClockEnded = false
+is_done reply.OutOfMemory = false

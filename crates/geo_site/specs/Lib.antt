@@ -4,3 +4,4 @@ pub mod Schedule
 pub mod Served
 pub mod Agreement
 pub mod Sites
+pub mod Changes

@@ -1,6 +1,6 @@
 -- One site as a machine: what it knows of each site's clock, its floor, what it keeps of each key and what it holds. Each event
 -- is one step of it. (Joins of states and of deltas: Almeida et al. 2018; the clock: Lamport 1978.)
-use Rattle.std.specs.Prelude.{◌≡◌, ℕ, ◌+◌, ◌≤◌, Bool, true, false, cond, not, ◌||◌, nat_le, List, [], ◌∷◌, length, Option, None, Some}
+use Rattle.std.specs.Prelude.{◌≡◌, ℕ, ◌+◌, ◌≤◌, Bool, true, false, cond, not, ◌||◌, nat_le, List, [], ◌∷◌, length, Option, None, Some, is_some}
 use Rattle.geo_stamp.specs.Stamps.{Moment, most_sites}
 use Rattle.geo_stamp.specs.Vectors.{zeros, entry_of, vector_joined, greatest_of, raised}
 use Rattle.geo_versions.specs.Keys.{same_key}
@@ -112,9 +112,17 @@ Settled map held = (key bytes : List ℕ) → held key ≡ Some bytes → names 
 abbrev pub Numbered : ℕ → List ℕ → Type 0
 Numbered number v = (1 ≤ number) × (number ≤ length v) × (length v ≤ most_sites)
 
--- so many keys have a register
-pub record IsRecordCount (map : List ℕ → Record) (count : ℕ) : Type 0 where
+-- so many keys are among those
+pub record IsCount (among : List ℕ → Bool) (count : ℕ) : Type 0 where
   pub keys : List (List ℕ)
   pub many : length keys ≡ count
   pub apart : IsDistinct same_key keys
-  pub those : (key : List ℕ) → list_any (same_key key) keys ≡ has_register (map key)
+  pub those : (key : List ℕ) → list_any (same_key key) keys ≡ among key
+
+-- so many keys have a register
+abbrev pub IsRecordCount : (List ℕ → Record) → ℕ → Type 0
+IsRecordCount map = IsCount (λ key. has_register (map key))
+
+-- of so many keys bytes are held
+abbrev pub IsHeldCount : Held → ℕ → Type 0
+IsHeldCount held = IsCount (λ key. is_some (held key))

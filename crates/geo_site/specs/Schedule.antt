@@ -1,7 +1,8 @@
 -- Schedules: what each site knows and holds after the events, and what was known when each parcel was sent. (A state is the
 -- join of what was seen: Almeida et al. 2018.)
-use Rattle.std.specs.Prelude.{◌≡◌, ◌≢◌, ℕ, cond, if◌then◌else◌, ◌==◌, List, [], ◌∷◌, ◌++◌, None, slice_index_or}
-use Rattle.geo_versions.specs.Operations.{Operation, Act, latest, version_of}
+use Rattle.std.specs.Prelude.{◌≡◌, ◌≢◌, ℕ, cond, if◌then◌else◌, ◌==◌, nat_le, List, [], ◌∷◌, ◌++◌, None, slice_index_or}
+use Rattle.geo_versions.specs.Maps.{has_register}
+use Rattle.geo_versions.specs.Operations.{Operation, Act, latest, record_of, version_of}
 use Rattle.geo_grammar.specs.declared.request.Request.{Request}
 use Rattle.geo_grammar.specs.declared.reply.Reply.{Reply}
 use Rattle.geo_site.specs.declared.event.Event.{Event}
@@ -12,17 +13,21 @@ use Rattle.geo_site.specs.declared.refusal.SendError.{SendError}
 use Rattle.geo_site.specs.declared.refusal.TakeError.{TakeError}
 use Rattle.geo_site.specs.declared.refusal.SendError.TheVariants as send
 use Rattle.geo_site.specs.declared.refusal.TakeError.TheVariants as take
-use Rattle.geo_site.specs.Entries.{Held, Visible, entry_in, named_by, owed, Answers, is_done}
-use Rattle.geo_site.specs.Machine.{act_held, next_operation}
+use Rattle.geo_site.specs.Entries.{Held, Visible, Basis, Counts, none_counted, counted, entry_in, named_by, issued, Answers, is_done}
+use Rattle.geo_site.specs.Machine.{act_held, next_operation, IsRecordCount, IsHeldCount}
 
--- what each site knows and holds, and for whom and with what each parcel was sent
+-- what each site knows and holds, how many keys it found and did not find, how many records it may have, and for whom and with
+-- what each parcel was sent
 pub record Known : Type 0 where
   pub at : ℕ → List Operation
   pub held : ℕ → Held
+  pub counts : ℕ → Counts
+  pub limit : ℕ → ℕ
   pub sent : List (ℕ × List Operation)
 
-abbrev pub nobody : Known
-nobody = record { at = λ _. []; held = λ _ _. None; sent = [] }
+-- nothing is known, where each site may have so many records
+abbrev pub nothing_known : (ℕ → ℕ) → Known
+nothing_known limit = record { at = λ _. []; held = λ _ _. None; counts = λ _. none_counted; limit = limit; sent = [] }
 
 -- of what is held, what the versions of the operations name
 abbrev pub still_held : List Operation → Held → Held
@@ -30,7 +35,7 @@ still_held ops held key = named_by (version_of ops key) (held key)
 
 -- a site knows these operations now, and of what it holds keeps what its versions name
 abbrev pub settles : Known → ℕ → List Operation → Held → Known
-settles w site ops held = record { at = λ t. if t == site then ops else w.at t; held = λ t. if t == site then still_held ops held else w.held t; sent = w.sent }
+settles w site ops held = record { at = λ t. if t == site then ops else w.at t; held = λ t. if t == site then still_held ops held else w.held t; counts = w.counts; limit = w.limit; sent = w.sent }
 
 -- the next operation of a site, after the greatest time that it knows
 abbrev pub new_operation : Known → ℕ → Act → Operation
@@ -52,22 +57,57 @@ carried w parcel = (slice_index_or w.sent parcel (0, [])).1
 abbrev pub addressee : Known → ℕ → ℕ
 addressee w parcel = (slice_index_or w.sent parcel (0, [])).0
 
--- what is visible at a site, and what it owes to a request
+-- what is visible at a site
 abbrev pub visible : Known → ℕ → ℕ → Visible
 visible w site now key = entry_in now (version_of (w.at site) key) (w.held site key)
 
-abbrev pub owes : Known → ℕ → ℕ → Request → Reply × List Act
-owes w site now request = owed (latest (w.at site)) now (visible w site now) request
+-- what is issued at a site on a request
+abbrev pub issues_on : Known → ℕ → ℕ → Request → List Act
+issues_on w site now request = issued now (visible w site now) request
+
+-- a site counts the keys of a request
+abbrev pub counts_keys : Known → ℕ → Counts → Known
+counts_keys w site counts = record { at = w.at; held = w.held; counts = λ t. if t == site then counts else w.counts t; limit = w.limit; sent = w.sent }
+
+-- a site carries out a request
+abbrev pub carries_out : Known → ℕ → ℕ → Request → Known
+carries_out w site now request = counts_keys (issues w site (issues_on w site now request)) site (counted (visible w site now) request (w.counts site))
+
+-- what a site goes by when it answers, where so many keys have a record, and of so many bytes are held
+abbrev pub basis : Known → ℕ → ℕ → ℕ → ℕ → Basis
+basis w site now records items = record {
+  visible = visible w site now;
+  clock = latest (w.at site);
+  recorded = λ key. has_register (record_of (w.at site) key);
+  full = nat_le (w.limit site) records;
+  stats = record {
+    curr_items = items;
+    get_hits = (w.counts site).hits;
+    get_misses = (w.counts site).misses;
+    evictions = 0;
+    site = site;
+    clock = latest (w.at site);
+    records = records;
+  };
+}
+
+-- the reply is what the site owes to the request, or want of memory where it may be wanted
+pub record RepliesTo (w : Known) (site now : ℕ) (request : Request) (reply : Reply) : Type 0 where
+  pub records : ℕ
+  pub items : ℕ
+  pub recorded : IsRecordCount (record_of (w.at site)) records
+  pub held : IsHeldCount (w.held site) items
+  pub answers : Answers now (basis w site now records items) request reply
 
 -- what is known after an event; one that was refused adds nothing
 abbrev pub happens : Known → Event → Trace → Known
-happens w (Command site now request) (Replied reply) = cond (is_done reply) (issues w site (owes w site now request).1) w
+happens w (Command site now request) (Replied reply) = cond (is_done reply) (carries_out w site now request) w
 happens w (Command site now request) Sent = w
 happens w (Command site now request) (SendRefused why) = w
 happens w (Command site now request) Taken = w
 happens w (Command site now request) (TakeRefused why) = w
 happens w (Send site to) (Replied reply) = w
-happens w (Send site to) Sent = record { at = w.at; held = w.held; sent = w.sent ++ (to, w.at site) ∷ [] }
+happens w (Send site to) Sent = record { at = w.at; held = w.held; counts = w.counts; limit = w.limit; sent = w.sent ++ (to, w.at site) ∷ [] }
 happens w (Send site to) (SendRefused why) = w
 happens w (Send site to) Taken = w
 happens w (Send site to) (TakeRefused why) = w
@@ -97,7 +137,7 @@ TakeRefusedFor site to take.Memory = to ≡ site
 
 -- the trace is one that the event can have
 abbrev pub Lawful : Known → Event → Trace → Type 0
-Lawful w (Command site now request) (Replied reply) = Answers (owes w site now request).0 reply
+Lawful w (Command site now request) (Replied reply) = RepliesTo w site now request reply
 Lawful w (Command site now request) Sent = ⊥
 Lawful w (Command site now request) (SendRefused why) = ⊥
 Lawful w (Command site now request) Taken = ⊥

@@ -5,7 +5,7 @@ use Rattle.geo_versions.specs.Operations.{Operation, Among, version_of}
 use Rattle.geo_versions.specs.Operations.Act.{Write}
 use Rattle.geo_versions.specs.declared.version.Version.{Version}
 use Rattle.geo_grammar.specs.declared.reply.Reply.{Reply}
-use Rattle.geo_grammar.specs.declared.reply.Reply.TheVariants.{Stored, Values, TooLarge, ClockEnded, OutOfMemory}
+use Rattle.geo_grammar.specs.declared.reply.Reply.TheVariants.{Values}
 use Rattle.geo_grammar.specs.declared.reply.Found.{Found}
 use Rattle.geo_site.specs.declared.event.Event.{Event}
 use Rattle.geo_site.specs.declared.event.Event.TheVariants.{Command}
@@ -45,13 +45,14 @@ abbrev pub EachServed : Known → List Operation → List Found → Type 0
 EachServed w ops [] = Unit {0}
 EachServed w ops (entry ∷ found) = ServedBy w ops entry × EachServed w ops found
 
+-- the values in a reply
+abbrev pub values_in : Reply → List Found
+values_in (Values found) = found
+values_in reply = []
+
 -- each value in a reply is what the named operation wrote
 abbrev pub ReplyServes : Known → ℕ → Reply → Type 0
-ReplyServes w site Stored = Unit {0}
-ReplyServes w site (Values found) = EachServed w (w.at site) found
-ReplyServes w site TooLarge = Unit {0}
-ReplyServes w site ClockEnded = Unit {0}
-ReplyServes w site OutOfMemory = Unit {0}
+ReplyServes w site reply = EachServed w (w.at site) (values_in reply)
 
 abbrev pub TraceServes : Known → Event → Trace → Type 0
 TraceServes w (Command site now request) (Replied reply) = ReplyServes w site reply

@@ -1,17 +1,15 @@
 -- What a site of the code is, as a state of the machine, and what a parcel of the code brings.
-use Rattle.std.specs.Prelude.{IsTrue, ◌↔◌, ◌≡◌, ◌≢◌, ℕ, ℤ, ◌+◌, ◌≤◌, ◌<◌, Bool, true, false, not, ◌&&◌, ◌==◌, nat_le, List, length, Result, Ok, Err}
+use Rattle.std.specs.Prelude.{IsTrue, ◌↔◌, ◌≡◌, ◌≢◌, ◌⊎◌, ℕ, ◌+◌, ◌-◌, ◌≤◌, Bool, true, false, not, ◌&&◌, ◌==◌, nat_le, List, length, Result, Ok, Err}
 use Rattle.std.specs.List.{list_all}
 use Rattle.indexmap.specs.IndexMap.{get, index_map_len}
 use Rattle.geo_stamp.specs.Vectors.{zeros, vector_joined}
 use Rattle.geo_versions.specs.Keys.{same_key}
 use Rattle.geo_versions.specs.Maps.{Rec, rec_means, listed_at, since, Rising}
-use Rattle.geo_versions.specs.Maps.{floor_in, record_in}
+use Rattle.geo_versions.specs.Maps.{floor_in, record_in, count_in, has_register}
 use Rattle.geo_delta.specs.declared.parcel.Parcel.{Parcel}
 use Rattle.geo_grammar.specs.declared.request.Request.{Request}
-use Rattle.geo_grammar.specs.declared.reply.Reply.{Reply}
-use Rattle.geo_grammar.specs.declared.reply.Reply.TheVariants.{Stored, Values, TooLarge, ClockEnded, OutOfMemory}
-use Rattle.geo_stamp.specs.Stamps.{last_time, most_sites}
-use Rattle.geo_versions.specs.Operations.Act.{Write}
+use Rattle.geo_grammar.specs.declared.stats.Stats.{Stats}
+use Rattle.geo_stamp.specs.Stamps.{most_sites}
 use Rattle.geo_versions.specs.Operations.{Act}
 use Rattle.geo_site.specs.declared.site.Site.{Site}
 use Rattle.geo_site.specs.declared.exchange.Taken.{Taken}
@@ -26,8 +24,11 @@ use Rattle.geo_site.specs.declared.refusal.SetupError.TheVariants as setups
 use Rattle.geo_site.specs.declared.refusal.TakeError.{TakeError}
 use Rattle.geo_site.specs.declared.refusal.TakeError.TheVariants.{NotForMe, UnknownSite, Gap}
 use Rattle.geo_site.specs.declared.refusal.TakeError.TheVariants as takes
-use Rattle.geo_site.specs.Entries.{owed, longest_value, expiry_at}
-use Rattle.geo_site.specs.Machine.{SiteState, Delta, Same, fresh, issue, take, clock_of, visible_in, knows_record, knows_floor}
+use Rattle.geo_grammar.specs.declared.reply.Reply.{Reply}
+use Rattle.geo_grammar.specs.declared.reply.Reply.TheVariants.{Values, OutOfMemory}
+use Rattle.geo_grammar.specs.declared.reply.Found.{Found}
+use Rattle.geo_site.specs.Entries.{Basis, Counts, none_counted, counted_on, issued, found_of}
+use Rattle.geo_site.specs.Machine.{SiteState, Delta, Same, fresh, issue_all, take, clock_of, visible_in, knows_record, knows_floor}
 
 -- a site as a state
 abbrev pub state_in : Site → SiteState
@@ -41,10 +42,6 @@ state_in site = record {
 -- the most records that it may keep
 abbrev pub most_records : Site → ℕ
 most_records site = site.max_records
-
--- what it owes to a request at a moment
-abbrev pub owed_in : Site → ℕ → Request → Reply × List Act
-owed_in site now request = owed (clock_of (state_in site)) now (visible_in (state_in site) now) request
 
 -- how many values it holds
 abbrev pub held_count : Site → ℕ
@@ -66,17 +63,52 @@ is_sound sites number parcel =
     && (length parcel.base == sites) && (length parcel.upto == sites)
     && knows_floor parcel.upto parcel.floor && knows_all parcel.upto parcel.records
 
--- the site has written a value, with its next stamp
-abbrev pub WriteDoes : Site → Site → List ℕ → ℕ → ℕ → List ℕ → Type 0
-WriteDoes old new key flags expiry bytes = Same (issue old.number (Write key bytes flags expiry) (state_in old)) (state_in new)
+-- how many keys have a record
+abbrev pub record_count : Site → ℕ
+record_count site = count_in site.versions
 
--- what a store does, by its reply
-abbrev pub StoreDoes : Site → Site → ℕ → List ℕ → ℕ → ℤ → List ℕ → Reply → Type 0
-StoreDoes old new now key flags exptime bytes Stored = (length bytes ≤ longest_value) × (clock_of (state_in old) + 1 ≤ last_time) × WriteDoes old new key flags (expiry_at exptime now) bytes
-StoreDoes old new now key flags exptime bytes (Values found) = ⊥
-StoreDoes old new now key flags exptime bytes TooLarge = (longest_value < length bytes) × Same (state_in old) (state_in new)
-StoreDoes old new now key flags exptime bytes ClockEnded = (length bytes ≤ longest_value) × (last_time < clock_of (state_in old) + 1) × Same (state_in old) (state_in new)
-StoreDoes old new now key flags exptime bytes OutOfMemory = (length bytes ≤ longest_value) × (clock_of (state_in old) + 1 ≤ last_time) × Same (state_in old) (state_in new)
+-- how many keys it found and did not find
+abbrev pub counts_in : Site → Counts
+counts_in site = record { hits = site.hits; misses = site.misses }
+
+-- what it goes by when it answers at a moment
+abbrev pub stats_in : Site → Stats
+stats_in site = record {
+  curr_items = held_count site;
+  get_hits = site.hits;
+  get_misses = site.misses;
+  evictions = 0;
+  site = site.number;
+  clock = clock_of (state_in site);
+  records = record_count site;
+}
+
+abbrev pub basis_in : Site → ℕ → Basis
+basis_in site now = record {
+  visible = visible_in (state_in site) now;
+  clock = clock_of (state_in site);
+  recorded = λ key. has_register ((state_in site).map key);
+  full = nat_le (most_records site) (record_count site);
+  stats = stats_in site;
+}
+
+-- what it issues on a request at a moment
+abbrev pub issued_in : Site → ℕ → Request → List Act
+issued_in site now request = issued now (visible_in (state_in site) now) request
+
+-- the site has issued these, one after the other
+abbrev pub HasIssued : Site → Site → List Act → Type 0
+HasIssued old new acts = Same (issue_all old.number acts (state_in old)) (state_in new)
+
+-- what a fetch does, by its reply: it shows what is found and counts it, or memory was wanted and nothing is counted
+abbrev pub fetched : Site → ℕ → List (List ℕ) → Bool → List Found
+fetched site now keys numbers = found_of numbers (visible_in (state_in site) now) keys
+
+abbrev pub FetchDoes : Site → Site → ℕ → List (List ℕ) → Bool → Reply → Type 0
+FetchDoes old new now keys numbers reply =
+    Same (state_in old) (state_in new) × (new.number ≡ old.number) × (most_records new ≡ most_records old)
+    × (((reply ≡ Values (fetched old now keys numbers)) × (let found = length (fetched old now keys numbers) in counts_in new ≡ counted_on (counts_in old) found (length keys - found)))
+    ⊎ ((reply ≡ OutOfMemory) × (counts_in new ≡ counts_in old)))
 
 -- a site takes a parcel that is for it, that another site of as many can have made, and whose base it knows
 abbrev pub Takes : Site → Parcel → Type 0
@@ -135,5 +167,5 @@ SetupRefuses setup setups.Memory = SitesInRange setup × NumberInRange setup × 
 
 -- what opening a site does, by its result
 abbrev pub OpenDoes : Setup → Result Site SetupError → Type 0
-OpenDoes setup (Ok site) = SitesInRange setup × NumberInRange setup × RecordsInRange setup × (site.number ≡ setup.site) × Same (fresh setup.sites) (state_in site)
+OpenDoes setup (Ok site) = SitesInRange setup × NumberInRange setup × RecordsInRange setup × (site.number ≡ setup.site) × (most_records site ≡ setup.max_records) × (counts_in site ≡ none_counted) × Same (fresh setup.sites) (state_in site)
 OpenDoes setup (Err why) = SetupRefuses setup why

@@ -8,7 +8,7 @@ ghost use Rattle.geo_versions.specs.Maps.{floor_in, record_in, HasRoomFor};
 ghost use Rattle.geo_site.specs.Entries.{names, named_by};
 ghost use Rattle.geo_site.specs.Machine.{Same, take, knows_record, knows_floor};
 ghost use Rattle.geo_stamp.specs.Vectors.{vector_joined};
-ghost use Rattle.geo_site.specs.Sites.{state_in, held_count, most_records, is_sound, knows_all, Takes, RefusesFor, SendDoes, TakeDoes};
+ghost use Rattle.geo_site.specs.Sites.{state_in, held_count, counts_in, most_records, is_sound, knows_all, Takes, RefusesFor, SendDoes, TakeDoes};
 
 use crate::blob::Blob;
 use crate::refusal::{SendError, TakeError};
@@ -147,6 +147,7 @@ impl Site {
         ensures joined { Same (take self.old.number (record { upto = upto; floor = floor; map = listed_at records }) (state_in self.old)) (state_in self.new) }
         ensures rose { IsTrue result.rose ↔ (vector_joined self.old.vector upto ≢ self.old.vector) }
         ensures dropped { held_count self.new + result.dropped ≡ held_count self.old }
+        ensures counts { counts_in self.new ≡ counts_in self.old }
         ensures number { self.new.number ≡ self.old.number }
         ensures limit { most_records self.new ≡ most_records self.old }
     {
@@ -164,6 +165,7 @@ impl Site {
     /// Joins what a parcel tells. A refusal hands the parcel back whole and changes nothing.
     pub fn take(&mut self, alloc: Global, parcel: Parcel) -> Result<Taken, Refused>
         ensures does { TakeDoes self.old self.new parcel result }
+        ensures counts { counts_in self.new ≡ counts_in self.old }
         ensures number { self.new.number ≡ self.old.number }
         ensures limit { most_records self.new ≡ most_records self.old }
     {

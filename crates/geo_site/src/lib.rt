@@ -8,19 +8,18 @@
 
 pub mod act;
 pub mod blob;
+pub mod change;
 pub mod event;
 pub mod exchange;
-pub mod expiry;
+pub mod fetch;
 pub mod refusal;
 pub mod setup;
 pub mod site;
 
-pub use act::LONGEST_VALUE;
 pub use blob::Blob;
 pub use event::{Event, Trace};
 pub use exchange::{Refused, Taken};
-pub use expiry::{expiry_at, is_live};
-pub use refusal::{SendError, SetupError, TakeError};
+pub use refusal::{SendError, SetupError, TakeError, WriteError};
 pub use setup::Setup;
 pub use site::Site;
 

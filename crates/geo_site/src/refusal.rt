@@ -1,4 +1,10 @@
 //! Why a call is refused.
+ghost use Rattle.std.specs.Prelude.{◌≡◌};
+ghost use Rattle.geo_site.specs.Changes.{refusal_reply};
+ghost use Rattle.geo_site.specs.declared.refusal.WriteError.TheVariants.{Memory};
+
+use geo_grammar::Reply;
+use std::alloc::AllocError;
 
 /// Why there is no site, tested in this order.
 #[derive(Clone, Copy, Debug, PartialEq, Eq)]
@@ -34,4 +40,36 @@ pub enum TakeError {
     Gap,
     /// Memory was wanted.
     Memory,
+}
+
+/// Why a key is not written, tested in this order.
+#[derive(Clone, Copy, Debug, PartialEq, Eq)]
+pub enum WriteError {
+    /// The site has as many records as it may, and none of this key.
+    MapFull,
+    /// No stamp is left.
+    ClockEnded,
+    /// Memory was wanted.
+    Memory,
+}
+
+impl WriteError {
+    /// The reply in which a client is told.
+    pub fn reply(self) -> Reply
+        ensures { result ≡ refusal_reply self }
+    {
+        match self {
+            WriteError::MapFull => Reply::MapFull,
+            WriteError::ClockEnded => Reply::ClockEnded,
+            WriteError::Memory => Reply::OutOfMemory,
+        }
+    }
+}
+
+impl From<AllocError> for WriteError {
+    ghost from_gives = { λ _ why. why ≡ Memory };
+
+    fn from(_error: AllocError) -> WriteError {
+        WriteError::Memory
+    }
 }

@@ -24,6 +24,8 @@ pub struct Site {
     pub(crate) vector: Vector,
     pub(crate) versions: Versions,
     pub(crate) held: IndexMap<Key, Blob, RandomState>,
+    pub(crate) hits: u64,
+    pub(crate) misses: u64,
     ghost numbered: { Numbered number vector },
     ghost floor_known: { knows_floor vector (floor_in versions) ≡ true },
     ghost covered: { Covers vector (record_in versions) },
@@ -33,8 +35,8 @@ pub struct Site {
 impl Site {
     ghost use Rattle.std.specs.Map.{lookup};
     ghost use Rattle.geo_versions.specs.Maps.{Rising};
-    ghost use Rattle.geo_site.specs.Machine.{IsRecordCount};
-    ghost use Rattle.geo_site.specs.Sites.{state_in, OpenDoes};
+    ghost use Rattle.geo_site.specs.Machine.{IsRecordCount, IsHeldCount};
+    ghost use Rattle.geo_site.specs.Sites.{state_in, record_count, held_count, OpenDoes};
 
     /// A site that knows nothing. The number of sites is tested first, then the site's number, then the most records.
     pub fn new(alloc: Global, setup: Setup) -> Result<Site, SetupError>
@@ -58,6 +60,8 @@ impl Site {
             vector: Vector::new(setup.sites as usize),
             versions: Versions::new(alloc, setup.hasher),
             held: IndexMap::with_hasher(alloc, hasher),
+            hits: 0,
+            misses: 0,
         })
     }
 
@@ -92,8 +96,17 @@ impl Site {
 
     /// How many keys have a record: a version, or what is left of one that is gone.
     pub fn records(&self) -> usize
-        ensures { IsRecordCount (state_in self.now).map result }
+        ensures count { result ≡ record_count self.now }
+        ensures records { IsRecordCount (state_in self.now).map result }
     {
         self.versions.len()
+    }
+
+    /// How many values it holds, expired ones too.
+    pub fn items(&self) -> usize
+        ensures count { result ≡ held_count self.now }
+        ensures held { IsHeldCount (state_in self.now).held result }
+    {
+        self.held.len()
     }
 }

@@ -1,5 +1,5 @@
 use Rattle.std.proofs.Common.{rules, arith}
-use Rattle.geo_grammar.proofs.Digits.{number_over}
+use Rattle.geo_grammar.proofs.Splitting.{number_over}
 use Rattle.geo_grammar.proofs.words.number.Goals as goal
 
 pub returns-in_default-clause-value : goal.returns-in_default-clause-value

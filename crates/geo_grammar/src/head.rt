@@ -1,0 +1,45 @@
+//! What a storage line announces.
+ghost use Rattle.std.specs.Prelude.{◌≡◌};
+ghost use Rattle.geo_grammar.specs.Commands.{stored};
+
+use crate::request::{Request, Verb};
+use crate::value::ValueBytes;
+use geo_versions::Key;
+
+/// What a storage line announces: a store whose data, of `size` bytes, is still to come.
+#[derive(Drop)]
+pub struct Head {
+    pub verb: Verb,
+    pub key: Key,
+    pub flags: u32,
+    pub exptime: i64,
+    pub unique: Option<u64>,
+    pub size: usize,
+    pub noreply: bool,
+}
+
+impl Head {
+    /// The request, now that its data is there.
+    pub fn request(self, bytes: Vec<u8>) -> Request
+        ensures { result ≡ stored self bytes.items }
+    {
+        let Head {
+            verb,
+            key,
+            flags,
+            exptime,
+            unique,
+            noreply,
+            ..
+        } = self;
+        Request::Store {
+            verb,
+            key,
+            flags,
+            exptime,
+            unique,
+            bytes: ValueBytes::of(bytes),
+            noreply,
+        }
+    }
+}

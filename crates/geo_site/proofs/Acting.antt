@@ -1,0 +1,146 @@
+-- A request that changes one key: from what becomes of the key to what is owed.
+use Rattle.std.proofs.Common.{◌≡◌, ℕ, ◌+◌, ◌≤◌, ◌<◌, Bool, true, false, cond, not, ◌&&◌, ◌||◌, nat_lt, List, [], ◌∷◌, length, Option, None, Some, refl, sym, ap, ◌∙◌, subst, inl, inr, arith, true≢false}
+use Rattle.std.proofs.lemmas.Bool.Decides.{nat_tests}
+use Rattle.geo_stamp.specs.Stamps.{last_time}
+use Rattle.geo_grammar.specs.declared.request.Request.{Request}
+use Rattle.geo_grammar.specs.declared.reply.Reply.{Reply}
+use Rattle.geo_grammar.specs.declared.reply.Reply.TheVariants as reply
+use Rattle.geo_memcache.specs.Entries.{Entry}
+use Rattle.geo_memcache.specs.Decisions.{Verdict, stores, deletes, counts, decision_of, decided, is_made}
+use Rattle.geo_memcache.specs.declared.ask.Ask.{Ask}
+use Rattle.geo_memcache.specs.declared.ask.Ask.TheVariants.{Store, Fetch, Delete, Arith}
+use Rattle.geo_memcache.specs.declared.decision.Answer.TheVariants as answer
+use Rattle.geo_memcache.specs.declared.decision.Effect.{Effect}
+use Rattle.geo_memcache.specs.declared.decision.Effect.TheVariants.{Nothing, Keep, Made, Tomb}
+use Rattle.geo_site.specs.declared.site.Site.{Site}
+use Rattle.geo_site.specs.declared.refusal.WriteError.{WriteError}
+use Rattle.geo_site.specs.declared.refusal.WriteError.TheVariants.{MapFull, ClockEnded, Memory}
+use Rattle.geo_site.specs.Entries.{Basis, Visible, found_of, replied, issued, acts_of, is_some_act, is_crowded, lacks, owed, may_want_memory, shows_values, Answers, is_done}
+use Rattle.geo_site.specs.Machine.{SiteState, Same, clock_of, visible_in}
+use Rattle.geo_site.specs.Sites.{state_in, basis_in, stats_in, issued_in, HasIssued}
+use Rattle.geo_site.specs.Changes.{is_change, bytes_in, is_crowded_out, CanWrite, refusal_reply, EffectDoes, ChangeDoes, IsShort}
+use Rattle.geo_site.proofs.Verdicts.{Plain, stores_plain, deletes_plain, counts_plain}
+
+-- a state is itself
+pub unchanged : (st : SiteState) → Same st st
+unchanged st = record { vector = refl; floor = refl; map = λ key. refl; held = λ key. refl }
+
+-- no decision writes more than a value may have
+pub decided_short : (present : Option Entry) (now : ℕ) (ask : Ask) → is_change ask ≡ true → IsShort (decided present now ask).effect (bytes_in ask)
+decided_short present now (Store verb flags exptime unique bytes) h = (stores_plain verb flags exptime unique bytes.now now present).short
+decided_short present now (Fetch numbers) h = absurd (true≢false (sym h))
+decided_short present now Delete h = (deletes_plain present).short
+decided_short present now (Arith up by) h = (counts_plain up by present).short
+
+-- each change is answered by a reply
+pub decided_replies : (present : Option Entry) (now : ℕ) (ask : Ask) → is_change ask ≡ true → (r : Reply) × ((decided present now ask).answer ≡ answer.Reply r)
+decided_replies present now (Store verb flags exptime unique bytes) h = ((stores verb flags exptime unique bytes.now now present).0, refl)
+decided_replies present now (Fetch numbers) h = absurd (true≢false (sym h))
+decided_replies present now Delete h = ((deletes present).0, refl)
+decided_replies present now (Arith up by) h = ((counts up by present).0, refl)
+
+-- bytes that are made are written
+pub made_acts : (key bytes : List ℕ) (effect : Effect) → is_made effect ≡ true → is_some_act (acts_of key bytes effect) ≡ true
+made_acts key bytes Nothing h = h
+made_acts key bytes (Keep flags expiry) h = refl
+made_acts key bytes (Made made flags expiry) h = refl
+made_acts key bytes Tomb h = refl
+
+and_false : (b : Bool) → b && false ≡ false
+and_false true = refl
+and_false false = refl
+
+one_key : (full recorded : Bool) → full && (not recorded || false) ≡ full && not recorded
+one_key true true = refl
+one_key true false = refl
+one_key false recorded = refl
+
+later : (clock : ℕ) → clock + 1 ≤ last_time → nat_lt last_time (clock + 1) ≡ false
+later clock le = grind (arith, nat_tests)
+
+ended : (clock : ℕ) → last_time < clock + 1 → nat_lt last_time (clock + 1) ≡ true
+ended clock lt = grind (arith, nat_tests)
+
+module _ (old : Site) (now : ℕ) (key bytes : List ℕ) where
+  full : Bool
+  full = (basis_in old now).full
+
+  crowded_is : (effect : Effect) → is_some_act (acts_of key bytes effect) ≡ true → is_crowded (basis_in old now) (acts_of key bytes effect) ≡ is_crowded_out old key
+  crowded_is Nothing h = absurd (true≢false (sym h))
+  crowded_is (Keep flags expiry) h = one_key (basis_in old now).full ((basis_in old now).recorded key)
+  crowded_is (Made made flags expiry) h = one_key (basis_in old now).full ((basis_in old now).recorded key)
+  crowded_is Tomb h = one_key (basis_in old now).full ((basis_in old now).recorded key)
+
+  lacks_is : (effect : Effect) → is_some_act (acts_of key bytes effect) ≡ true → lacks (clock_of (state_in old)) (acts_of key bytes effect) ≡ nat_lt last_time (clock_of (state_in old) + 1)
+  lacks_is Nothing h = absurd (true≢false (sym h))
+  lacks_is (Keep flags expiry) h = refl
+  lacks_is (Made made flags expiry) h = refl
+  lacks_is Tomb h = refl
+
+  not_refused : (effect : Effect) → (is_some_act (acts_of key bytes effect) ≡ true → CanWrite old key)
+      → (is_crowded (basis_in old now) (acts_of key bytes effect) ≡ false) × (lacks (clock_of (state_in old)) (acts_of key bytes effect) ≡ false)
+  not_refused Nothing h = (and_false (basis_in old now).full, refl)
+  not_refused (Keep flags expiry) h = let c = h refl in (crowded_is (Keep flags expiry) refl ∙ c.0, later (clock_of (state_in old)) c.1)
+  not_refused (Made made flags expiry) h = let c = h refl in (crowded_is (Made made flags expiry) refl ∙ c.0, later (clock_of (state_in old)) c.1)
+  not_refused Tomb h = let c = h refl in (crowded_is Tomb refl ∙ c.0, later (clock_of (state_in old)) c.1)
+
+same_reply : {a b : Reply} → answer.Reply a ≡ answer.Reply b → a ≡ b
+same_reply h = cc
+
+wants : (some shows crowded lacking : Bool) → some ≡ true → crowded ≡ false → lacking ≡ false → (some || shows) && not crowded && not lacking ≡ true
+wants some shows crowded lacking a b c = λ i. (a i || shows) && not (b i) && not (c i)
+
+module _ (old new : Site) (now : ℕ) (request : Request) (key bytes : List ℕ) (v : Verdict) (said : Reply) (plain : Plain v bytes)
+    (replied_is : replied now (visible_in (state_in old) now) (stats_in old) request ≡ v.0)
+    (issued_is : issued now (visible_in (state_in old) now) request ≡ acts_of key bytes v.1)
+    (does : ChangeDoes old new key bytes (decision_of v) said) where
+  owed_by : (crowded lacking : Bool) → is_crowded (basis_in old now) (acts_of key bytes v.1) ≡ crowded → lacks (clock_of (state_in old)) (acts_of key bytes v.1) ≡ lacking
+      → owed now (basis_in old now) request ≡ cond {A = Reply} crowded reply.MapFull (cond {A = Reply} lacking reply.ClockEnded v.0)
+  owed_by crowded lacking e f = λ i. cond {A = Reply} ((ap (is_crowded (basis_in old now)) issued_is ∙ e) i) reply.MapFull (cond {A = Reply} ((ap (lacks (clock_of (state_in old))) issued_is ∙ f) i) reply.ClockEnded (replied_is i))
+
+  -- what was refused is not done
+  refusal_done : (why : WriteError) → is_done (refusal_reply why) ≡ false
+  refusal_done MapFull = refl
+  refusal_done ClockEnded = refl
+  refusal_done Memory = refl
+
+  pub change_answers : Answers now (basis_in old now) request said
+  change_answers = elim does [
+    | inl d ↦ let n = not_refused old now key bytes v.1 d.1.0 in inl (sym (same_reply d.0) ∙ sym (owed_by false false n.0 n.1))
+    | inr d ↦ refused d.0 d.1 d.2
+  ]
+    where
+      refused : (why : WriteError) → said ≡ refusal_reply why → EffectDoes old new key bytes v.1 (Rattle.std.specs.Prelude.Err why) → Answers now (basis_in old now) request said
+      refused MapFull e h = inl (e ∙ sym (owed_by true _ (crowded_is old now key bytes v.1 h.0 ∙ h.1) refl))
+      refused ClockEnded e h = inl (e ∙ sym (owed_by false true (crowded_is old now key bytes v.1 h.0 ∙ h.1.0) (lacks_is old now key bytes v.1 h.0 ∙ ended (clock_of (state_in old)) h.1.1)))
+      refused Memory e h = inr (
+        e,
+        wants (is_some_act (issued now (visible_in (state_in old) now) request)) (shows_values request) (is_crowded (basis_in old now) (issued now (visible_in (state_in old) now) request)) (lacks (clock_of (state_in old)) (issued now (visible_in (state_in old) now) request))
+            (ap is_some_act issued_is ∙ h.0)
+            (ap (is_crowded (basis_in old now)) issued_is ∙ crowded_is old now key bytes v.1 h.0 ∙ h.1.0)
+            (ap (lacks (clock_of (state_in old))) issued_is ∙ lacks_is old now key bytes v.1 h.0 ∙ later (clock_of (state_in old)) h.1.1),
+      )
+
+  pub change_done : is_done said ≡ true → HasIssued old new (issued_in old now request)
+  change_done t = elim does [
+    | inl d ↦ subst (λ acts. HasIssued old new acts) (sym issued_is) d.1.1
+    | inr d ↦ absurd (true≢false (sym t ∙ ap is_done d.1 ∙ refusal_done d.0))
+  ]
+
+  pub change_refused : is_done said ≡ false → Same (state_in old) (state_in new)
+  change_refused f = elim does [
+    | inl d ↦ absurd (true≢false (sym (ap is_done (sym (same_reply d.0)) ∙ plain.done) ∙ f))
+    | inr d ↦ refused_same d.0 d.2
+  ]
+    where
+      refused_same : (why : WriteError) → EffectDoes old new key bytes v.1 (Rattle.std.specs.Prelude.Err why) → Same (state_in old) (state_in new)
+      refused_same why h = h.2
+
+-- as many are found as there are keys, at most
+pub found_at_most : (numbers : Bool) (seen : Visible) (keys : List (List ℕ)) → length (found_of numbers seen keys) ≤ length keys
+found_at_most numbers seen [] = omega arith
+found_at_most numbers seen (key ∷ keys) = by (seen key) (found_at_most numbers seen keys)
+  where
+    by : (o : Option Entry) → length (found_of numbers seen keys) ≤ length keys → length (Rattle.std.specs.Prelude.◌++◌ (Rattle.geo_site.specs.Entries.found_at numbers key o) (found_of numbers seen keys)) ≤ length (key ∷ keys)
+    by None h = omega (arith, h)
+    by (Some e) h = omega (arith, h)

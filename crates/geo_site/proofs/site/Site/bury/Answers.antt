@@ -1,0 +1,64 @@
+use Rattle.std.proofs.Common.{◌≡◌, ◌+◌, ℕ, List, arith, ap, ◌∙◌, length}
+use Rattle.std.specs.Prelude.{cond, Some, None, Option}
+use Rattle.indexmap.specs.IndexMap.{get}
+use Rattle.geo_stamp.specs.Stamps.{Moment}
+use Rattle.geo_stamp.specs.Vectors.{raised, greatest_of}
+use Rattle.geo_versions.specs.Keys.{same_key}
+use Rattle.geo_versions.specs.Operations.{Record, above_both, record_joined}
+use Rattle.geo_versions.specs.Operations.Act.{Delete}
+use Rattle.geo_versions.specs.declared.body.Body.TheVariants.{Gone}
+use Rattle.geo_versions.specs.Maps.{floor_in, record_in}
+use Rattle.geo_site.specs.Entries.{Held}
+use Rattle.geo_site.specs.Machine.{knows_floor, knows_record}
+use Rattle.geo_site.proofs.Entries.{Within, length_raised}
+use Rattle.geo_site.proofs.Written.{delete_puts, write_floor, write_covers, write_named, write_same}
+use Rattle.geo_site.proofs.site.Site.bury.Goals as goal
+
+pub invariant_of-self-2 : goal.invariant_of-self-2
+invariant_of-self-2 c =
+    let s = c.args.self.now in
+    let v = s.vector in
+    let n = s.number in
+    let f = floor_in s.versions in
+    let map = record_in s.versions in
+    let held : Held = λ q. get same_key s.held q in
+    let held' : Held = λ q. get same_key c.drop_held.new.held q in
+    let key = c.args.key.now in
+    let num : Within v n = record { above = s.numbered.0; below = s.numbered.1 } in
+    let vec : c.raise.new.self ≡ raised v n (greatest_of v + 1) = c.raise.ensures ∙ ap (raised v n) (c.time.ensures.time ∙ ap (λ (m : Moment). m.time) c.requires.next) in
+    let new : (q : List ℕ) → record_in c.write.new.self q ≡ cond {A = Record} (same_key q key) (above_both f (record_joined (map q) (Some (record { time = greatest_of v + 1; site = n }, Gone), Some (record { time = greatest_of v + 1; site = n }, 0)))) (map q)
+    = λ q. c.in_ok-write.ensures.ok q ∙ (λ i. cond {A = Record} (same_key q key) (above_both f (record_joined (map q) (Some (c.requires.next i, Gone), Some (c.requires.next i, 0)))) (map q)) in
+    let new_held : (q : List ℕ) → held' q ≡ cond {A = Option (List ℕ)} (same_key q key) None (held q) = λ q. c.drop_held.ensures q in
+    let norm : (q : List ℕ) → above_both f (map q) ≡ map q = s.versions.above in
+    let f' = floor_in c.write.new.self in
+    let map' = record_in c.write.new.self in
+    let floor = write_floor v f f' map map' held held' n 0 key (Delete key) Gone None (delete_puts key) s.floor_known s.covered s.named norm num c.in_ok-write.ensures.floor new new_held in
+    let covers = write_covers v f f' map map' held held' n 0 key (Delete key) Gone None (delete_puts key) s.floor_known s.covered s.named norm num c.in_ok-write.ensures.floor new new_held in
+    let many = ap length vec ∙ length_raised v n (greatest_of v + 1) in
+    record {
+      numbered = (s.numbered.0, (let h = s.numbered.1 in omega (arith, many, h)), (let h = s.numbered.2 in omega (arith, many, h)));
+      floor_known = ap (λ v. knows_floor v f') vec ∙ floor;
+      covered = λ q. ap (λ v. knows_record v (map' q)) vec ∙ covers q;
+      named = write_named v f f' map map' held held' n 0 key (Delete key) Gone None (delete_puts key) s.floor_known s.covered s.named norm num c.in_ok-write.ensures.floor new new_held;
+    }
+
+pub returns-clause-deleted : goal.returns-clause-deleted
+returns-clause-deleted c =
+    let s = c.args.self.now in
+    let v = s.vector in
+    let n = s.number in
+    let f = floor_in s.versions in
+    let map = record_in s.versions in
+    let held : Held = λ q. get same_key s.held q in
+    let held' : Held = λ q. get same_key c.drop_held.new.held q in
+    let key = c.args.key.now in
+    let num : Within v n = record { above = s.numbered.0; below = s.numbered.1 } in
+    let vec : c.raise.new.self ≡ raised v n (greatest_of v + 1) = c.raise.ensures ∙ ap (raised v n) (c.time.ensures.time ∙ ap (λ (m : Moment). m.time) c.requires.next) in
+    let new : (q : List ℕ) → record_in c.write.new.self q ≡ cond {A = Record} (same_key q key) (above_both f (record_joined (map q) (Some (record { time = greatest_of v + 1; site = n }, Gone), Some (record { time = greatest_of v + 1; site = n }, 0)))) (map q)
+    = λ q. c.in_ok-write.ensures.ok q ∙ (λ i. cond {A = Record} (same_key q key) (above_both f (record_joined (map q) (Some (c.requires.next i, Gone), Some (c.requires.next i, 0)))) (map q)) in
+    let new_held : (q : List ℕ) → held' q ≡ cond {A = Option (List ℕ)} (same_key q key) None (held q) = λ q. c.drop_held.ensures q in
+    let norm : (q : List ℕ) → above_both f (map q) ≡ map q = s.versions.above in
+    let f' = floor_in c.write.new.self in
+    let map' = record_in c.write.new.self in
+    let same = write_same v f f' map map' held held' n 0 key (Delete key) Gone None (delete_puts key) s.floor_known s.covered s.named norm num c.in_ok-write.ensures.floor new new_held in
+    record { vector = vec; floor = same.floor; map = same.map; held = same.held }

@@ -1,0 +1,73 @@
+-- What a request changes at one key, step by step: its stamp, its effect, and the reply.
+use Rattle.std.specs.Prelude.{◌≡◌, ◌⊎◌, ℕ, ◌+◌, ◌≤◌, ◌<◌, Bool, true, false, not, ◌&&◌, nat_le, List, [], length, Result, Ok, Err}
+use Rattle.geo_stamp.specs.Stamps.{Moment, last_time}
+use Rattle.geo_versions.specs.Maps.{has_register}
+use Rattle.geo_grammar.specs.declared.reply.Reply.{Reply}
+use Rattle.geo_grammar.specs.declared.reply.Reply.TheVariants as reply
+use Rattle.geo_memcache.specs.declared.ask.Ask.{Ask}
+use Rattle.geo_memcache.specs.declared.ask.Ask.TheVariants.{Store, Fetch, Delete, Arith}
+use Rattle.geo_memcache.specs.declared.decision.Decision.{Decision}
+use Rattle.geo_memcache.specs.declared.decision.Answer.TheVariants as answer
+use Rattle.geo_memcache.specs.declared.decision.Effect.{Effect}
+use Rattle.geo_memcache.specs.declared.decision.Effect.TheVariants.{Nothing, Keep, Made, Tomb}
+use Rattle.geo_grammar.specs.Limits.{longest_value}
+use Rattle.geo_site.specs.declared.site.Site.{Site}
+use Rattle.geo_site.specs.declared.refusal.WriteError.{WriteError}
+use Rattle.geo_site.specs.declared.refusal.WriteError.TheVariants.{MapFull, ClockEnded, Memory}
+use Rattle.geo_site.specs.Entries.{acts_of, is_some_act}
+use Rattle.geo_site.specs.Machine.{Same, clock_of}
+use Rattle.geo_site.specs.Sites.{state_in, most_records, record_count, HasIssued}
+
+-- what asks for more than a look
+abbrev pub is_change : Ask → Bool
+is_change (Store verb flags exptime unique bytes) = true
+is_change (Fetch numbers) = false
+is_change Delete = true
+is_change (Arith up by) = true
+
+-- the bytes that are asked to be stored
+abbrev pub bytes_in : Ask → List ℕ
+bytes_in (Store verb flags exptime unique bytes) = bytes.now
+bytes_in (Fetch numbers) = []
+bytes_in Delete = []
+bytes_in (Arith up by) = []
+
+-- the next stamp of a site
+abbrev pub next_stamp_of : Site → Moment
+next_stamp_of site = record { time = clock_of (state_in site) + 1; site = site.number }
+
+-- the map is full, and has no record of the key
+abbrev pub is_crowded_out : Site → List ℕ → Bool
+is_crowded_out site key = nat_le (most_records site) (record_count site) && not (has_register ((state_in site).map key))
+
+abbrev pub CanWrite : Site → List ℕ → Type 0
+CanWrite site key = (is_crowded_out site key ≡ false) × (clock_of (state_in site) + 1 ≤ last_time)
+
+-- why a key is not written, tested in this order; want of memory comes last
+abbrev pub WriteRefuses : Site → List ℕ → WriteError → Type 0
+WriteRefuses site key MapFull = is_crowded_out site key ≡ true
+WriteRefuses site key ClockEnded = (is_crowded_out site key ≡ false) × (last_time < clock_of (state_in site) + 1)
+WriteRefuses site key Memory = CanWrite site key
+
+abbrev pub refusal_reply : WriteError → Reply
+refusal_reply MapFull = reply.MapFull
+refusal_reply ClockEnded = reply.ClockEnded
+refusal_reply Memory = reply.OutOfMemory
+
+-- no effect writes more than a value may have
+abbrev pub IsShort : Effect → List ℕ → Type 0
+IsShort Nothing bytes = Unit {0}
+IsShort (Keep flags expiry) bytes = length bytes ≤ longest_value
+IsShort (Made made flags expiry) bytes = length made ≤ longest_value
+IsShort Tomb bytes = Unit {0}
+
+-- what becomes of a site by an effect on a key, by its result
+abbrev pub EffectDoes : Site → Site → List ℕ → List ℕ → Effect → Result (Unit {0}) WriteError → Type 0
+EffectDoes old new key bytes effect (Ok done) = (is_some_act (acts_of key bytes effect) ≡ true → CanWrite old key) × HasIssued old new (acts_of key bytes effect)
+EffectDoes old new key bytes effect (Err why) = (is_some_act (acts_of key bytes effect) ≡ true) × WriteRefuses old key why × Same (state_in old) (state_in new)
+
+-- the reply is the decision's and its effect was carried out, or it was refused and changes nothing
+abbrev pub ChangeDoes : Site → Site → List ℕ → List ℕ → Decision → Reply → Type 0
+ChangeDoes old new key bytes decision said =
+    ((decision.answer ≡ answer.Reply said) × EffectDoes old new key bytes decision.effect (Ok tt))
+    ⊎ ((why : WriteError) × (said ≡ refusal_reply why) × EffectDoes old new key bytes decision.effect (Err why))
