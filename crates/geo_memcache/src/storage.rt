@@ -85,19 +85,16 @@ pub(crate) fn store(
     ensures memory { IfErr result (λ _. is_made (stores verb flags exptime unique bytes.now now (present_of present.entry)).1 ≡ true) }
 {
     match (verb, present) {
+        (Verb::Set, _) | (Verb::Add, None) | (Verb::Replace, Some(_)) => {
+            Ok(keep(flags, exptime, bytes, now))
+        }
         (Verb::Append, Some(entry)) => join(alloc, entry, entry.bytes.as_slice(), bytes.as_slice()),
-        (Verb::Prepend, Some(entry)) => join(
-            alloc,
-            entry,
-            bytes.as_slice(),
-            entry.bytes.as_slice(),
-        ),
-        (Verb::Set, _) | (Verb::Add, None) | (Verb::Replace, Some(_)) => Ok(keep(
-            flags, exptime, bytes, now,
-        )),
+        (Verb::Prepend, Some(entry)) => {
+            join(alloc, entry, bytes.as_slice(), entry.bytes.as_slice())
+        }
         (Verb::Cas, _) => Ok(compare(present, unique, flags, exptime, bytes, now)),
-        (Verb::Add, Some(_)) | (Verb::Replace | Verb::Append | Verb::Prepend, None) => Ok(
-            Decision::only(Reply::NotStored),
-        ),
+        (Verb::Add, Some(_)) | (Verb::Replace | Verb::Append | Verb::Prepend, None) => {
+            Ok(Decision::only(Reply::NotStored))
+        }
     }
 }

@@ -21,8 +21,8 @@ use indexmap::IndexMap;
 use std::alloc::{AllocError, Global};
 use std::hash::RandomState;
 
-/// A copy of the bytes that are asked to be stored.
-fn asked_bytes(alloc: Global, ask: &Ask<'_>) -> Result<ValueBytes, AllocError>
+/// A copy of the bytes that are asked to be stored; none where none are asked to be.
+pub fn asked_bytes(alloc: Global, ask: &Ask<'_>) -> Result<ValueBytes, AllocError>
     ensures { IfOk result (λ bytes. bytes ≡ bytes_in ask.now) }
 {
     match ask {

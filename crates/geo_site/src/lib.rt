@@ -17,6 +17,7 @@ pub mod setup;
 pub mod site;
 
 pub use blob::Blob;
+pub use change::asked_bytes;
 pub use event::{Event, Trace};
 pub use exchange::{Refused, Taken};
 pub use refusal::{SendError, SetupError, TakeError, WriteError};

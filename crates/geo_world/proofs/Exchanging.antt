@@ -27,16 +27,16 @@ use Rattle.geo_site.specs.declared.refusal.TakeError.TheVariants.{NotForMe, Unkn
 use Rattle.geo_site.specs.declared.refusal.TakeError.TheVariants as takes
 use Rattle.geo_site.specs.Entries.{Held}
 use Rattle.geo_site.specs.Machine.{SiteState, Same, take, knows_record, knows_floor}
-use Rattle.geo_site.specs.Sites.{state_in, delta_of, knows_all, is_sound, Takes, RefusesFor, IsSent, SendRefuses}
+use Rattle.geo_site.specs.Sites.{state_in, counts_in, most_records, delta_of, knows_all, is_sound, Takes, RefusesFor, IsSent, SendRefuses}
 use Rattle.geo_site.specs.Schedule.{Known, settles, still_held, carried, addressee, happens, Lawful, TakeRefusedFor, SendRefusedFor}
 use Rattle.geo_site.specs.Agreement.{Kept, Holds, NoTime, Tells, StateOf}
 use Rattle.std.specs.Cmp.Lexicographic.{nat_list_eq_equiv}
 use Rattle.geo_site.proofs.Written.{joined_none}
 use Rattle.geo_site.proofs.Sound.{here, there, held_here, held_there}
 use Rattle.geo_site.proofs.Steps.{state_takes, state_same, zeros_length, told_positive_body, told_positive_expiry}
-use Rattle.geo_world.specs.Agreement.{Stands, Carries, Agrees}
+use Rattle.geo_world.specs.Agreement.{SiteKnown, about, Stands, Carries, Agrees}
 use Rattle.geo_world.proofs.Worlds.{some_same, some_none, get_appended}
-use Rattle.geo_world.proofs.Changing.{agrees_changed}
+use Rattle.geo_world.proofs.Changing.{agrees_changed, settled_about}
 
 -- ---- lists of records by rising key
 less_other : (a b : List ℕ) → slice_cmp nat_cmp a b ≡ Less → same_key b a ≡ false
@@ -138,8 +138,10 @@ module _ (n s : ℕ) (st : SiteState) (ops : List Operation) (held : Held) (ok :
       (kept_positive (st.map key).1 (latest_expiry ops key) (ok.holds key).expiry (told_positive_expiry s st.vector st.floor ops ok.tells key))
 
 -- ---- a send
-pub carries_sent : (n s to : ℕ) (site : Site) (parcel : Parcel) (ops : List Operation) (held : Held) → Stands n s site ops held → 1 ≤ s → s ≤ n → to ≢ site.number → IsSent site to parcel → Carries n parcel (to, ops)
-carries_sent n s to site parcel ops held st lo hi ne sent =
+pub carries_sent : (n s to : ℕ) (site : Site) (parcel : Parcel) (known_of : SiteKnown) → Stands n s site known_of → 1 ≤ s → s ≤ n → to ≢ site.number → IsSent site to parcel → Carries n parcel (to, known_of.ops)
+carries_sent n s to site parcel known_of st lo hi ne sent =
+    let ops = known_of.ops in
+    let held = known_of.held in
     let many : length site.vector ≡ n = st.state.many in
     let from : parcel.from ≡ s = sent.sender ∙ st.own in
     let known : (q : List ℕ) → knows_record parcel.upto (listed_at parcel.records q) ≡ true =
@@ -159,7 +161,7 @@ carries_sent n s to site parcel ops held st lo hi ne sent =
       };
     }
 
-pub agrees_sent : (sites : List Site) (parcels : List Parcel) (w : Known) (s to : ℕ) (parcel : Parcel) → Agrees sites parcels w → Carries (length sites) parcel (to, w.at s) → Agrees sites (parcels ++ parcel ∷ []) (record { at = w.at; held = w.held; sent = w.sent ++ (to, w.at s) ∷ [] })
+pub agrees_sent : (sites : List Site) (parcels : List Parcel) (w : Known) (s to : ℕ) (parcel : Parcel) → Agrees sites parcels w → Carries (length sites) parcel (to, w.at s) → Agrees sites (parcels ++ parcel ∷ []) (record { at = w.at; held = w.held; counts = w.counts; limit = w.limit; sent = w.sent ++ (to, w.at s) ∷ [] })
 agrees_sent sites parcels w s to parcel agrees c =
     let d : ℕ × List Operation = (0, []) in
     let x0 : ℕ × List Operation = (to, w.at s) in
@@ -203,11 +205,11 @@ sound_parcel n number parcel sent c to =
     c.floor_known c.records_known
 
 module _ (sites : List Site) (parcels : List Parcel) (w : Known) (agrees : Agrees sites parcels w) (k s p : ℕ) (at_number : s ≡ k + 1) (hi : s ≤ length sites) (old new : Site) (got : slice_get sites k ≡ Some old)
-    (parcel : Parcel) (got_parcel : slice_get parcels p ≡ Some parcel) (number : new.number ≡ old.number) where
+    (parcel : Parcel) (got_parcel : slice_get parcels p ≡ Some parcel) (number : new.number ≡ old.number) (counts : counts_in new ≡ counts_in old) (limit : most_records new ≡ most_records old) where
   carries : Carries (length sites) parcel (slice_index_or w.sent p (0, []))
   carries = agrees.each_sent p parcel got_parcel
 
-  stands : Stands (length sites) s old (w.at s) (w.held s)
+  stands : Stands (length sites) s old (about w s)
   stands = agrees.each k s old at_number got
 
   pub taken_lawful : Takes old parcel → Lawful w (Take s p) Taken
@@ -228,8 +230,10 @@ module _ (sites : List Site) (parcels : List Parcel) (w : Known) (agrees : Agree
         own = number ∙ st.own;
         state = subst₂ (λ (ops : List Operation) (h : Held). StateOf n s (state_in new) ops h) (sym (here w s ops (w.held s))) (sym (held_here w s ops (w.held s)))
             (state_same n s (take s (delta_of parcel) (state_in old)) (state_in new) ops (still_held ops (w.held s)) takes_it same2);
+        counts = counts ∙ st.counts;
+        limit = limit ∙ st.limit;
       })
-      (there w s ops (w.held s)) (held_there w s ops (w.held s)) refl
+      (λ t ne. settled_about w s ops (w.held s) t ne) refl
 
   pub refused_lawful : (why : TakeError) → RefusesFor old parcel why → Lawful w (Take s p) (TakeRefused why)
   refused_lawful why r =
@@ -237,7 +241,7 @@ module _ (sites : List Site) (parcels : List Parcel) (w : Known) (agrees : Agree
       let c = agrees.each_sent p parcel got_parcel in
       by why r st c
     where
-      by : (why : TakeError) → RefusesFor old parcel why → Stands (length sites) s old (w.at s) (w.held s) → Carries (length sites) parcel (slice_index_or w.sent p (0, [])) → TakeRefusedFor s (addressee w p) why
+      by : (why : TakeError) → RefusesFor old parcel why → Stands (length sites) s old (about w s) → Carries (length sites) parcel (slice_index_or w.sent p (0, [])) → TakeRefusedFor s (addressee w p) why
       by NotForMe r st c = λ e. r (c.addressee ∙ e ∙ sym st.own)
       by UnknownSite r st c = absurd (true≢false (sym (sound_parcel (length old.vector) old.number parcel _ (subst (λ n. Carries n parcel (slice_index_or w.sent p (0, []))) (sym st.state.many) c) r.0) ∙ r.1))
       by Gap r st c = absurd (r.2 (ap (vector_joined old.vector) c.base ∙ joined_zeros old.vector (length sites) st.state.many))
@@ -247,12 +251,12 @@ module _ (sites : List Site) (parcels : List Parcel) (w : Known) (agrees : Agree
   refused_agrees why same =
       let st = agrees.each k s old at_number got in
       agrees_changed sites parcels w w agrees k s at_number new
-      (record { own = number ∙ st.own; state = state_same (length sites) s (state_in old) (state_in new) (w.at s) (w.held s) st.state same })
-      (λ t ne. refl) (λ t ne. refl) refl
+      (record { own = number ∙ st.own; state = state_same (length sites) s (state_in old) (state_in new) (w.at s) (w.held s) st.state same; counts = counts ∙ st.counts; limit = limit ∙ st.limit })
+      (λ t ne. refl) refl
 
-pub send_refused : (n s to : ℕ) (site : Site) (ops : List Operation) (held : Held) → Stands n s site ops held → 1 ≤ to → to ≤ n → (why : SendError) → SendRefuses site to why → SendRefusedFor s to why
-send_refused n s to site ops held st lo hi NoSuchSite r = elim (cases_eq to s) [
+pub send_refused : (n s to : ℕ) (site : Site) (known_of : SiteKnown) → Stands n s site known_of → 1 ≤ to → to ≤ n → (why : SendError) → SendRefuses site to why → SendRefusedFor s to why
+send_refused n s to site known_of st lo hi NoSuchSite r = elim (cases_eq to s) [
   | inl e ↦ e
   | inr ne ↦ let many = st.state.many in absurd (r (lo, omega (arith, many, hi), λ e. ne (e ∙ st.own)))
 ]
-send_refused n s to site ops held st lo hi sends.Memory r = λ e. r.2 (e ∙ sym st.own)
+send_refused n s to site known_of st lo hi sends.Memory r = λ e. r.2 (e ∙ sym st.own)

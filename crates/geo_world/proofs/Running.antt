@@ -6,7 +6,7 @@ use Rattle.geo_delta.specs.declared.parcel.Parcel.{Parcel}
 use Rattle.geo_site.specs.declared.site.Site.{Site}
 use Rattle.geo_site.specs.declared.event.Event.{Event}
 use Rattle.geo_site.specs.declared.event.Trace.{Trace}
-use Rattle.geo_site.specs.Schedule.{Known, nobody, happens, known, Lawful, EachLawful}
+use Rattle.geo_site.specs.Schedule.{Known, happens, known, Lawful, EachLawful}
 use Rattle.geo_site.proofs.Served.{lawful_more, known_more}
 use Rattle.geo_world.specs.There.{is_there, is_in_time, all_in_time, EachThere, IsMissing}
 use Rattle.geo_versions.specs.Operations.{Operation, State, version_in, SameOperations}
@@ -20,8 +20,8 @@ use Rattle.geo_site.specs.declared.setup.Setup.{Setup}
 use Rattle.geo_world.specs.declared.outcome.WorldError.{WorldError}
 use Rattle.geo_world.specs.declared.outcome.WorldError.TheVariants.{Setups, BadEvent, Memory}
 use Rattle.geo_world.specs.declared.world.World.{World}
-use Rattle.geo_world.specs.Setups.{are_setups}
-use Rattle.geo_world.specs.Agreement.{StepDoes, RunRefuses, Stands, Agrees, ShowsVersions, SameVersions}
+use Rattle.geo_world.specs.Setups.{are_setups, start}
+use Rattle.geo_world.specs.Agreement.{SiteKnown, StepDoes, RunRefuses, Stands, Agrees, ShowsVersions, SameVersions}
 
 there_more : (n : ℕ) (w : Known) (es : List Event) (ts : List Trace) (e : Event) (t : Trace) → EachLawful w es ts → EachThere n w es ts → is_there n (length (known w es ts).sent) e ≡ true → EachThere n w (es ++ e ∷ []) (ts ++ t ∷ [])
 there_more n w [] [] e t h l p = (p, tt)
@@ -30,35 +30,35 @@ there_more n w (d ∷ es) [] e t h l p = absurd h
 there_more n w (d ∷ es) (u ∷ ts) e t h l p = (l.0, there_more n (happens w d u) es ts e t h.1 l.1 p)
 
 -- what has been run so far: the traces of the first events
-pub record HasRun (sites : List Site) (parcels : List Parcel) (events : List Event) (traces : List Trace) (index : ℕ) : Type 0 where
+pub record HasRun (first : Known) (sites : List Site) (parcels : List Parcel) (events : List Event) (traces : List Trace) (index : ℕ) : Type 0 where
   pub told : length traces ≡ index
-  pub lawful : EachLawful nobody (take index events) traces
-  pub there : EachThere (length sites) nobody (take index events) traces
-  pub agrees : Agrees sites parcels (known nobody (take index events) traces)
+  pub lawful : EachLawful first (take index events) traces
+  pub there : EachThere (length sites) first (take index events) traces
+  pub agrees : Agrees sites parcels (known first (take index events) traces)
 
-pub record HasAllRun (sites : List Site) (parcels : List Parcel) (events : List Event) (traces : List Trace) : Type 0 where
+pub record HasAllRun (first : Known) (sites : List Site) (parcels : List Parcel) (events : List Event) (traces : List Trace) : Type 0 where
   pub told : length traces ≡ length events
-  pub lawful : EachLawful nobody events traces
-  pub there : EachThere (length sites) nobody events traces
-  pub agrees : Agrees sites parcels (known nobody events traces)
+  pub lawful : EachLawful first events traces
+  pub there : EachThere (length sites) first events traces
+  pub agrees : Agrees sites parcels (known first events traces)
 
-module _ (sites sites' : List Site) (parcels parcels' : List Parcel) (events : List Event) (traces : List Trace) (index : ℕ) (event : Event) (trace : Trace) (run : HasRun sites parcels events traces index)
+module _ (first : Known) (sites sites' : List Site) (parcels parcels' : List Parcel) (events : List Event) (traces : List Trace) (index : ℕ) (event : Event) (trace : Trace) (run : HasRun first sites parcels events traces index)
     (lt : index < length events) (at : event ≡ get_or events index event) (as_many : length sites' ≡ length sites)
     (there : is_there (length sites) (length parcels) event ≡ true)
     (does : (w : Known) → Agrees sites parcels w → Lawful w event trace × Agrees sites' parcels' (happens w event trace)) where
   more : take (index + 1) events ≡ take index events ++ event ∷ []
   more = take_more events index event lt ∙ ap (λ e. take index events ++ e ∷ []) (sym at)
 
-  pub run_more : HasRun sites' parcels' events (traces ++ trace ∷ []) (index + 1)
+  pub run_more : HasRun first sites' parcels' events (traces ++ trace ∷ []) (index + 1)
   run_more =
-      let w = known nobody (take index events) traces in
+      let w = known first (take index events) traces in
       let d = does w run.agrees in
       record {
         told = Rattle.std.proofs.lemmas.List.length-append traces (trace ∷ []) ∙ ap (λ n. n + 1) run.told;
-        lawful = subst (λ es. EachLawful nobody es (traces ++ trace ∷ [])) (sym more) (lawful_more nobody (take index events) traces event trace run.lawful d.0);
-        there = subst₂ (λ (n : ℕ) (es : List Event). EachThere n nobody es (traces ++ trace ∷ [])) (sym as_many) (sym more)
-            (there_more (length sites) nobody (take index events) traces event trace run.lawful run.there (ap (λ p. is_there (length sites) p event) run.agrees.as_many ∙ there));
-        agrees = subst (λ v. Agrees sites' parcels' v) (sym (ap (λ es. known nobody es (traces ++ trace ∷ [])) more ∙ known_more nobody (take index events) traces event trace run.lawful)) d.1;
+        lawful = subst (λ es. EachLawful first es (traces ++ trace ∷ [])) (sym more) (lawful_more first (take index events) traces event trace run.lawful d.0);
+        there = subst₂ (λ (n : ℕ) (es : List Event). EachThere n first es (traces ++ trace ∷ [])) (sym as_many) (sym more)
+            (there_more (length sites) first (take index events) traces event trace run.lawful run.there (ap (λ p. is_there (length sites) p event) run.agrees.as_many ∙ there));
+        agrees = subst (λ v. Agrees sites' parcels' v) (sym (ap (λ es. known first es (traces ++ trace ∷ [])) more ∙ known_more first (take index events) traces event trace run.lawful)) d.1;
       }
 
 -- each of the events is in time
@@ -75,25 +75,25 @@ in_time_at (e ∷ es) (suc i) event h lt at = in_time_at es i event (both (is_in
     both true b h = (refl, h)
     both false b h = absurd (true≢false (sym h))
 
-pub first_run : (sites : List Site) (parcels : List Parcel) (events : List Event) → Agrees sites parcels nobody → HasRun sites parcels events [] 0
-first_run sites parcels events agrees = record { told = refl; lawful = tt; there = tt; agrees = agrees }
+pub first_run : (first : Known) (sites : List Site) (parcels : List Parcel) (events : List Event) → Agrees sites parcels first → HasRun first sites parcels events [] 0
+first_run first sites parcels events agrees = record { told = refl; lawful = tt; there = tt; agrees = agrees }
 
 -- all has been run
-pub all_run : (sites : List Site) (parcels : List Parcel) (events : List Event) (traces : List Trace) (index : ℕ) → length events ≤ index → index ≤ length events → HasRun sites parcels events traces index → HasAllRun sites parcels events traces
-all_run sites parcels events traces index le ge run =
+pub all_run : (first : Known) (sites : List Site) (parcels : List Parcel) (events : List Event) (traces : List Trace) (index : ℕ) → length events ≤ index → index ≤ length events → HasRun first sites parcels events traces index → HasAllRun first sites parcels events traces
+all_run first sites parcels events traces index le ge run =
     let all = take_all index events le in
     record {
       told = let t = run.told in omega (arith, t);
-      lawful = subst (λ es. EachLawful nobody es traces) all run.lawful;
-      there = subst (λ es. EachThere (length sites) nobody es traces) all run.there;
-      agrees = subst (λ es. Agrees sites parcels (known nobody es traces)) all run.agrees;
+      lawful = subst (λ es. EachLawful first es traces) all run.lawful;
+      there = subst (λ es. EachThere (length sites) first es traces) all run.there;
+      agrees = subst (λ es. Agrees sites parcels (known first es traces)) all run.agrees;
     }
 
 -- a site that is what it knows shows the versions that its operations name
-pub shows : (n number : ℕ) (site : Site) (ops : List Operation) (held : Held) → Stands n number site ops held → ShowsVersions site ops
-shows n number site ops held st = record {
+pub shows : (n number : ℕ) (site : Site) (known : SiteKnown) → Stands n number site known → ShowsVersions site known.ops
+shows n number site known st = record {
   floor = st.state.tells.floors;
-  versions = λ key. state_version n number (state_in site) ops held key st.state;
+  versions = λ key. state_version n number (state_in site) known.ops known.held key st.state;
 }
 
 pub same_versions : (one other : Site) (ks ls : List Operation) → ShowsVersions one ks → ShowsVersions other ls → SameOperations ks ls → SameVersions one other
@@ -105,16 +105,16 @@ same_versions one other ks ls a b same =
     }
 
 -- an event that is not there, or want of memory, ends the run
-pub step_refused : (old new : World) (setups : List Setup) (events : List Event) (traces : List Trace) (index : ℕ) (event : Event) (why : WorldError) → are_setups setups ≡ true → length old.sites.items ≡ length setups → HasRun old.sites.items old.parcels.items events traces index → index < length events → event ≡ get_or events index event
+pub step_refused : (old new : World) (setups : List Setup) (events : List Event) (traces : List Trace) (index : ℕ) (event : Event) (why : WorldError) → are_setups setups ≡ true → length old.sites.items ≡ length setups → HasRun (start setups) old.sites.items old.parcels.items events traces index → index < length events → event ≡ get_or events index event
     → StepDoes old new event index (Err why) → RunRefuses setups events why
 step_refused old new setups events traces index event Setups good many run lt at does = absurd does
 step_refused old new setups events traces index event (BadEvent i) good many run lt at does = (
   good,
-  subst (IsMissing (length setups) events) (sym does.0) (record {
+  subst (IsMissing (length setups) (start setups) events) (sym does.0) (record {
     traces = traces;
     many = run.told;
     lawful = run.lawful;
-    there = subst (λ n. EachThere n nobody (take index events) traces) many run.there;
+    there = subst (λ n. EachThere n (start setups) (take index events) traces) many run.there;
     event = event;
     at = slice_get-get_or events index event lt ∙ ap Some (sym at);
     missing = (λ j. is_there (sym many j) (run.agrees.as_many j) event) ∙ does.1;

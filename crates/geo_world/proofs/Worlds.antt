@@ -5,13 +5,14 @@ use Rattle.std.proofs.lemmas.Option.{slice_get-get_or}
 use Rattle.geo_site.specs.declared.setup.Setup.{Setup}
 use Rattle.geo_site.specs.declared.site.Site.{Site}
 use Rattle.geo_site.specs.Machine.{Same, fresh}
-use Rattle.geo_site.specs.Sites.{state_in}
+use Rattle.geo_site.specs.Sites.{state_in, counts_in, most_records}
 use Rattle.geo_site.proofs.Steps.{state_fresh, state_same}
 use Rattle.geo_delta.specs.declared.parcel.Parcel.{Parcel}
-use Rattle.geo_site.specs.Schedule.{nobody}
-use Rattle.geo_world.specs.Setups.{is_setup, are_numbered, are_setups}
+use Rattle.geo_site.specs.Schedule.{nothing_known}
+use Rattle.geo_site.specs.Entries.{none_counted}
+use Rattle.geo_world.specs.Setups.{is_setup, are_numbered, are_setups, limit_at, limit_of}
 use Rattle.geo_world.specs.There.{is_site}
-use Rattle.geo_world.specs.Agreement.{Stands, Agrees}
+use Rattle.geo_world.specs.Agreement.{Stands, Agrees, nothing_about}
 
 pub some_same : {A : Type 0} {x y : A} → Some x ≡ Some y → x ≡ y
 some_same h = cc
@@ -51,13 +52,6 @@ numbered_at n number (y ∷ ys) (suc k) x h at =
 pub read_is : {A : Type 0} (xs : List A) (i : ℕ) (x : A) → i < length xs → x ≡ get_or xs i x → slice_get xs i ≡ Some x
 read_is xs i x lt e = slice_get-get_or xs i x lt ∙ ap Some (sym e)
 
--- a site that was just opened
-pub stands_new : (n number : ℕ) (setup own : Setup) (site : Site) → GoodSetup n number setup → own.site ≡ setup.site → own.sites ≡ setup.sites → site.number ≡ own.site → Same (fresh own.sites) (state_in site) → Stands n number site [] (λ _. None)
-stands_new n number setup own site g p q is same = record {
-  own = is ∙ p ∙ g.site;
-  state = state_same n number (fresh n) (state_in site) [] (λ _. None) (state_fresh n number) (subst (λ m. Same (fresh m) (state_in site)) (q ∙ g.sites_are) same);
-}
-
 -- one element more
 pub get_appended : {A : Type 0} (xs : List A) (x : A) (p : ℕ) (y : A) → slice_get (xs ++ x ∷ []) p ≡ Some y → (slice_get xs p ≡ Some y) ⊎ ((p ≡ length xs) × (y ≡ x))
 get_appended [] x zero y h = inr (refl, some_same (sym h))
@@ -65,19 +59,19 @@ get_appended [] x (suc p) y h = absurd (some_none (sym h))
 get_appended (a ∷ xs) x zero y h = inl h
 get_appended (a ∷ xs) x (suc p) y h = elim (get_appended xs x p y h) [ inl q ↦ inl q | inr q ↦ inr (ap suc q.0, q.1) ]
 
-pub each_more : (n k : ℕ) (xs : List Site) (x : Site) → length xs ≡ k → ((j number : ℕ) (site : Site) → number ≡ j + 1 → slice_get xs j ≡ Some site → Stands n number site [] (λ _. None)) → Stands n (k + 1) x [] (λ _. None)
-    → (j number : ℕ) (site : Site) → number ≡ j + 1 → slice_get (xs ++ x ∷ []) j ≡ Some site → Stands n number site [] (λ _. None)
-each_more n k xs x len each new j number site e at = elim (get_appended xs x j site at) [
+pub each_more : (limit : ℕ → ℕ) (n k : ℕ) (xs : List Site) (x : Site) → length xs ≡ k → ((j number : ℕ) (site : Site) → number ≡ j + 1 → slice_get xs j ≡ Some site → Stands n number site (nothing_about (limit number))) → Stands n (k + 1) x (nothing_about (limit (k + 1)))
+    → (j number : ℕ) (site : Site) → number ≡ j + 1 → slice_get (xs ++ x ∷ []) j ≡ Some site → Stands n number site (nothing_about (limit number))
+each_more limit n k xs x len each new j number site e at = elim (get_appended xs x j site at) [
   | inl old ↦ each j number site e old
-  | inr p ↦ let m : k + 1 ≡ number = let q = p.0 in omega arith in subst₂ (λ (m : ℕ) (s : Site). Stands n m s [] (λ _. None)) m (sym p.1) new
+  | inr p ↦ let m : k + 1 ≡ number = let q = p.0 in omega arith in subst₂ (λ (m : ℕ) (s : Site). Stands n m s (nothing_about (limit m))) m (sym p.1) new
 ]
 
 pub numbered_all : (xs : List Setup) → are_setups xs ≡ true → are_numbered (length xs) 1 xs ≡ true
 numbered_all xs h = (both (nat_le 1 (length xs) && nat_le (length xs) 16) (are_numbered (length xs) 1 xs) h).1
 
-pub agrees_open : (sites : List Site) (parcels : List Parcel) (n : ℕ) → length sites ≡ n → parcels ≡ [] → ((k number : ℕ) (site : Site) → number ≡ k + 1 → slice_get sites k ≡ Some site → Stands n number site [] (λ _. None)) → Agrees sites parcels nobody
-agrees_open sites parcels n many none each = record {
-  each = λ k number site e at. subst (λ m. Stands m number site [] (λ _. None)) (sym many) (each k number site e at);
+pub agrees_open : (limit : ℕ → ℕ) (sites : List Site) (parcels : List Parcel) (n : ℕ) → length sites ≡ n → parcels ≡ [] → ((k number : ℕ) (site : Site) → number ≡ k + 1 → slice_get sites k ≡ Some site → Stands n number site (nothing_about (limit number))) → Agrees sites parcels (nothing_known limit)
+agrees_open limit sites parcels n many none each = record {
+  each = λ k number site e at. subst (λ m. Stands m number site (nothing_about (limit number))) (sym many) (each k number site e at);
   as_many = sym (ap length none);
   each_sent = λ p parcel at. absurd (some_none (sym (sym (ap (λ ps. slice_get ps p) none) ∙ at)));
 }
@@ -85,11 +79,19 @@ agrees_open sites parcels n many none each = record {
 pub numbered_get : (n number : ℕ) (xs : List Setup) (i : ℕ) (d : Setup) → are_numbered n number xs ≡ true → i < length xs → GoodSetup n (number + i) (get_or xs i d)
 numbered_get n number xs i d h lt = numbered_at n number xs i (get_or xs i d) h (slice_get-get_or xs i d lt)
 
-pub stands_of : (n number a b : ℕ) (site : Site) → site.number ≡ a → Same (fresh b) (state_in site) → a ≡ number → b ≡ n → Stands n number site [] (λ _. None)
-stands_of n number a b site is same p q = record {
+pub stands_of : (n number a b limit most : ℕ) (site : Site) → site.number ≡ a → most_records site ≡ most → counts_in site ≡ none_counted → Same (fresh b) (state_in site) → a ≡ number → b ≡ n → most ≡ limit → Stands n number site (nothing_about limit)
+stands_of n number a b limit most site is at_most none same p q r = record {
   own = is ∙ p;
   state = state_same n number (fresh n) (state_in site) [] (λ _. None) (state_fresh n number) (subst (λ m. Same (fresh m) (state_in site)) q same);
+  counts = none;
+  limit = at_most ∙ r;
 }
+
+-- the limit of the setup that an index reads
+pub limit_read : (xs : List Setup) (i : ℕ) (d : Setup) → i < length xs → (get_or xs i d).max_records ≡ limit_at xs i
+limit_read [] i d lt = absurd (omega arith)
+limit_read (x ∷ xs) zero d lt = refl
+limit_read (x ∷ xs) (suc i) d lt = limit_read xs i d (omega arith)
 
 -- a site that is there
 pub record IsThere (sites number : ℕ) : Type 0 where

@@ -1,13 +1,13 @@
 -- Sites and parcels of the code are what is known of them.
-use Rattle.std.specs.Prelude.{Result, Ok, Err, ◌≡◌, ◌≢◌, ℕ, ◌+◌, ◌≤◌, true, false, List, [], length, Some, slice_get, slice_index_or}
+use Rattle.std.specs.Prelude.{Result, Ok, Err, ◌≡◌, ◌≢◌, ℕ, ◌+◌, ◌≤◌, true, false, List, [], length, Some, None, slice_get, slice_index_or}
 use Rattle.geo_stamp.specs.Vectors.{zeros}
 use Rattle.geo_versions.specs.Operations.{Operation, version_in, version_of, floor_of}
 use Rattle.geo_delta.specs.declared.parcel.Parcel.{Parcel}
 use Rattle.geo_site.specs.declared.site.Site.{Site}
-use Rattle.geo_site.specs.Entries.{Held}
+use Rattle.geo_site.specs.Entries.{Held, Counts, none_counted}
 use Rattle.geo_site.specs.Machine.{knows_floor}
-use Rattle.geo_site.specs.Sites.{state_in, delta_of, knows_all}
-use Rattle.geo_site.specs.Schedule.{Known, nobody, happens, Lawful}
+use Rattle.geo_site.specs.Sites.{state_in, counts_in, most_records, delta_of, knows_all}
+use Rattle.geo_site.specs.Schedule.{Known, happens, Lawful}
 use Rattle.geo_site.specs.declared.setup.Setup.{Setup}
 use Rattle.geo_site.specs.declared.event.Event.{Event}
 use Rattle.geo_site.specs.declared.event.Trace.{Trace}
@@ -15,13 +15,28 @@ use Rattle.geo_site.specs.Agreement.{StateOf, DeltaOf}
 use Rattle.geo_world.specs.declared.outcome.WorldError.{WorldError}
 use Rattle.geo_world.specs.declared.outcome.WorldError.TheVariants.{Setups, BadEvent, Memory}
 use Rattle.geo_world.specs.declared.world.World.{World}
-use Rattle.geo_world.specs.Setups.{are_setups}
+use Rattle.geo_world.specs.Setups.{are_setups, start}
 use Rattle.geo_world.specs.There.{is_there, IsMissing}
 
--- the site has this number among so many, and is what it knows and holds
-pub record Stands (sites number : ℕ) (site : Site) (ops : List Operation) (held : Held) : Type 0 where
+-- what is known of one site
+pub record SiteKnown : Type 0 where
+  pub ops : List Operation
+  pub held : Held
+  pub counts : Counts
+  pub limit : ℕ
+
+abbrev pub about : Known → ℕ → SiteKnown
+about w number = record { ops = w.at number; held = w.held number; counts = w.counts number; limit = w.limit number }
+
+abbrev pub nothing_about : ℕ → SiteKnown
+nothing_about limit = record { ops = []; held = λ _. None; counts = none_counted; limit = limit }
+
+-- the site has this number among so many, and is what is known of it
+pub record Stands (sites number : ℕ) (site : Site) (known : SiteKnown) : Type 0 where
   pub own : site.number ≡ number
-  pub state : StateOf sites number (state_in site) ops held
+  pub state : StateOf sites number (state_in site) known.ops known.held
+  pub counts : counts_in site ≡ known.counts
+  pub limit : most_records site ≡ known.limit
 
 -- the parcel is for its addressee, from another site, knows all its stamps, and is what its sender knew
 pub record Carries (sites : ℕ) (parcel : Parcel) (sent : ℕ × List Operation) : Type 0 where
@@ -36,7 +51,7 @@ pub record Carries (sites : ℕ) (parcel : Parcel) (sent : ℕ × List Operation
 
 -- each site and each parcel is what is known of it
 pub record Agrees (sites : List Site) (parcels : List Parcel) (w : Known) : Type 0 where
-  pub each : (k number : ℕ) (site : Site) → number ≡ k + 1 → slice_get sites k ≡ Some site → Stands (length sites) number site (w.at number) (w.held number)
+  pub each : (k number : ℕ) (site : Site) → number ≡ k + 1 → slice_get sites k ≡ Some site → Stands (length sites) number site (about w number)
   pub as_many : length w.sent ≡ length parcels
   pub each_sent : (p : ℕ) (parcel : Parcel) → slice_get parcels p ≡ Some parcel → Carries (length sites) parcel (slice_index_or w.sent p (0, []))
 
@@ -51,7 +66,7 @@ pub record SameVersions (one other : Site) : Type 0 where
 
 -- what opening a world does, by its result
 abbrev pub WorldOpens : List Setup → Result World WorldError → Type 0
-WorldOpens setups (Ok world) = (are_setups setups ≡ true) × (length world.sites.items ≡ length setups) × Agrees world.sites.items world.parcels.items nobody
+WorldOpens setups (Ok world) = (are_setups setups ≡ true) × (length world.sites.items ≡ length setups) × Agrees world.sites.items world.parcels.items (start setups)
 WorldOpens setups (Err Setups) = are_setups setups ≡ false
 WorldOpens setups (Err (BadEvent index)) = ⊥
 WorldOpens setups (Err Memory) = are_setups setups ≡ true
@@ -66,5 +81,5 @@ StepDoes old new event index (Err Memory) = Unit {0}
 -- why a run has no outcome
 abbrev pub RunRefuses : List Setup → List Event → WorldError → Type 0
 RunRefuses setups events Setups = are_setups setups ≡ false
-RunRefuses setups events (BadEvent index) = (are_setups setups ≡ true) × IsMissing (length setups) events index
+RunRefuses setups events (BadEvent index) = (are_setups setups ≡ true) × IsMissing (length setups) (start setups) events index
 RunRefuses setups events Memory = are_setups setups ≡ true

@@ -1,11 +1,14 @@
 -- The plain program's operations, as those of the definitions.
-use Rattle.std.specs.Prelude.{◌≡◌, ℕ, ◌+◌, Bool, ◌&&◌, cond, List, [], ◌∷◌, Option, None, Some, map, slice_get}
+use Rattle.std.specs.Prelude.{◌≡◌, ℕ, ◌+◌, Bool, true, ◌&&◌, Result, Ok, Err, cond, List, [], ◌∷◌, Option, None, Some, map, slice_get}
 use Rattle.std.specs.Borrow.{Bor}
 use Rattle.geo_stamp.specs.Stamps.{Moment}
-use Rattle.geo_versions.specs.declared.version.Version.{Version}
 use Rattle.geo_versions.specs.Keys.{same_key}
-use Rattle.geo_site.specs.Entries.{Held, named_by, Entry, cas_of}
-use Rattle.geo_site.specs.Schedule.{Known}
+use Rattle.geo_site.specs.Entries.{Held, Visible, Counts, named_by, entry_in, lacks}
+use Rattle.geo_site.specs.Schedule as spec_known
+use Rattle.geo_site.specs.Schedule.{issues}
+use Rattle.geo_world.specs.declared.plain.known.Known.{Known}
+use Rattle.geo_world.specs.declared.plain.known.PlainError.{PlainError}
+use Rattle.geo_world.specs.declared.plain.known.PlainError.TheVariants.{NotThere, ClockEnded, Memory}
 use Rattle.geo_site.specs.declared.event.Event.{Event}
 use Rattle.geo_world.specs.There.{is_there, is_in_time}
 use Rattle.geo_versions.specs.Operations as spec
@@ -44,6 +47,18 @@ pub record Knows (site : Knowledge) (ops : List spec.Operation) (held : Held) : 
   pub operations : operations_of site.ops.items ≡ ops
   pub holds : (key : List ℕ) → held_after key None site.changes.items ≡ held key
 
+-- how many keys it found and did not find
+abbrev pub counts_of : Knowledge → Counts
+counts_of site = record { hits = site.hits; misses = site.misses }
+
+-- what is visible of a key at a moment, by what it knows and holds
+abbrev pub shown : Knowledge → ℕ → Visible
+shown site now key = entry_in now (spec.version_of (operations_of site.ops.items) key) (held_after key None site.changes.items)
+
+-- the delete of a key with a stamp
+abbrev pub delete_of : Moment → List ℕ → spec.Operation
+delete_of stamp key = record { stamp = stamp; act = spec.Act.Delete key }
+
 -- the write of a value with a stamp
 abbrev pub write_of : Moment → Written → spec.Operation
 write_of stamp w = record { stamp = stamp; act = spec.Act.Write w.key w.bytes w.flags w.expiry }
@@ -52,8 +67,9 @@ write_of stamp w = record { stamp = stamp; act = spec.Act.Write w.key w.bytes w.
 abbrev pub sent_of : ℕ × List Operation → ℕ × List spec.Operation
 sent_of s = (s.0, operations_of s.1)
 
-pub record Meets (sites : List Knowledge) (sent : List (ℕ × List Operation)) (w : Known) : Type 0 where
+pub record Meets (sites : List Knowledge) (sent : List (ℕ × List Operation)) (w : spec_known.Known) : Type 0 where
   pub each : (k number : ℕ) (site : Knowledge) → number ≡ k + 1 → slice_get sites k ≡ Some site → Knows site (w.at number) (w.held number)
+  pub counted : (k number : ℕ) (site : Knowledge) → number ≡ k + 1 → slice_get sites k ≡ Some site → counts_of site ≡ w.counts number
   pub sent_is : map sent_of sent ≡ w.sent
 
 -- the bytes that are lent
@@ -61,10 +77,12 @@ abbrev pub lent : Option (Bor (List ℕ)) → Option (List ℕ)
 lent None = None
 lent (Some bytes) = Some bytes.now
 
--- what is visible, from the bytes and the version that they show
-abbrev pub entry_shown : Option (Bor (List ℕ) × Version) → Option Entry
-entry_shown None = None
-entry_shown (Some (bytes, v)) = Some (record { bytes = bytes.now; flags = v.flags; expiry = v.expiry; unique = cas_of v.stamp })
+-- what a change adds, by its result: the site issues these acts, or no stamp is left for them, or memory was wanted
+abbrev pub ChangeAdds : Known → Known → ℕ → (spec_known.Known → List spec.Act) → Result (Unit {0}) PlainError → Type 0
+ChangeAdds old new site acts (Ok done) = (w : spec_known.Known) → Meets old.sites.items old.sent.items w → Meets new.sites.items new.sent.items (issues w site (acts w))
+ChangeAdds old new site acts (Err NotThere) = ⊥
+ChangeAdds old new site acts (Err ClockEnded) = (w : spec_known.Known) → Meets old.sites.items old.sent.items w → lacks (spec.latest (w.at site)) (acts w) ≡ true
+ChangeAdds old new site acts (Err Memory) = Unit {0}
 
 -- an event that can be followed: it is there, and its moment is in range
 abbrev pub can_follow : ℕ → ℕ → Event → Bool

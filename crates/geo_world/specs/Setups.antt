@@ -1,5 +1,6 @@
 -- Setups of a cluster: those of sites 1 to n in order, each of which a site can be made of.
-use Rattle.std.specs.Prelude.{ℕ, ◌+◌, Bool, true, ◌==◌, ◌&&◌, nat_le, List, [], ◌∷◌, length}
+use Rattle.std.specs.Prelude.{ℕ, zero, suc, ◌+◌, ◌-◌, Bool, true, ◌==◌, ◌&&◌, nat_le, List, [], ◌∷◌, length}
+use Rattle.geo_site.specs.Schedule.{Known, nothing_known}
 use Rattle.geo_site.specs.declared.setup.Setup.{Setup}
 
 abbrev pub is_setup : ℕ → ℕ → Setup → Bool
@@ -11,3 +12,16 @@ are_numbered sites number (setup ∷ setups) = is_setup sites number setup && ar
 
 abbrev pub are_setups : List Setup → Bool
 are_setups setups = nat_le 1 (length setups) && nat_le (length setups) 16 && are_numbered (length setups) 1 setups
+
+-- how many records the site with this number may have
+abbrev pub limit_at : List Setup → ℕ → ℕ
+limit_at [] k = 0
+limit_at (setup ∷ setups) zero = setup.max_records
+limit_at (setup ∷ setups) (suc k) = limit_at setups k
+
+abbrev pub limit_of : List Setup → ℕ → ℕ
+limit_of setups number = limit_at setups (number - 1)
+
+-- at the start nothing is known
+abbrev pub start : List Setup → Known
+start setups = nothing_known (limit_of setups)

@@ -4,7 +4,7 @@ use Rattle.std.specs.List.{list_all}
 use Rattle.geo_site.specs.declared.event.Event.{Event}
 use Rattle.geo_site.specs.declared.event.Event.TheVariants.{Command, Send, Take}
 use Rattle.geo_site.specs.declared.event.Trace.{Trace}
-use Rattle.geo_site.specs.Schedule.{Known, nobody, happens, known, EachLawful}
+use Rattle.geo_site.specs.Schedule.{Known, happens, known, EachLawful}
 
 -- one of the sites
 abbrev pub is_site : ℕ → ℕ → Bool
@@ -32,11 +32,11 @@ EachThere sites w (event ∷ events) [] = Unit {0}
 EachThere sites w (event ∷ events) (trace ∷ traces) = (is_there sites (length w.sent) event ≡ true) × EachThere sites (happens w event trace) events traces
 
 -- the event at the index is not there when it comes, after lawful traces of those before it
-pub record IsMissing (sites : ℕ) (events : List Event) (index : ℕ) : Type 0 where
+pub record IsMissing (sites : ℕ) (first : Known) (events : List Event) (index : ℕ) : Type 0 where
   pub traces : List Trace
   pub many : length traces ≡ index
-  pub lawful : EachLawful nobody (take index events) traces
-  pub there : EachThere sites nobody (take index events) traces
+  pub lawful : EachLawful first (take index events) traces
+  pub there : EachThere sites first (take index events) traces
   pub event : Event
   pub at : slice_get events index ≡ Some event
-  pub missing : is_there sites (length (known nobody (take index events) traces).sent) event ≡ false
+  pub missing : is_there sites (length (known first (take index events) traces).sent) event ≡ false

@@ -4,3 +4,4 @@ pub mod knowledge;
 pub mod known;
 pub mod meaning;
 pub mod operation;
+mod request;

@@ -2,9 +2,9 @@
 ghost use Rattle.std.specs.Prelude.{◌≡◌, ℕ, ◌+◌, length, IfOk, IfErr, slice_get, Some, true};
 ghost use Rattle.geo_versions.specs.Operations.{SameOperations};
 ghost use Rattle.geo_site.specs.declared.site.Site.{Site};
-ghost use Rattle.geo_site.specs.Schedule.{Known, nobody, known, EachLawful};
+ghost use Rattle.geo_site.specs.Schedule.{Known, known, EachLawful};
 ghost use Rattle.geo_site.specs.Served.{NoCollision, AllServe};
-ghost use Rattle.geo_world.specs.Setups.{are_setups};
+ghost use Rattle.geo_world.specs.Setups.{are_setups, start};
 ghost use Rattle.geo_world.specs.There.{is_in_time, all_in_time, EachThere};
 ghost use Rattle.geo_world.specs.Agreement.{ShowsVersions, SameVersions, RunRefuses};
 
@@ -47,11 +47,11 @@ pub fn run_schedule(
     requires moments { all_in_time events.now ≡ true }
     ensures sites { IfOk result (λ o. (are_setups setups.items ≡ true) × (length o.sites.items ≡ length setups.items)) }
     ensures traced { IfOk result (λ o. length o.traces.items ≡ length events.now) }
-    ensures there { IfOk result (λ o. EachThere (length setups.items) nobody events.now o.traces.items) }
-    ensures lawful { IfOk result (λ o. EachLawful nobody events.now o.traces.items) }
-    ensures versions { IfOk result (λ o. (k number : ℕ) (site : Site) → number ≡ k + 1 → slice_get o.sites.items k ≡ Some site → ShowsVersions site ((known nobody events.now o.traces.items).at number)) }
-    ensures equal { IfOk result (λ o. (j k : ℕ) (one other : Site) → slice_get o.sites.items j ≡ Some one → slice_get o.sites.items k ≡ Some other → SameOperations ((known nobody events.now o.traces.items).at (j + 1)) ((known nobody events.now o.traces.items).at (k + 1)) → SameVersions one other) }
-    ensures served { IfOk result (λ o. NoCollision (known nobody events.now o.traces.items) → AllServe nobody events.now o.traces.items) }
+    ensures there { IfOk result (λ o. EachThere (length setups.items) (start setups.items) events.now o.traces.items) }
+    ensures lawful { IfOk result (λ o. EachLawful (start setups.items) events.now o.traces.items) }
+    ensures versions { IfOk result (λ o. (k number : ℕ) (site : Site) → number ≡ k + 1 → slice_get o.sites.items k ≡ Some site → ShowsVersions site ((known (start setups.items) events.now o.traces.items).at number)) }
+    ensures equal { IfOk result (λ o. (j k : ℕ) (one other : Site) → slice_get o.sites.items j ≡ Some one → slice_get o.sites.items k ≡ Some other → SameOperations ((known (start setups.items) events.now o.traces.items).at (j + 1)) ((known (start setups.items) events.now o.traces.items).at (k + 1)) → SameVersions one other) }
+    ensures served { IfOk result (λ o. NoCollision (known (start setups.items) events.now o.traces.items) → AllServe (start setups.items) events.now o.traces.items) }
     ensures refused { IfErr result (RunRefuses setups.items events.now) }
 {
     let mut world = World::open(alloc, setups)?;

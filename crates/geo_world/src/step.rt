@@ -20,6 +20,9 @@ impl World {
         ensures as_many { length self.new.sites.items ≡ length self.old.sites.items }
     {
         let at = &mut self.sites[site as usize - 1];
+        // What the contract of a reply counts, though most replies don't show it.
+        let _records = at.records();
+        let _items = at.items();
         Trace::Replied(at.act(alloc, now, request))
     }
 

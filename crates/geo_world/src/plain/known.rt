@@ -1,18 +1,16 @@
 //! What all sites know along a schedule with its trace.
-ghost use Rattle.std.specs.Prelude.{[], ◌≡◌, ◌≤◌, ◌<◌, ◌^◌, ℕ, List, length, IfOk, IfErr, map, true, false};
-ghost use Rattle.geo_site.specs.Schedule.{Known as Knowing, happens, known, nobody, issues, owes, learns, carried};
+ghost use Rattle.std.specs.Prelude.{[], ◌≡◌, ◌≤◌, ◌<◌, ℕ, List, length, IfOk, IfErr, map, true, false};
+ghost use Rattle.geo_site.specs.Schedule.{Known as Knowing, happens, known, nothing_known, learns, carried, Lawful, EachLawful};
 ghost use Rattle.geo_site.specs.Entries.{is_done as is_done_by};
 ghost use Rattle.geo_world.specs.There.{is_site, all_in_time, EachThere};
 ghost use Rattle.geo_world.specs.Plain.{operations_of, Meets, can_follow};
 
 use crate::plain::knowledge::{Knowledge, copies};
-use crate::plain::meaning::latest;
-use crate::plain::operation::{Operation, Written};
+use crate::plain::operation::Operation;
 use crate::run::LAST_MOMENT;
-use geo_grammar::{Reply, Request};
-use geo_lattice::{Items, Twin};
-use geo_site::{Event, LONGEST_VALUE, Trace, expiry_at};
-use geo_stamp::{LAST_TIME, Stamp};
+use geo_grammar::Reply;
+use geo_lattice::Items;
+use geo_site::{Event, Trace};
 use std::alloc::{AllocError, Global};
 
 /// What each site knows and holds, and for whom and with what each parcel was sent.
@@ -27,70 +25,25 @@ pub struct Known {
 pub enum PlainError {
     /// There are more than 16 sites, or the event names a site or a parcel that is not there, or a moment after the last.
     NotThere,
+    /// The trace says that something was done for which no stamp is left.
+    ClockEnded,
     Memory,
 }
 
 fn is_done(reply: &Reply) -> bool
     ensures { result ≡ is_done_by reply.now }
 {
-    !matches!(reply, Reply::OutOfMemory)
+    !matches!(
+        reply,
+        Reply::MapFull | Reply::ClockEnded | Reply::OutOfMemory
+    )
 }
 
 impl Known {
-    fn has(&self, site: u8) -> bool
+    pub(crate) fn has(&self, site: u8) -> bool
         ensures { result ≡ is_site (length self.now.sites.items) site }
     {
         site >= 1 && site as usize <= self.sites.len()
-    }
-
-    fn issue(
-        &mut self,
-        alloc: Global,
-        site: u8,
-        now: u64,
-        request: &Request,
-    ) -> Result<(), PlainError>
-        requires there { is_site (length self.old.sites.items) site ≡ true }
-        requires moment { now ≤ 2 ^ 40 }
-        requires few { length self.old.sites.items ≤ 16 }
-        ensures kept { IfOk result (λ _. (w : Knowing) → Meets self.old.sites.items self.old.sent.items w → Meets self.new.sites.items self.new.sent.items (issues w site (owes w site now request.now).1)) }
-        ensures memory { IfErr result (λ e. e ≡ PlainError.Memory) }
-        ensures as_many { length self.new.sites.items ≡ length self.old.sites.items }
-    {
-        let Request::Store {
-            key,
-            flags,
-            exptime,
-            bytes,
-            ..
-        } = request
-        else {
-            return Ok(());
-        };
-        if bytes.len() > LONGEST_VALUE {
-            return Ok(());
-        }
-        let clock = latest(self.sites[site as usize - 1].ops.as_slice());
-        if clock >= LAST_TIME {
-            return Ok(());
-        }
-        let Some(stamp) = Stamp::new(clock + 1, site) else {
-            return Err(PlainError::NotThere);
-        };
-        let (Ok(key), Ok(bytes)) = (key.twin(alloc), bytes.twin(alloc)) else {
-            return Err(PlainError::Memory);
-        };
-        let written = Written {
-            key,
-            bytes,
-            flags: *flags,
-            expiry: expiry_at(*exptime, now),
-        };
-        let at = &mut self.sites[site as usize - 1];
-        match at.write(alloc, stamp, written) {
-            Ok(()) => Ok(()),
-            Err(_) => Err(PlainError::Memory),
-        }
     }
 
     fn send(&mut self, alloc: Global, site: u8, to: u8) -> Result<(), AllocError>
@@ -120,6 +73,7 @@ impl Known {
         requires few { length self.old.sites.items ≤ 16 }
         ensures kept { IfOk result (λ _. (w : Knowing) → Meets self.old.sites.items self.old.sent.items w → Meets self.new.sites.items self.new.sent.items (happens w event.now trace.now)) }
         ensures missing { IfErr result (λ e. e ≡ PlainError.NotThere → can_follow (length self.old.sites.items) (length self.old.sent.items) event.now ≡ false) }
+        ensures ended { IfErr result (λ e. e ≡ PlainError.ClockEnded → (w : Knowing) → Meets self.old.sites.items self.old.sent.items w → Lawful w event.now trace.now → ⊥) }
         ensures as_many { length self.new.sites.items ≡ length self.old.sites.items }
     {
         match (event, trace) {
@@ -130,7 +84,7 @@ impl Known {
                 if !self.has(*site) || *now > LAST_MOMENT {
                     return Err(PlainError::NotThere);
                 }
-                self.issue(alloc, *site, *now, request)
+                self.carry_out(alloc, *site, *now, request)
             }
             (Event::Send { site, to }, Trace::Sent) => {
                 if !self.has(*site) {
@@ -164,6 +118,7 @@ impl Known {
         requires few { length self.old.sites.items ≤ 16 }
         ensures kept { IfOk result (λ _. (w : Knowing) → Meets self.old.sites.items self.old.sent.items w → Meets self.new.sites.items self.new.sent.items (known w events.now traces.now)) }
         ensures missing { IfErr result (λ e. e ≡ PlainError.NotThere → (w : Knowing) → Meets self.old.sites.items self.old.sent.items w → EachThere (length self.old.sites.items) w events.now traces.now → all_in_time events.now ≡ true → ⊥) }
+        ensures ended { IfErr result (λ e. e ≡ PlainError.ClockEnded → (w : Knowing) → Meets self.old.sites.items self.old.sent.items w → EachLawful w events.now traces.now → ⊥) }
         ensures as_many { length self.new.sites.items ≡ length self.old.sites.items }
     {
         match events {
@@ -180,13 +135,15 @@ impl Known {
 }
 
 fn sites_without(alloc: Global, sites: usize) -> Result<Vec<Knowledge>, AllocError>
-    ensures { IfOk result (λ all. (length all.items ≡ sites) × Meets all.items [] nobody) }
+    ensures { IfOk result (λ all. (length all.items ≡ sites) × ((limit : ℕ → ℕ) → Meets all.items [] (nothing_known limit))) }
 {
     let mut all = Vec::new(alloc);
     for made in 0..sites {
         all.push(Knowledge {
             ops: Vec::new(alloc),
             changes: Vec::new(alloc),
+            hits: 0,
+            misses: 0,
         })?;
     }
     Ok(all)
@@ -199,8 +156,9 @@ pub fn known_after(
     events: &[Event],
     traces: &[Trace],
 ) -> Result<Known, PlainError>
-    ensures known { IfOk result (λ k. (length k.sites.items ≡ sites) × Meets k.sites.items k.sent.items (known nobody events.now traces.now)) }
-    ensures missing { IfErr result (λ e. e ≡ PlainError.NotThere → sites ≤ 16 → EachThere sites nobody events.now traces.now → all_in_time events.now ≡ true → ⊥) }
+    ensures known { IfOk result (λ k. (length k.sites.items ≡ sites) × ((limit : ℕ → ℕ) → Meets k.sites.items k.sent.items (known (nothing_known limit) events.now traces.now))) }
+    ensures missing { IfErr result (λ e. e ≡ PlainError.NotThere → sites ≤ 16 → (limit : ℕ → ℕ) → EachThere sites (nothing_known limit) events.now traces.now → all_in_time events.now ≡ true → ⊥) }
+    ensures ended { IfErr result (λ e. e ≡ PlainError.ClockEnded → (limit : ℕ → ℕ) → EachLawful (nothing_known limit) events.now traces.now → ⊥) }
 {
     if sites > 16 {
         return Err(PlainError::NotThere);

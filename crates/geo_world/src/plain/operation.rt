@@ -1,6 +1,6 @@
 //! Operations as plain data.
 ghost use Rattle.std.specs.Prelude.{◌≤◌, length};
-ghost use Rattle.geo_site.specs.Entries.{longest_value};
+ghost use Rattle.geo_grammar.specs.Limits.{longest_value};
 
 use geo_grammar::ValueBytes;
 use geo_lattice::Twin;

@@ -1,8 +1,8 @@
 use Rattle.std.proofs.Common.{◌≡◌, ◌+◌, cond, not, [], ◌∷◌, ◌++◌, refl, sym, ap, ◌∙◌, subst, arith}
 use Rattle.std.proofs.lemmas.Result.{err_from_is_err_and}
-use Rattle.geo_site.specs.Schedule.{nobody}
 use Rattle.geo_site.proofs.Served.{all_serve}
-use Rattle.geo_site.proofs.Sound.{sound_nobody}
+use Rattle.geo_site.proofs.Sound.{sound_nothing}
+use Rattle.geo_world.specs.Setups.{limit_of, start}
 use Rattle.geo_world.specs.Agreement.{RunRefuses}
 use Rattle.geo_world.proofs.Running.{HasRun, run_more, in_time_at, first_run, all_run, shows, same_versions, step_refused}
 use Rattle.geo_world.proofs.run.run_schedule.Goals as goal
@@ -11,7 +11,7 @@ pub loop-index-init : goal.loop-index-init
 loop-index-init c =
     let e = c.in_ok-world.ensures in
     record {
-      run = subst (λ ts. HasRun c.in_ok-world.world.sites.items c.in_ok-world.world.parcels.items c.args.events.now ts 0) (sym c.new-traces.ensures.items) (first_run c.in_ok-world.world.sites.items c.in_ok-world.world.parcels.items c.args.events.now e.2);
+      run = subst (λ ts. HasRun (start c.args.setups.items) c.in_ok-world.world.sites.items c.in_ok-world.world.parcels.items c.args.events.now ts 0) (sym c.new-traces.ensures.items) (first_run (start c.args.setups.items) c.in_ok-world.world.sites.items c.in_ok-world.world.parcels.items c.args.events.now e.2);
       many = e.1;
       good = e.0;
     }
@@ -25,8 +25,8 @@ loop-index-preserved c =
     let e = c.in_ok-trace.ensures in
     let items : c.push.new.self.items ≡ c.loop-index.traces.items ++ c.in_ok-trace.trace ∷ [] = c.push.ensures.items ∙ ap (λ b. cond b (c.loop-index.traces.items ++ c.in_ok-trace.trace ∷ []) c.loop-index.traces.items) (c.is_err.ensures.negation ∙ ap not c.if-is_err.false) in
     record {
-      run = subst (λ ts. HasRun c.step.new.self.sites.items c.step.new.self.parcels.items c.args.events.now ts (c.loop-index.index + 1)) (sym items)
-          (run_more c.loop-index.world.sites.items c.step.new.self.sites.items c.loop-index.world.parcels.items c.step.new.self.parcels.items c.args.events.now c.loop-index.traces.items c.loop-index.index c.index-events-index.result c.in_ok-trace.trace
+      run = subst (λ ts. HasRun (start c.args.setups.items) c.step.new.self.sites.items c.step.new.self.parcels.items c.args.events.now ts (c.loop-index.index + 1)) (sym items)
+          (run_more (start c.args.setups.items) c.loop-index.world.sites.items c.step.new.self.sites.items c.loop-index.world.parcels.items c.step.new.self.parcels.items c.args.events.now c.loop-index.traces.items c.loop-index.index c.index-events-index.result c.in_ok-trace.trace
           inv.run c.loop-index-test.true c.index-events-index.is e.as_many e.does.0 e.does.1);
       many = e.as_many ∙ inv.many;
       good = inv.good;
@@ -42,15 +42,15 @@ returns-in_err-trace-clause-refused c =
 
 pub returns-clause-versions : goal.returns-clause-versions
 returns-clause-versions c = λ k number site e at.
-    let run = all_run c.loop-index.world.sites.items c.loop-index.world.parcels.items c.args.events.now c.loop-index.traces.items c.loop-index.index (omega arith) (omega arith) c.loop-index.invariant.run in
-    shows _ number site _ _ (run.agrees.each k number site e at)
+    let run = all_run (start c.args.setups.items) c.loop-index.world.sites.items c.loop-index.world.parcels.items c.args.events.now c.loop-index.traces.items c.loop-index.index (omega arith) (omega arith) c.loop-index.invariant.run in
+    shows _ number site _ (run.agrees.each k number site e at)
 
 pub returns-clause-equal : goal.returns-clause-equal
 returns-clause-equal c = λ j k one other at_one at_other same.
-    let run = all_run c.loop-index.world.sites.items c.loop-index.world.parcels.items c.args.events.now c.loop-index.traces.items c.loop-index.index (omega arith) (omega arith) c.loop-index.invariant.run in
-    same_versions one other _ _ (shows _ (j + 1) one _ _ (run.agrees.each j (j + 1) one refl at_one)) (shows _ (k + 1) other _ _ (run.agrees.each k (k + 1) other refl at_other)) same
+    let run = all_run (start c.args.setups.items) c.loop-index.world.sites.items c.loop-index.world.parcels.items c.args.events.now c.loop-index.traces.items c.loop-index.index (omega arith) (omega arith) c.loop-index.invariant.run in
+    same_versions one other _ _ (shows _ (j + 1) one _ (run.agrees.each j (j + 1) one refl at_one)) (shows _ (k + 1) other _ (run.agrees.each k (k + 1) other refl at_other)) same
 
 pub returns-clause-served : goal.returns-clause-served
 returns-clause-served c = λ apart.
-    let run = all_run c.loop-index.world.sites.items c.loop-index.world.parcels.items c.args.events.now c.loop-index.traces.items c.loop-index.index (omega arith) (omega arith) c.loop-index.invariant.run in
-    all_serve nobody c.args.events.now c.loop-index.traces.items sound_nobody run.lawful apart
+    let run = all_run (start c.args.setups.items) c.loop-index.world.sites.items c.loop-index.world.parcels.items c.args.events.now c.loop-index.traces.items c.loop-index.index (omega arith) (omega arith) c.loop-index.invariant.run in
+    all_serve (start c.args.setups.items) c.args.events.now c.loop-index.traces.items (sound_nothing (limit_of c.args.setups.items)) run.lawful apart

@@ -11,7 +11,7 @@ returns-clause-lawful c = λ w agrees.
     let hi = there.last in
     let got = read_is c.args.self.now.sites.items (c.args.site - 1) c.index_mut-at.result.now (omega arith) c.index_mut-at.ensures.value in
     let e = c.act.ensures in
-    command_lawful _ _ w agrees (c.args.site - 1) c.args.site c.args.now c.args.request.now c.act.result (omega arith) hi c.index_mut-at.result.now c.act.new.self got e.answer e.done e.refused e.number
+    command_lawful _ _ w agrees (c.args.site - 1) c.args.site c.args.now c.args.request.now c.act.result (omega arith) hi c.index_mut-at.result.now c.act.new.self got c.records-records.ensures.records c.items-items.ensures.held e.answer e.done e.refused e.counts e.number e.limit
 
 pub returns-clause-kept : goal.returns-clause-kept
 returns-clause-kept c = λ w agrees.
@@ -21,4 +21,4 @@ returns-clause-kept c = λ w agrees.
     let hi = there.last in
     let got = read_is c.args.self.now.sites.items (c.args.site - 1) c.index_mut-at.result.now (omega arith) c.index_mut-at.ensures.value in
     let e = c.act.ensures in
-    command_agrees _ _ w agrees (c.args.site - 1) c.args.site c.args.now c.args.request.now c.act.result (omega arith) hi c.index_mut-at.result.now c.act.new.self got e.answer e.done e.refused e.number
+    command_agrees _ _ w agrees (c.args.site - 1) c.args.site c.args.now c.args.request.now c.act.result (omega arith) hi c.index_mut-at.result.now c.act.new.self got c.records-records.ensures.records c.items-items.ensures.held e.answer e.done e.refused e.counts e.number e.limit

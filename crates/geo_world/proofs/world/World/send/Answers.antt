@@ -1,6 +1,6 @@
 use Rattle.std.proofs.Common.{◌-◌, List, [], ◌∷◌, ◌++◌, length, arith, sym, ◌∙◌, subst}
 use Rattle.geo_delta.specs.declared.parcel.Parcel.{Parcel}
-use Rattle.geo_world.specs.Agreement.{Agrees}
+use Rattle.geo_world.specs.Agreement.{Agrees, about}
 use Rattle.geo_world.proofs.Worlds.{there_is, read_is}
 use Rattle.geo_world.proofs.Exchanging.{carries_sent, agrees_sent, send_refused}
 use Rattle.geo_world.proofs.world.World.send.Goals as goal
@@ -23,8 +23,8 @@ returns-in_ok-push-in-Ok-clause-kept c = λ w agrees.
     let hi = there.last in
     let got = read_is c.args.self.now.sites.items (c.args.site - 1) c.index-at.result.now (omega arith) c.index-at.ensures in
     let st = agrees.each (c.args.site - 1) c.args.site c.index-at.result.now (omega arith) got in
-    subst (λ (ps : List Parcel). Agrees c.args.self.now.sites.items ps (record { at = w.at; held = w.held; sent = w.sent ++ (c.args.to, w.at c.args.site) ∷ [] })) (sym c.in_ok-push-in-Ok.ensures.items)
-    (agrees_sent _ _ w c.args.site c.args.to c.in-Ok.parcel agrees (carries_sent n c.args.site c.args.to c.index-at.result.now c.in-Ok.parcel (w.at c.args.site) (w.held c.args.site) st lo hi c.in-Ok.ensures.0.2 c.in-Ok.ensures.1))
+    subst (λ (ps : List Parcel). Agrees c.args.self.now.sites.items ps (record { at = w.at; held = w.held; counts = w.counts; limit = w.limit; sent = w.sent ++ (c.args.to, w.at c.args.site) ∷ [] })) (sym c.in_ok-push-in-Ok.ensures.items)
+    (agrees_sent _ _ w c.args.site c.args.to c.in-Ok.parcel agrees (carries_sent n c.args.site c.args.to c.index-at.result.now c.in-Ok.parcel (about w c.args.site) st lo hi c.in-Ok.ensures.0.2 c.in-Ok.ensures.1))
 
 pub returns-in-Err-clause-lawful : goal.returns-in-Err-clause-lawful
 returns-in-Err-clause-lawful c = λ w agrees.
@@ -35,4 +35,4 @@ returns-in-Err-clause-lawful c = λ w agrees.
     let hi = there.last in
     let got = read_is c.args.self.now.sites.items (c.args.site - 1) c.index-at.result.now (omega arith) c.index-at.ensures in
     let st = agrees.each (c.args.site - 1) c.args.site c.index-at.result.now (omega arith) got in
-    send_refused n c.args.site c.args.to c.index-at.result.now (w.at c.args.site) (w.held c.args.site) st to_there.first to_there.last c.in-Err.why c.in-Err.ensures
+    send_refused n c.args.site c.args.to c.index-at.result.now (about w c.args.site) st to_there.first to_there.last c.in-Err.why c.in-Err.ensures
