@@ -1,7 +1,7 @@
 //! Making a parcel.
-ghost use Rattle.std.specs.Prelude.{◌≡◌, ℕ, List, IfOk};
-ghost use Rattle.geo_versions.specs.Maps.{Rising, listed_at, since};
-ghost use Rattle.geo_versions.specs.Maps.{floor_in, record_in};
+ghost use Rattle.std.specs.Prelude.{◌≡◌, ℕ, List, IfOk, None};
+ghost use Rattle.std.specs.List.{All};
+ghost use Rattle.geo_versions.specs.Maps.{Rising, floor_in, listed_at, rec_means, record_in, since};
 
 use crate::parcel::Parcel;
 use geo_lattice::Items;
@@ -24,6 +24,7 @@ pub fn cut(
     ensures floor { IfOk result (λ p. p.floor ≡ floor_in versions.now) }
     ensures rising { IfOk result (λ p. Rising p.records) }
     ensures delta { IfOk result (λ p. (q : List ℕ) → listed_at p.records q ≡ since base.now (record_in versions.now q)) }
+    ensures filled { IfOk result (λ p. All (λ e. rec_means e.1 ≡ (None, None) → ⊥) p.records) }
 {
     Ok(Parcel {
         from,

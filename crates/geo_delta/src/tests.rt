@@ -24,10 +24,15 @@ fn cuts_what_the_base_lacks(rt: HostRuntime) -> Result<(), Fail> {
     let parcel = cut(alloc, &versions, 1, 2, &base, &upto)?;
     assert_eq!(rt; parcel.from, 1);
     assert_eq!(rt; parcel.to, 2);
+    assert_eq!(rt; parcel.base.entry(1), 0);
+    assert_eq!(rt; parcel.upto.entry(1), 1);
+    assert_eq!(rt; parcel.floor, None);
     assert_eq!(rt; parcel.records.as_slice().len(), 1);
+    assert_eq!(rt; parcel.records.as_slice()[0].0.bytes(), b"e".as_slice());
     let copy = parcel.twin(alloc)?;
     assert_eq!(rt; copy.upto.entry(1), 1);
     assert_eq!(rt; copy.records.as_slice().len(), 1);
+    assert!(rt; copy.records.as_slice()[0].1.left.get().copied() == Some((stamp, body)));
     let nothing = cut(alloc, &versions, 1, 2, &upto, &upto)?;
     assert_eq!(rt; nothing.records.as_slice().len(), 0);
     Ok(())

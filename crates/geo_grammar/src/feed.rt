@@ -66,6 +66,40 @@ fn feed_last(
     Ok(out)
 }
 
+/// Takes a piece that comes within a data block or behind it.
+fn feed_block(alloc: Global, state: &mut State, piece: &[u8]) -> Result<Vec<Item>, AllocError>
+    requires block { IsBlock state.old }
+    requires old { IsPlace (place_of state.old) }
+    ensures items { IfOk result (λ out. out.items ≡ items_from (place_of state.old) piece.now) }
+    ensures next { OnOk result (place_of state.new ≡ place_after (place_of state.old) piece.now) }
+    ensures place { IsPlace (place_of state.new) }
+    ensures err { OnErr result (place_of state.new ≡ place_of state.old) }
+{
+    let State::Data {
+        head,
+        got,
+        returned,
+    } = state
+    else {
+        unreachable!()
+    };
+    match cut_block(head, got.as_slice(), *returned, piece) {
+        BlockCut::Open {
+            front,
+            returned: now,
+        } => {
+            got.extend_from_slice(front)?;
+            *returned = now;
+            Ok(Vec::new(alloc))
+        }
+        BlockCut::Good { front, rest } => feed_last(alloc, state, front, rest),
+        BlockCut::Bad { rest } => {
+            let skip = State::skip(0, BlockFault::BadData);
+            feed_from(alloc, state, None, skip, rest)
+        }
+    }
+}
+
 /// Takes the next piece, and gives the items that end in it.
 pub fn feed_state(alloc: Global, state: &mut State, piece: &[u8]) -> Result<Vec<Item>, AllocError>
     requires { IsPlace (place_of state.old) }
@@ -93,28 +127,7 @@ pub fn feed_state(alloc: Global, state: &mut State, piece: &[u8]) -> Result<Vec<
                 feed_from(alloc, state, fault, State::Ended, &[])
             }
         },
-        State::Data {
-            head,
-            got,
-            returned,
-        } => match cut_block(head, got.as_slice(), *returned, piece) {
-            BlockCut::Open {
-                front,
-                returned: now,
-            } => {
-                got.extend_from_slice(front)?;
-                *returned = now;
-                Ok(Vec::new(alloc))
-            }
-            BlockCut::Good { front, rest } => feed_last(alloc, state, front, rest),
-            BlockCut::Bad { rest } => feed_from(
-                alloc,
-                state,
-                None,
-                State::skip(0, BlockFault::BadData),
-                rest,
-            ),
-        },
+        State::Data { .. } => feed_block(alloc, state, piece),
         State::Skip { left, fault } => {
             let from = State::skip(*left, *fault);
             feed_from(alloc, state, None, from, piece)

@@ -1,6 +1,7 @@
 //! Requests.
-ghost use Rattle.std.specs.Prelude.{◌≡◌};
+ghost use Rattle.std.specs.Prelude.{◌≡◌, IfOk};
 ghost use Rattle.geo_grammar.specs.Replies.{is_noreply};
+ghost use Rattle.geo_grammar.specs.declared.request.Request.TheVariants.{Arith};
 
 use crate::value::ValueBytes;
 use geo_lattice::{Items, Twin};
@@ -82,6 +83,23 @@ impl Request {
     }
 }
 
+fn twin_of_arith(
+    alloc: Global,
+    up: bool,
+    key: &Key,
+    by: u64,
+    noreply: bool,
+) -> Result<Request, AllocError>
+    ensures { IfOk result (λ r. r ≡ Arith up key.now by noreply) }
+{
+    Ok(Request::Arith {
+        up,
+        key: key.twin(alloc)?,
+        by,
+        noreply,
+    })
+}
+
 impl Twin for Request {
     fn twin(&self, alloc: Global) -> Result<Self, AllocError> {
         Ok(match self {
@@ -115,12 +133,7 @@ impl Twin for Request {
                 key,
                 by,
                 noreply,
-            } => Request::Arith {
-                up: *up,
-                key: key.twin(alloc)?,
-                by: *by,
-                noreply: *noreply,
-            },
+            } => twin_of_arith(alloc, *up, key, *by, *noreply)?,
             Request::ShowVersion => Request::ShowVersion,
             Request::Verbosity { noreply } => Request::Verbosity { noreply: *noreply },
             Request::Stats => Request::Stats,

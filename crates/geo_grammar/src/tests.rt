@@ -353,12 +353,14 @@ const STATS: Stats = Stats {
     records: 0,
 };
 
+fn two_found(alloc: Global) -> Result<Items<Found>, AllocError> {
+    let first = found(alloc, 0, Some(257), b"hi")?;
+    let second = found(alloc, 4294967295, None, b"")?;
+    Ok(Items::of(vec![in alloc; first, second]?))
+}
+
 /// Every reply, with its text.
 fn replies(alloc: Global) -> Result<Vec<(Reply, &'static [u8])>, AllocError> {
-    let values = vec![in alloc;
-        found(alloc, 0, Some(257), b"hi")?,
-        found(alloc, 4294967295, None, b"")?,
-    ]?;
     Ok(vec![in alloc;
         (Reply::Stored, b"STORED\r\n".as_slice()),
         (Reply::NotStored, b"NOT_STORED\r\n"),
@@ -373,7 +375,7 @@ fn replies(alloc: Global) -> Result<Vec<(Reply, &'static [u8])>, AllocError> {
         ),
         (Reply::Values(Items::of(Vec::new(alloc))), b"END\r\n"),
         (
-            Reply::Values(Items::of(values)),
+            Reply::Values(two_found(alloc)?),
             b"VALUE a 0 2 257\r\nhi\r\nVALUE a 4294967295 0\r\n\r\nEND\r\n"
         ),
         (Reply::Version, b"VERSION 1.0.0\r\n"),
@@ -432,6 +434,26 @@ fn answers_in_the_texts_of_the_protocol(rt: HostRuntime) -> Result<(), Fail> {
             assert_eq!(rt; render(alloc, &request.twin(alloc)?, reply)?.len(), 0);
         }
     }
+    Ok(())
+}
+
+#[test]
+fn appends_answers_one_after_the_other(rt: HostRuntime) -> Result<(), Fail> {
+    let alloc = rt.alloc();
+    let mut out = Vec::new(alloc);
+    push_answer(&mut out, &Request::Stats, &Reply::Stored)?;
+    push_answer(&mut out, &store(alloc, true)?, &Reply::Exists)?;
+    push_answer(&mut out, &Request::Quit, &Reply::Number(10))?;
+    assert_eq!(rt; out.as_slice(), b"STORED\r\n10\r\n".as_slice());
+    Ok(())
+}
+
+#[test]
+fn gives_the_bytes_of_a_value_back(rt: HostRuntime) -> Result<(), Fail> {
+    let bytes = value(rt.alloc(), b"hi")?;
+    assert_eq!(rt; bytes.len(), 2);
+    assert_eq!(rt; bytes.twin(rt.alloc())?.as_slice(), b"hi".as_slice());
+    assert_eq!(rt; bytes.into_vec().as_slice(), b"hi".as_slice());
     Ok(())
 }
 
@@ -516,5 +538,19 @@ fn a_device_fails_for_good(rt: HostRuntime) -> Result<(), Fail> {
     assert_eq!(rt; writer.write(b"hi")?, 2);
     assert_eq!(rt; writer.write(b"")?, 0);
     assert_eq!(rt; writer.into_inner().as_slice(), b"hi".as_slice());
+    Ok(())
+}
+
+#[test]
+fn a_device_passes_on_what_it_reads(rt: HostRuntime) -> Result<(), Fail> {
+    let mut reader = Device::new(b"get a".as_slice());
+    let mut buf = [0; 3];
+    assert_eq!(rt; reader.read(&mut buf)?, 3);
+    assert_eq!(rt; buf, *b"get");
+    assert_eq!(rt; reader.read(&mut buf)?, 2);
+    assert_eq!(rt; &buf[..2], b" a".as_slice());
+    assert_eq!(rt; reader.read(&mut [])?, 0);
+    assert_eq!(rt; reader.read(&mut buf)?, 0);
+    assert!(rt; !reader.failed());
     Ok(())
 }

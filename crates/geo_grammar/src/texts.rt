@@ -111,7 +111,8 @@ fn push_reply(out: &mut Vec<u8>, reply: &Reply) -> Result<(), AllocError>
     }
 }
 
-/// Appends the bytes that answer a request by a reply, none where the request wants no answer.
+/// Appends the bytes that answer a request by a reply, none where the request wants no answer. Where memory was refused a part
+/// of them may stand there.
 pub fn push_answer(out: &mut Vec<u8>, request: &Request, reply: &Reply) -> Result<(), AllocError>
     ensures { OnOk result (out.new.items ≡ out.old.items ++ answer_bytes request.now reply.now) }
 {

@@ -77,6 +77,16 @@ module _ {K V : Type 0} (R : V → V → Type 0) (eq : K → K → Bool) (laws :
           let same : vi ≡ v = some_same (sym own ∙ lookup_congr eq laws.congr fs ki k hit ∙ h.0) in
           (h.0, subst₂ (λ s x. RoomFor R s (Some x)) (lookup_congr eq laws.congr es' ki k hit) same room)
 
+-- with room made at one key there is room at each key where there was
+pub room_stays : {K V : Type 0} (R : V → V → Type 0) (eq : K → K → Bool) → IsEquivalence eq → (es es' fs : List (K × V)) (k : K) (v : V) → lookup (eq k) fs ≡ Some v → RoomFor R (lookup (eq k) es') (Some v)
+    → ((q : K) → eq k q ≡ false → lookup (eq q) es' ≡ lookup (eq q) es)
+    → ((q : K) → RoomFor R (lookup (eq q) es) (lookup (eq q) fs)) → (q : K) → RoomFor R (lookup (eq q) es') (lookup (eq q) fs)
+room_stays R eq laws es es' fs k v own room others each q = by (cases_Bool (eq k q))
+  where
+    by : (eq k q ≡ true) ⊎ (eq k q ≡ false) → RoomFor R (lookup (eq q) es') (lookup (eq q) fs)
+    by (inl hit) = subst₂ (λ s x. RoomFor R s x) (lookup_congr eq laws.congr es' k q hit) (sym own ∙ lookup_congr eq laws.congr fs k q hit) room
+    by (inr miss) = subst (λ s. RoomFor R s (lookup (eq q) fs)) (sym (others q miss)) (each q)
+
 pub drop_own : {K V : Type 0} (R : V → V → Type 0) (eq : K → K → Bool) (es fs : List (K × V)) (n : ℕ) → EachOf (OwnRoom R eq es fs) fs n → EachOf (λ k v. RoomFor R (lookup (eq k) es) (Some v)) fs n
 drop_own R eq es fs n each j k v lt is = (each j k v lt is).1
 

@@ -1,5 +1,5 @@
 //! Values that join, and the laws that joining keeps (states that join: Almeida, Shoker and Baquero 2018).
-ghost use Rattle.std.specs.Prelude.{◌≡◌, ◌↔◌, IsTrue, OnOk};
+ghost use Rattle.std.specs.Prelude.{◌≡◌, ◌↔◌, IsTrue, IsOk, OnOk};
 
 use std::alloc::{AllocError, Global};
 
@@ -20,10 +20,12 @@ pub trait Lattice: Drop {
     /// There is room in the first to join the second.
     ghost HasRoom: { Self → Self → Type 0 };
 
-    /// Makes room to join the other value. It changes what is meant in no case; Err only where a growth was refused.
+    /// Makes room to join the other value. It changes what is meant in no case; Err only where a growth was refused, and so never
+    /// where there was room.
     fn ready(&mut self, alloc: Global, other: &Self) -> Result<(), AllocError>
         ensures kept { meaning self.new ≡ meaning self.old }
-        ensures room { OnOk result (HasRoom self.new other.now) };
+        ensures room { OnOk result (HasRoom self.new other.now) }
+        ensures succeeds { HasRoom self.old other.now → IsOk result };
 
     /// Whether there is room to join the other value.
     fn has_room(&self, other: &Self) -> bool

@@ -1,5 +1,5 @@
 //! A map, joined key by key.
-ghost use Rattle.std.specs.Prelude.{◌≡◌, ◌+◌, ◌≤◌, ◌<◌, IsTrue, IfOk, OnOk, OnErr, Option, IsSome, option_map, option_copied, None, Some, false, true, cond, is_some, length, ◌↔◌};
+ghost use Rattle.std.specs.Prelude.{◌≡◌, ◌+◌, ◌≤◌, ◌<◌, IsTrue, IsOk, IfOk, OnOk, OnErr, Option, IsSome, option_map, option_copied, None, Some, false, true, cond, is_some, length, ◌↔◌};
 ghost use Rattle.std.specs.Map.{keys_of, lookup};
 ghost use Rattle.std.specs.List.Sorted.{IsStrictlySortedBy};
 ghost use Rattle.std.specs.Option.{option_and_then};
@@ -121,10 +121,11 @@ impl<K: Twin + Eq + Hash, L: Bottom> MapOf<K, L> {
         self.entries.get(key)
     }
 
-    /// Joins one value. Where a growth was refused, nothing is joined.
+    /// Joins one value. Where a growth was refused, nothing is joined. None is needed where there is a value with room for it.
     pub fn put(&mut self, alloc: Global, key: &K, value: L) -> Result<(), AllocError>
         ensures ok { OnOk result ((q : K) → meaning_at L.least L.meaning K.eq self.new q ≡ cond (K.eq key.now q) (L.joined (meaning_at L.least L.meaning K.eq self.old q) (L.meaning value)) (meaning_at L.least L.meaning K.eq self.old q)) }
         ensures err { OnErr result ((q : K) → meaning_at L.least L.meaning K.eq self.new q ≡ meaning_at L.least L.meaning K.eq self.old q) }
+        ensures succeeds { IsSome (get K.eq self.old key.now) → RoomFor L.HasRoom (get K.eq self.old key.now) (Some value) → IsOk result }
     {
         if value.is_bottom() {
             return Ok(());
@@ -177,6 +178,9 @@ impl<K: Twin + Eq + Hash, L: Bottom> MapOf<K, L> {
         ensures kept { (q : K) → meaning_at L.least L.meaning K.eq self.new q ≡ meaning_at L.least L.meaning K.eq self.old q }
         ensures room { OnOk result (RoomFor L.HasRoom (get K.eq self.new key.now) (Some value.now)) }
         ensures others { (q : K) → K.eq key.now q ≡ false → get K.eq self.new q ≡ get K.eq self.old q }
+        ensures keys { (q : K) → is_some (get K.eq self.old q) ≡ true → is_some (get K.eq self.new q) ≡ true }
+        ensures places { self.old.spare ≤ self.new.spare }
+        ensures succeeds { RoomFor L.HasRoom (get K.eq self.old key.now) (Some value.now) → IsOk result }
     {
         match self.entries.get_mut(key) {
             Some(mine) => mine.ready(alloc, value),
@@ -230,10 +234,12 @@ impl<K: Twin + Eq + Hash, L: Bottom> MapOf<K, L> {
 }
 
 impl<K: Twin + Eq + Hash, L: Bottom + Flat> MapOf<K, L> {
-    /// Makes room to join these values: for each that has a key which is not there. It changes no value.
+    /// Makes room to join these values: for each that has a key which is not there. It changes no value, and takes no memory where
+    /// there was room.
     pub fn ready_list(&mut self, values: &[(K, L)]) -> Result<(), AllocError>
         ensures kept { self.new.entries ≡ self.old.entries }
         ensures room { OnOk result (HasRoomForList K.eq self.new values.now) }
+        ensures succeeds { HasRoomForList K.eq self.old values.now → IsOk result }
     {
         let missing = values
             .iter()

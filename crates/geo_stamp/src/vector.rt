@@ -78,7 +78,7 @@ impl Vector {
         top
     }
 
-    /// Raises the entry of a site to a time of at most 2^56 - 1, where it is lower.
+    /// Raises the entry of a site to a time of at most 2^56 - 1, where it is lower. A site without an entry gets none.
     pub fn raise(&mut self, site: u8, time: u64)
         requires { time ≤ LAST_TIME }
         ensures { self.new ≡ raised self.old site time }

@@ -1,6 +1,6 @@
 //! Each public call once, with ample memory.
 use crate::{Body, Digest, Key, Rec, Version, Versions};
-use geo_lattice::{Lattice, Lww, Pair};
+use geo_lattice::{Lattice, Lww, Pair, Twin};
 use geo_stamp::{Stamp, Vector};
 use std::alloc::Global;
 use std::hash::RandomState;
@@ -45,6 +45,7 @@ fn keys_are_1_to_250_allowed_bytes(rt: HostRuntime) -> Result<(), Fail> {
     assert_eq!(rt; high.bytes(), b"a\xff".as_slice());
     assert!(rt; low < high);
     assert!(rt; low != high);
+    assert!(rt; high.twin(alloc)? == high);
     Ok(())
 }
 
@@ -152,6 +153,8 @@ fn records_of_a_parcel_join(rt: HostRuntime) -> Result<(), Fail> {
     known.join_records(Some(stamp(3, 1)?), records);
     assert_eq!(rt; known.len(), 1);
     assert_eq!(rt; known.floor(), Some(stamp(3, 1)?));
+    let version = known.version_of(&key(alloc, b"b")?).ok_or("no version")?;
+    assert_eq!(rt; version.stamp, stamp(5, 1)?);
     Ok(())
 }
 

@@ -21,7 +21,7 @@ pub struct Versions {
 }
 
 impl Versions {
-    ghost use Rattle.std.specs.Prelude.{◌≡◌, ◌↔◌, List, ℕ, None, Some, IsSome, OnOk, OnErr, IfOk, cond, option_copied, length, Bool};
+    ghost use Rattle.std.specs.Prelude.{◌≡◌, ◌↔◌, List, ℕ, None, Some, IsSome, IsOk, OnOk, OnErr, IfOk, cond, option_copied, length, Bool};
     ghost use Rattle.std.specs.List.{All, IsDistinct, list_any};
     ghost use Rattle.std.specs.Map.{lookup};
     ghost use Rattle.geo_lattice.specs.Maps.{meaning_or};
@@ -74,7 +74,8 @@ impl Versions {
         }
     }
 
-    /// Joins a write or a delete: a delete has the body Gone and the expiry 0. Where a growth was refused, nothing is joined.
+    /// Joins a write or a delete: a delete has the body Gone and the expiry 0. Where a growth was refused, nothing is joined. A key
+    /// that has a record needs none.
     pub fn write(
         &mut self,
         alloc: Global,
@@ -85,6 +86,7 @@ impl Versions {
     ) -> Result<(), AllocError>
         ensures ok { OnOk result ((q : List ℕ) → record_in self.new q ≡ cond (same_key q key.now) (above_both (floor_in self.old) (record_joined (record_in self.old q) (Some (stamp, body), Some (stamp, expiry)))) (record_in self.old q)) }
         ensures err { OnErr result ((q : List ℕ) → record_in self.new q ≡ record_in self.old q) }
+        ensures succeeds { (record_in self.old key.now ≡ (None, None) → ⊥) → IsOk result }
         ensures floor { floor_in self.new ≡ floor_in self.old }
     {
         if !counts(self.floor, stamp) {
@@ -131,7 +133,8 @@ impl Versions {
         }
     }
 
-    /// Makes room to join these records, of which each key that is not there wants a place. It changes no record.
+    /// Makes room to join these records, of which each key that is not there wants a place. It changes no record, and takes no
+    /// memory where there was room.
     pub fn ready_records(
         &mut self,
         _alloc: Global,
@@ -140,6 +143,7 @@ impl Versions {
         ensures records { (q : List ℕ) → record_in self.new q ≡ record_in self.old q }
         ensures floor { floor_in self.new ≡ floor_in self.old }
         ensures room { OnOk result (HasRoomFor self.new records.now) }
+        ensures succeeds { HasRoomFor self.old records.now → IsOk result }
     {
         self.records.ready_list(records)
     }

@@ -1,5 +1,5 @@
 -- One site changes, and the others stay.
-use Rattle.std.proofs.Common.{◌≡◌, ◌≢◌, ℕ, zero, suc, ◌+◌, ◌≤◌, Bool, true, false, cond, nat_le, Option, None, List, [], ◌∷◌, ◌++◌, length, Some, refl, sym, ap, ◌∙◌, subst, subst₂, ◌⊎◌, inl, inr, arith, slice_get, slice_set, slice_index_or}
+use Rattle.std.proofs.Common.{◌≡◌, ◌≢◌, ℕ, zero, suc, ◌+◌, ◌≤◌, Bool, true, false, cond, nat_le, None, List, [], ◌∷◌, ◌++◌, length, Some, refl, sym, ap, ◌∙◌, subst, subst₂, ◌⊎◌, inl, inr, arith, slice_get, slice_set, slice_index_or}
 use Rattle.std.proofs.lemmas.List.{length-set}
 use Rattle.geo_versions.specs.Maps.{has_register}
 use Rattle.geo_versions.specs.Operations.{Operation, Act, Register, Record, winner, latest_expiry, record_of}
@@ -53,7 +53,7 @@ issues_others w s (act ∷ acts) t ne =
     let v = settles w s (w.at s ++ new_operation w s act ∷ []) (act_held act (w.held s)) in
     issues_others v s acts t ne ∙ settled_about w s (w.at s ++ new_operation w s act ∷ []) (act_held act (w.held s)) t ne
 
-issues_counts : (w : Known) (s : ℕ) (acts : List Act) → (issues w s acts).counts ≡ w.counts
+pub issues_counts : (w : Known) (s : ℕ) (acts : List Act) → (issues w s acts).counts ≡ w.counts
 issues_counts w s [] = refl
 issues_counts w s (act ∷ acts) = issues_counts (settles w s (w.at s ++ new_operation w s act ∷ []) (act_held act (w.held s))) s acts
 

@@ -32,7 +32,7 @@ use Rattle.geo_site.specs.Schedule.{Known, settles, still_held, carried, address
 use Rattle.geo_site.specs.Agreement.{Kept, Holds, NoTime, Tells, StateOf}
 use Rattle.std.specs.Cmp.Lexicographic.{nat_list_eq_equiv}
 use Rattle.geo_site.proofs.Written.{joined_none}
-use Rattle.geo_site.proofs.Sound.{here, there, held_here, held_there}
+use Rattle.geo_site.proofs.Sound.{here, held_here}
 use Rattle.geo_site.proofs.Steps.{state_takes, state_same, zeros_length, told_positive_body, told_positive_expiry}
 use Rattle.geo_world.specs.Agreement.{SiteKnown, about, Stands, Carries, Agrees}
 use Rattle.geo_world.proofs.Worlds.{some_same, some_none, get_appended}

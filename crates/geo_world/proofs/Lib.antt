@@ -4,3 +4,4 @@ pub mod Exchanging
 pub mod Running
 pub mod Knowing
 pub mod Meeting
+pub mod Requesting

@@ -11,7 +11,6 @@ use Rattle.geo_site.proofs.Served.{lawful_more, known_more}
 use Rattle.geo_world.specs.There.{is_there, is_in_time, all_in_time, EachThere, IsMissing}
 use Rattle.geo_versions.specs.Operations.{Operation, State, version_in, SameOperations}
 use Rattle.geo_versions.proofs.Meaning.{state_same}
-use Rattle.geo_site.specs.Entries.{Held}
 use Rattle.geo_site.specs.Sites.{state_in}
 use Rattle.geo_site.proofs.Steps.{state_version}
 use Rattle.std.specs.Prelude.{Err}

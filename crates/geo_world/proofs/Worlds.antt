@@ -10,7 +10,7 @@ use Rattle.geo_site.proofs.Steps.{state_fresh, state_same}
 use Rattle.geo_delta.specs.declared.parcel.Parcel.{Parcel}
 use Rattle.geo_site.specs.Schedule.{nothing_known}
 use Rattle.geo_site.specs.Entries.{none_counted}
-use Rattle.geo_world.specs.Setups.{is_setup, are_numbered, are_setups, limit_at, limit_of}
+use Rattle.geo_world.specs.Setups.{is_setup, are_numbered, are_setups, limit_at}
 use Rattle.geo_world.specs.There.{is_site}
 use Rattle.geo_world.specs.Agreement.{Stands, Agrees, nothing_about}
 

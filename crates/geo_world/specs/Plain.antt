@@ -1,5 +1,5 @@
 -- The plain program's operations, as those of the definitions.
-use Rattle.std.specs.Prelude.{◌≡◌, ℕ, ◌+◌, Bool, true, ◌&&◌, Result, Ok, Err, cond, List, [], ◌∷◌, Option, None, Some, map, slice_get}
+use Rattle.std.specs.Prelude.{◌≡◌, ℕ, ◌+◌, Bool, true, false, ◌&&◌, Result, Ok, Err, cond, List, [], ◌∷◌, Option, None, Some, map, slice_get}
 use Rattle.std.specs.Borrow.{Bor}
 use Rattle.geo_stamp.specs.Stamps.{Moment}
 use Rattle.geo_versions.specs.Keys.{same_key}
@@ -25,6 +25,13 @@ act_of (Write w) = spec.Act.Write w.key w.bytes w.flags w.expiry
 act_of (Delete key) = spec.Act.Delete key
 act_of (Touch key expiry) = spec.Act.Touch key expiry
 act_of Flush = spec.Act.Flush
+
+-- an act is about its key
+abbrev pub is_about : List ℕ → spec.Act → Bool
+is_about key (spec.Act.Write k bytes flags expiry) = same_key k key
+is_about key (spec.Act.Delete k) = same_key k key
+is_about key (spec.Act.Touch k expiry) = same_key k key
+is_about key spec.Act.Flush = false
 
 abbrev pub operation_of : Operation → spec.Operation
 operation_of op = record { stamp = op.stamp; act = act_of op.act }

@@ -1,4 +1,5 @@
 //! Schedules worked by hand, and seeded ones beside the plain program.
+mod due;
 mod seeded;
 
 use crate::{WorldError, are_in_time, run_schedule};
@@ -12,12 +13,21 @@ use std::hash::RandomState;
 use std::test::Fail;
 
 fn setups(alloc: Global, sites: u8, hasher: &RandomState) -> Result<Vec<Setup>, AllocError> {
+    setups_of(alloc, sites, 1000, hasher)
+}
+
+fn setups_of(
+    alloc: Global,
+    sites: u8,
+    max_records: u32,
+    hasher: &RandomState,
+) -> Result<Vec<Setup>, AllocError> {
     let mut all = Vec::new(alloc);
     for index in 0..sites {
         all.push(Setup {
             site: index.wrapping_add(1),
             sites,
-            max_records: 1000,
+            max_records,
             hasher: hasher.clone()?,
         })?;
     }

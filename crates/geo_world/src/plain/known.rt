@@ -84,7 +84,10 @@ impl Known {
                 if !self.has(*site) || *now > LAST_MOMENT {
                     return Err(PlainError::NotThere);
                 }
-                self.carry_out(alloc, *site, *now, request)
+                match self.carry_out(alloc, *site, *now, request) {
+                    Ok(()) => Ok(()),
+                    Err(why) => Err(why),
+                }
             }
             (Event::Send { site, to }, Trace::Sent) => {
                 if !self.has(*site) {
@@ -170,6 +173,8 @@ pub fn known_after(
         sites,
         sent: Vec::new(alloc),
     };
-    all.follow(alloc, events, traces)?;
-    Ok(all)
+    match all.follow(alloc, events, traces) {
+        Ok(()) => Ok(all),
+        Err(why) => Err(why),
+    }
 }

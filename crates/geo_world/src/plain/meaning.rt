@@ -6,7 +6,7 @@ ghost use Rattle.geo_stamp.specs.Stamps.{stamp_cmp};
 ghost use Rattle.geo_versions.specs.Bodies.{body_cmp};
 ghost use Rattle.std.specs.Ordering.{nat_cmp};
 ghost use Rattle.geo_site.specs.Entries.{names};
-ghost use Rattle.geo_world.specs.Plain.{operation_of, operations_of};
+ghost use Rattle.geo_world.specs.Plain.{act_of, is_about, operation_of, operations_of};
 
 use crate::plain::operation::{Act, Operation};
 use geo_stamp::Stamp;
@@ -19,6 +19,17 @@ pub fn latest(ops: &[Operation]) -> u64
     match ops {
         [] => 0,
         [op, rest @ ..] => op.stamp.time().max(latest(rest)),
+    }
+}
+
+/// Whether an operation is on a key.
+pub fn is_on(key: &Key, op: &Operation) -> bool
+    ensures { result ≡ is_about key.now (act_of op.now.act) }
+{
+    match &op.act {
+        Act::Write(written) => written.key == *key,
+        Act::Delete { key: own } | Act::Touch { key: own, .. } => own == key,
+        Act::Flush => false,
     }
 }
 

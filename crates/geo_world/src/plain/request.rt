@@ -1,5 +1,5 @@
 //! What a request adds to what is known.
-ghost use Rattle.std.specs.Prelude.{[], ◌∷◌, ◌≡◌, ◌≤◌, ◌<◌, ◌+◌, ◌^◌, ℕ, List, length, IfOk, IfErr, true, false};
+ghost use Rattle.std.specs.Prelude.{[], ◌∷◌, ◌≡◌, ◌≤◌, ◌<◌, ◌+◌, ◌-◌, ◌^◌, ℕ, Bool, List, length, IfOk, IfErr, true, false};
 ghost use Rattle.geo_grammar.specs.Limits.{longest_value};
 ghost use Rattle.geo_memcache.specs.Decisions.{decided};
 ghost use Rattle.geo_stamp.specs.Stamps.{last_time};
@@ -8,6 +8,7 @@ ghost use Rattle.geo_versions.specs.Operations.Act.{Write, Delete};
 ghost use Rattle.geo_site.specs.Entries.{acts_of, lacks, counted_on, found_of};
 ghost use Rattle.geo_site.specs.Changes.{is_change, bytes_in, IsShort};
 ghost use Rattle.geo_site.specs.Schedule.{Known as Knowing, issues, issues_on, counts_keys, carries_out, visible};
+ghost use Rattle.geo_world.specs.declared.plain.known.PlainError.TheVariants.{Memory};
 ghost use Rattle.geo_world.specs.There.{is_site};
 ghost use Rattle.geo_world.specs.Plain.{Meets, ChangeAdds};
 
@@ -23,7 +24,7 @@ use geo_versions::Key;
 use std::alloc::{AllocError, Global};
 
 impl From<AllocError> for PlainError {
-    ghost from_gives = { λ _ e. e ≡ PlainError.Memory };
+    ghost from_gives = { λ _ e. e ≡ Memory };
 
     fn from(_error: AllocError) -> PlainError {
         PlainError::Memory

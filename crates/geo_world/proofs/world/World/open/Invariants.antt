@@ -1,4 +1,4 @@
-use Rattle.std.proofs.Common.{◌≡◌, ℕ, ◌+◌, length, slice_get, Some, None, []}
+use Rattle.std.proofs.Common.{◌≡◌, ℕ, ◌+◌, length, slice_get, Some}
 use Rattle.geo_site.specs.declared.site.Site.{Site}
 use Rattle.geo_world.specs.Setups.{limit_of}
 use Rattle.geo_world.specs.Agreement.{Stands, nothing_about}

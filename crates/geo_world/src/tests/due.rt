@@ -1,0 +1,163 @@
+//! What the plain program says of a reply.
+ghost use Rattle.std.specs.Prelude.{◌≤◌, ◌^◌};
+
+use crate::plain::knowledge::Knowledge;
+use crate::plain::meaning::{is_on, latest};
+use geo_grammar::{Found, Reply, Request, Stats};
+use geo_memcache::{Answer, Ask, Decision, Effect};
+use geo_versions::Key;
+use std::alloc::Global;
+use std::test::Fail;
+
+/// Whether a reply is the one that is due to a request, at a site that knows and holds this much, and may have so many records.
+pub fn replies_as_due(
+    alloc: Global,
+    at: &Knowledge,
+    site: u8,
+    now: u64,
+    limit: u64,
+    names: &[Key],
+    request: &Request,
+    reply: &Reply,
+) -> Result<bool, Fail> {
+    if now > 1 << 40 {
+        return Err("out of time")?;
+    }
+    let room = Room {
+        limit,
+        records: recorded(at, names),
+    };
+    match request {
+        Request::Store {
+            verb,
+            key,
+            flags,
+            exptime,
+            unique,
+            bytes,
+            ..
+        } => {
+            let ask = Ask::Store {
+                verb: *verb,
+                flags: *flags,
+                exptime: *exptime,
+                unique: *unique,
+                bytes,
+            };
+            decides_as_due(alloc, at, now, room, key, &ask, reply)
+        }
+        Request::Delete { key, .. } => {
+            decides_as_due(alloc, at, now, room, key, &Ask::Delete, reply)
+        }
+        Request::Arith { up, key, by, .. } => {
+            let ask = Ask::Arith { up: *up, by: *by };
+            decides_as_due(alloc, at, now, room, key, &ask, reply)
+        }
+        Request::Fetch { keys, numbers } => Ok(match reply {
+            Reply::Values(found) => {
+                shows_as_due(at, now, *numbers, keys.as_slice(), found.as_slice())
+            }
+            _ => false,
+        }),
+        Request::Stats => Ok(match reply {
+            Reply::Stats(stats) => *stats == stats_due(at, site, room.records, names),
+            _ => false,
+        }),
+        Request::ShowVersion => Ok(matches!(reply, Reply::Version)),
+        Request::Verbosity { .. } => Ok(matches!(reply, Reply::Done)),
+        Request::Quit => Ok(matches!(reply, Reply::Closed)),
+    }
+}
+
+/// How many records a site may have, and has.
+#[derive(Clone, Copy)]
+struct Room {
+    limit: u64,
+    records: u64,
+}
+
+/// Whether a site knows an operation on a key.
+fn is_recorded(at: &Knowledge, name: &Key) -> bool {
+    at.ops.iter().any(|op| is_on(name, op))
+}
+
+fn recorded(at: &Knowledge, names: &[Key]) -> u64 {
+    names.iter().filter(|name| is_recorded(at, *name)).count() as u64
+}
+
+fn stats_due(at: &Knowledge, site: u8, records: u64, names: &[Key]) -> Stats {
+    Stats {
+        curr_items: names.iter().filter(|name| at.held(*name).is_some()).count() as u64,
+        get_hits: at.hits,
+        get_misses: at.misses,
+        evictions: 0,
+        site: site as u64,
+        clock: latest(at.ops.as_slice()),
+        records,
+    }
+}
+
+fn decides_as_due(
+    alloc: Global,
+    at: &Knowledge,
+    now: u64,
+    room: Room,
+    key: &Key,
+    ask: &Ask<'_>,
+    reply: &Reply,
+) -> Result<bool, Fail>
+    requires moment { now ≤ 2 ^ 40 }
+{
+    let decision = at.decision(alloc, now, key, ask)?;
+    let crowded = room.records >= room.limit && !is_recorded(at, key);
+    Ok(decided_as_due(&decision, crowded, reply))
+}
+
+/// Whether the reply is the decision's, or that the map is full where it would be too full.
+fn decided_as_due(decision: &Decision, crowded: bool, reply: &Reply) -> bool {
+    match (&decision.effect, &decision.answer) {
+        (Effect::Nothing, Answer::Reply(due)) => is_same(due, reply),
+        (_, Answer::Reply(due)) => match crowded {
+            true => matches!(reply, Reply::MapFull),
+            false => is_same(due, reply),
+        },
+        _ => false,
+    }
+}
+
+/// Whether two replies to a change are the same.
+fn is_same(one: &Reply, other: &Reply) -> bool {
+    match (one, other) {
+        (Reply::Stored, Reply::Stored)
+        | (Reply::NotStored, Reply::NotStored)
+        | (Reply::Exists, Reply::Exists)
+        | (Reply::NotFound, Reply::NotFound)
+        | (Reply::Deleted, Reply::Deleted)
+        | (Reply::NotANumber, Reply::NotANumber)
+        | (Reply::TooLarge, Reply::TooLarge) => true,
+        (Reply::Number(one), Reply::Number(other)) => one == other,
+        _ => false,
+    }
+}
+
+/// Whether the values are those of the keys that are visible, in their order.
+fn shows_as_due(at: &Knowledge, now: u64, numbers: bool, keys: &[Key], found: &[Found]) -> bool {
+    let mut left = found;
+    for key in keys {
+        if let Some(entry) = at.visible(now, key) {
+            let [first, rest @ ..] = left else {
+                return false;
+            };
+            let unique = if numbers { Some(entry.unique) } else { None };
+            if first.key != *key
+                || first.flags != entry.flags
+                || first.unique != unique
+                || first.bytes.as_slice() != entry.bytes.as_slice()
+            {
+                return false;
+            }
+            left = rest;
+        }
+    }
+    left.is_empty()
+}
