@@ -1,5 +1,5 @@
 -- The lines of a text that comes in pieces.
-use Rattle.std.proofs.Common.{◌≡◌, ℕ, ◌+◌, ◌<◌, ◌≤◌, ◌==◌, true, false, cond, not, suc, inl, inr, List, [], ◌∷◌, ◌++◌, length, take, drop, Option, Some, None, refl, sym, ap, subst, ◌∙◌, arith, append_assoc, append-nil, MatchOption, position}
+use Rattle.std.proofs.Common.{◌≡◌, ℕ, ◌+◌, ◌<◌, ◌≤◌, ◌==◌, Bool, true, false, cond, not, suc, inl, inr, List, [], ◌∷◌, ◌++◌, length, take, drop, Option, Some, None, refl, sym, ap, subst, ◌∙◌, arith, append_assoc, append-nil, MatchOption, position}
 use Rattle.std.specs.Option.{option_map}
 use Rattle.std.specs.List.{position_or_len}
 use Rattle.std.proofs.lemmas.Bool.{cases_lt, cond-true, cond-false, lt-ltb, le-ltb}
@@ -24,15 +24,15 @@ left-append begun (b ∷ bs) ys =
       | false ↦ left-append (begun ++ b ∷ []) bs ys
     ]
 
--- what `position` says of the first such byte
-pub position_says : (byte : ℕ) (text : List ℕ) (o : Option ℕ) → o ≡ position (is_byte byte) text
-    → MatchOption o (length text ≤ position_or_len (is_byte byte) text) (λ n. (n ≡ position_or_len (is_byte byte) text) × (n < length text))
-position_says byte text o e =
-    let n = position_or_len (is_byte byte) text in
-    let P : Option ℕ → Type 0 = λ v. MatchOption v (length text ≤ n) (λ i. (i ≡ n) × (i < length text)) in
-    elim (cases_lt n (length text)) [
-      | inl lt ↦ subst P (sym (e ∙ cond-true _ _ _ (lt-ltb n (length text) lt))) (refl, lt)
-      | inr le ↦ subst P (sym (e ∙ cond-false _ _ _ (le-ltb n (length text) le))) le
+-- what `position` says of the first element that passes a test
+pub position_says : {A : Type 0} (p : A → Bool) (xs : List A) (o : Option ℕ) → o ≡ position p xs
+    → MatchOption o (length xs ≤ position_or_len p xs) (λ n. (n ≡ position_or_len p xs) × (n < length xs))
+position_says p xs o e =
+    let n = position_or_len p xs in
+    let P : Option ℕ → Type 0 = λ v. MatchOption v (length xs ≤ n) (λ i. (i ≡ n) × (i < length xs)) in
+    elim (cases_lt n (length xs)) [
+      | inl lt ↦ subst P (sym (e ∙ cond-true _ _ _ (lt-ltb n (length xs) lt))) (refl, lt)
+      | inr le ↦ subst P (sym (e ∙ cond-false _ _ _ (le-ltb n (length xs) le))) le
     ]
 
 -- where no such byte stands, the text isn't cut

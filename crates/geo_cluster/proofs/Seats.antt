@@ -8,7 +8,7 @@ use Rattle.geo_site.specs.Sites.{state_in, delta_of, Takes}
 use Rattle.geo_delta.specs.declared.parcel.Parcel.{Parcel}
 use Rattle.std.proofs.lemmas.Bool.{eqb-true}
 use Rattle.geo_grammar.specs.declared.item.Item.{Item}
-use Rattle.geo_cluster.specs.Answering.{Answers, AnswersItems}
+use Rattle.geo_cluster.specs.Answering.{Answers, AnswersItems, KeepsSeat}
 
 length-raised : (v : List ℕ) (j t : ℕ) → length (raised v j t) ≡ length v
 length-raised v zero t = refl
@@ -25,6 +25,10 @@ length-joined (x ∷ xs) (y ∷ ys) e = ap suc (length-joined xs ys (omega arith
 
 pub length-take : (number : ℕ) (d : Delta) (st : SiteState) → length d.upto ≡ length st.vector → length (take number d st).vector ≡ length st.vector
 length-take number d st e = length-raised (vector_joined st.vector d.upto) number _ ∙ length-joined st.vector d.upto e
+
+-- what is kept twice
+pub kept_on : (a b c : Site) → KeepsSeat a b → KeepsSeat b c → KeepsSeat a c
+kept_on a b c h k = (k.0 ∙ h.0, k.1 ∙ h.1, k.2 ∙ h.2)
 
 -- one item more
 pub Answered-more : (items : List Item) (now : ℕ) (a b c : Site) (item : Item) (s t : List ℕ) → AnswersItems a now items s b → Answers b now item t c → AnswersItems a now (items ++ item ∷ []) (s ++ t) c

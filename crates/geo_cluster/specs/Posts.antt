@@ -1,33 +1,43 @@
 -- The sites of a script, each with the reader of its one client's bytes, and what each call of one does.
-use Rattle.std.specs.Prelude.{◌≡◌, ◌⊎◌, ℕ, ◌+◌, List, length, slice_get, Some}
-use Rattle.geo_grammar.specs.Places.{start_place, items_from, place_after}
+use Rattle.std.specs.Prelude.{◌≡◌, ◌⊎◌, ℕ, ◌+◌, ◌||◌, false, if◌then◌else◌, List, length, slice_get, Some}
+use Rattle.geo_grammar.specs.Places.{Place, start_place, items_from, place_after, is_ended}
 use Rattle.geo_delta.specs.declared.parcel.Parcel.{Parcel}
+use Rattle.geo_site.specs.Entries.{none_counted}
 use Rattle.geo_site.specs.Machine.{Same, fresh, take}
-use Rattle.geo_site.specs.Sites.{state_in, delta_of, Takes, RefusesFor}
+use Rattle.geo_site.specs.Sites.{state_in, counts_in, most_records, delta_of, Takes, RefusesFor}
 use Rattle.geo_site.specs.declared.refusal.TakeError.{TakeError}
 use Rattle.geo_cluster.specs.Prints.{taken_text}
-use Rattle.geo_cluster.specs.Answering.{number_of, sites_of, AnswersItems, IsRefusalText}
+use Rattle.geo_cluster.specs.Answering.{number_of, sites_of, KeepsSeat, AnswersItems, has_quit, until_quit, IsRefusalText}
 use Rattle.geo_cluster.specs.declared.script.post.Post.{Post}
 
 -- sites are numbered from 1, and each knows how many there are
 abbrev pub AreNumbered : List Post → Type 0
 AreNumbered posts = (k : ℕ) (post : Post) → slice_get posts k ≡ Some post → (number_of post.site ≡ k + 1) × (sites_of post.site ≡ length posts)
 
--- a new site knows nothing, and nothing came from its client
-pub record IsOpened (number sites : ℕ) (post : Post) : Type 0 where
+-- a new site knows nothing, may keep so many records and has counted nothing, and nothing came from its client
+pub record IsOpened (number sites most : ℕ) (post : Post) : Type 0 where
   pub number_is : number_of post.site ≡ number
   pub state : Same (fresh sites) (state_in post.site)
+  pub limit : most_records post.site ≡ most
+  pub counts : counts_in post.site ≡ none_counted
   pub reader : post.reader ≡ start_place
+  pub ended : post.ended ≡ false
 
-abbrev pub AreOpened : ℕ → List Post → Type 0
-AreOpened sites posts = (k : ℕ) (post : Post) → slice_get posts k ≡ Some post → IsOpened (k + 1) sites post
+abbrev pub AreOpened : ℕ → ℕ → List Post → Type 0
+AreOpened sites most posts = (k : ℕ) (post : Post) → slice_get posts k ≡ Some post → IsOpened (k + 1) sites most post
 
--- what comes from a client is read on from where its reader stands, and the items that end in it are answered
+-- where the reader stands to which a client's next bytes come: where the last connection has ended they open a new one
+abbrev pub place_in : Post → Place
+place_in post = if post.ended then start_place else post.reader
+
+-- what comes from a client is read on from there, and the items that end in it are answered, up to a quit; a quit, or a line
+-- that is too long, ends the connection
 pub record AnswersBytes (old : Post) (now : ℕ) (bytes answer : List ℕ) (new : Post) : Type 0 where
-  pub reader : new.reader ≡ place_after old.reader bytes
-  pub items : AnswersItems old.site now (items_from old.reader bytes) answer new.site
+  pub reader : new.reader ≡ place_after (place_in old) bytes
+  pub items : AnswersItems old.site now (until_quit (items_from (place_in old) bytes)) answer new.site
+  pub ended : new.ended ≡ (has_quit (items_from (place_in old) bytes) || is_ended (place_after (place_in old) bytes))
 
--- a parcel is taken, or refused for a cause that holds and changes nothing
+-- a parcel is taken, or refused for a cause that holds and changes nothing; neither counts a hit or a miss
 pub record TakesWell (old : Post) (parcel : Parcel) (text : List ℕ) (new : Post) : Type 0 where
   pub prints : text ≡ taken_text
   pub may : Takes old.site parcel
@@ -41,4 +51,7 @@ pub record Declines (old : Post) (parcel : Parcel) (text : List ℕ) (new : Post
 
 pub record TakesParcel (old : Post) (parcel : Parcel) (text : List ℕ) (new : Post) : Type 0 where
   pub outcome : TakesWell old parcel text new ⊎ Declines old parcel text new
+  pub seat : KeepsSeat old.site new.site
+  pub counts : counts_in new.site ≡ counts_in old.site
   pub reader : new.reader ≡ old.reader
+  pub ended : new.ended ≡ old.ended

@@ -30,7 +30,7 @@ has_parcel scene k = nat_lt k (length scene.parcels)
 
 -- sites are set up once and before anything else, and a line names only sites and parcels that are there
 abbrev pub can_carry : Scene → Said → Bool
-can_carry scene (SaysSites n) = length scene.posts == 0
+can_carry scene (SaysSites n most) = length scene.posts == 0
 can_carry scene (SaysAt m) = not (length scene.posts == 0)
 can_carry scene (SaysClient s text) = has_site scene s
 can_carry scene (SaysSend s t) = has_site scene s && has_site scene t
@@ -40,11 +40,11 @@ can_carry scene (SaysTake s k) = has_site scene s && has_parcel scene k
 abbrev pub IsPost : Scene → ℕ → Post → Type 0
 IsPost scene s post = slice_get scene.posts (s - 1) ≡ Some post
 
--- so many sites open
-pub record SetsUp (old : Scene) (sites : ℕ) (text : List ℕ) (new : Scene) : Type 0 where
+-- so many sites open, and each may keep so many records
+pub record SetsUp (old : Scene) (sites most : ℕ) (text : List ℕ) (new : Scene) : Type 0 where
   pub prints : text ≡ []
   pub many : length new.posts ≡ sites
-  pub opened : AreOpened sites new.posts
+  pub opened : AreOpened sites most new.posts
   pub rest : new ≡ record old { posts = new.posts }
 
 -- a site's client gets its answer on one line
@@ -78,7 +78,7 @@ pub record Brings (old : Scene) (s k : ℕ) (text : List ℕ) (new : Scene) : Ty
 
 -- what a line that can be carried out prints, and what it leaves
 abbrev pub Carries : Scene → Said → List ℕ → Scene → Type 0
-Carries old (SaysSites n) text new = SetsUp old n text new
+Carries old (SaysSites n most) text new = SetsUp old n most text new
 Carries old (SaysAt m) text new = (text ≡ []) × (new ≡ record old { moment = m })
 Carries old (SaysClient s bytes) text new = Feeds old s bytes text new
 Carries old (SaysSend s t) text new = CutsParcel old s t text new

@@ -3,7 +3,6 @@ pub mod cut;
 pub mod escape;
 pub mod fault;
 pub mod line;
-pub mod number;
 pub mod parse;
 pub mod post;
 pub mod run;

@@ -1,4 +1,10 @@
 //! Whole scripts, with what they write and how they end, worked out by hand.
+mod commands;
+mod connections;
+mod examples;
+mod limits;
+mod sites;
+
 use crate::{Line, ScriptFault, escape, is_skipped, parse_line, run_script, unescape};
 use geo_grammar::Device;
 use std::hash::RandomState;
@@ -52,6 +58,25 @@ fn is_met(rt: &HostRuntime, case: &Case) -> Result<bool, Fail> {
     Ok(ended_well && written.as_slice() == case.written)
 }
 
+/// A line of a script, and the line that it prints, if it prints one.
+type Row = (&'static str, &'static str);
+
+/// Whether the script of these lines prints theirs and no other, and ends well.
+fn prints(rt: &HostRuntime, rows: &[Row]) -> Result<bool, Fail> {
+    let mut script = Vec::new(rt.alloc());
+    let mut wanted = Vec::new(rt.alloc());
+    for (line, printed) in rows {
+        script.extend_from_slice(line.as_bytes())?;
+        script.extend_from_slice(b"\n")?;
+        if !printed.is_empty() {
+            wanted.extend_from_slice(printed.as_bytes())?;
+            wanted.extend_from_slice(b"\n")?;
+        }
+    }
+    let (written, outcome) = played(rt, script.as_slice())?;
+    Ok(outcome == Ok(()) && written == wanted)
+}
+
 #[test]
 fn skips_what_says_nothing(rt: HostRuntime) -> Result<(), Fail> {
     let cases = [
@@ -86,10 +111,36 @@ fn refuses_lines_that_say_nothing(rt: HostRuntime) -> Result<(), Fail> {
         bad(2, "a doubled space", b"sites 2\nsend  1 2\n", b""),
         bad(1, "a return before the line end", b"sites 1\r\n", b""),
         bad(1, "a sign", b"sites +1\n", b""),
-        bad(1, "an option", b"sites 1 max 5\n", b""),
         bad(2, "an unknown escape", b"sites 1\nclient 1 \\t\n", b""),
         bad(2, "half an escape", b"sites 1\nclient 1 \\x4\n", b""),
         bad(2, "a backslash at the end", b"sites 1\nclient 1 a\\", b""),
+    ];
+    for case in &cases {
+        assert!(rt; is_met(&rt, case)?, "{}", case.name);
+    }
+    Ok(())
+}
+
+#[test]
+fn refuses_options_that_are_not_there(rt: HostRuntime) -> Result<(), Fail> {
+    let cases = [
+        bad(1, "pages", b"sites 1 pages 15\n", b""),
+        bad(1, "reap", b"sites 1 reap 60\n", b""),
+        bad(1, "another option behind", b"sites 1 max 5 reap 60\n", b""),
+        bad(1, "an option twice", b"sites 1 max 5 max 5\n", b""),
+        bad(1, "no number", b"sites 2 max\n", b""),
+        bad(1, "a space for a number", b"sites 2 max \n", b""),
+        bad(1, "an option alone", b"sites max 5\n", b""),
+        bad(1, "no name", b"sites 2 5\n", b""),
+        bad(1, "upper case", b"sites 2 MAX 5\n", b""),
+        bad(1, "a doubled space", b"sites 2 max  5\n", b""),
+        bad(1, "a space behind", b"sites 2 max 5 \n", b""),
+        bad(1, "a sign", b"sites 2 max +5\n", b""),
+        bad(1, "no records", b"sites 2 max 0\n", b""),
+        bad(1, "too many records", b"sites 2 max 1000001\n", b""),
+        bad(1, "too many sites", b"sites 17 max 5\n", b""),
+        good("the most records", b"sites 2 max 1000000\n", b""),
+        good("the fewest records", b"sites 2 max 1\n", b""),
     ];
     for case in &cases {
         assert!(rt; is_met(&rt, case)?, "{}", case.name);
@@ -273,6 +324,10 @@ fn reads_a_line(rt: HostRuntime) -> Result<(), Fail> {
     assert!(rt; !is_skipped(b"take 2 13"));
     match parse_line(rt.alloc(), b"take 2 13")? {
         Some(Line::Take { site, parcel }) => assert_eq!(rt; (site, parcel), (2, 13)),
+        _ => panic!(rt; "another line was read"),
+    }
+    match parse_line(rt.alloc(), b"sites 2")? {
+        Some(Line::Sites { count, max }) => assert_eq!(rt; (count, max), (2, 100_000)),
         _ => panic!(rt; "another line was read"),
     }
     Ok(())

@@ -3,8 +3,8 @@
 /// What a line of a script asks for.
 #[derive(Debug, Drop)]
 pub enum Line {
-    /// So many sites are to be set up, 1 to 16.
-    Sites(u8),
+    /// So many sites are to be set up, 1 to 16, each of which may keep `max` records, 1 to 1,000,000.
+    Sites { count: u8, max: u32 },
     /// The moment from here on, in seconds, 1 to 2^40.
     At(u64),
     /// These bytes reach a site from its client.

@@ -1,18 +1,38 @@
 //! What a line of a script says.
 ghost use Rattle.std.specs.Prelude.{◌≡◌, ◌≤◌, None, Some, MatchOption, IfOk, IfSome};
 ghost use Rattle.std.specs.Option.{option_map, option_and_then};
-ghost use Rattle.geo_cluster.specs.Sayings.{cut_of, site_of, moment_of, parcel_of, client_said, send_said, take_said, said, skips, SaysAt, SaysSites};
+ghost use Rattle.geo_cluster.specs.Numbers.{count_of};
+ghost use Rattle.geo_cluster.specs.Sayings.{cut_of, site_of, moment_of, parcel_of, client_said, send_said, sites_said, limit_in, take_said, said, skips, SaysAt};
 ghost use Rattle.geo_cluster.specs.Reads.{said_by, IsInRange};
 
 use crate::script::cut::cut_at;
 use crate::script::escape::unescape;
 use crate::script::line::Line;
-use crate::script::number::{count, number};
+use geo_grammar::number;
 use geo_stamp::MOST_SITES;
 use std::alloc::{AllocError, Global};
 
 /// The latest moment of a script: 2^40 seconds.
 pub const LAST_MOMENT: u64 = 1 << 40;
+
+/// How many records each site may keep where the script doesn't say.
+const DEFAULT_LIMIT: u32 = 100_000;
+
+/// The most records that a site may be allowed to keep.
+const GREATEST_LIMIT: u64 = 1_000_000;
+
+/// The number that a word of decimal digits writes, leading zeros allowed. None where it is none, 0, or above `most`.
+fn count(word: &[u8], most: u64) -> Option<u64>
+    ensures number { result ≡ count_of most word.now }
+    ensures most { IfSome result (λ n. n ≤ most) }
+    ensures least { IfSome result (λ n. 1 ≤ n) }
+{
+    let n = number(word, most)?;
+    if n == 0 {
+        return None;
+    }
+    Some(n)
+}
 
 /// A site's number, or a number of sites.
 fn site_number(word: &[u8]) -> Option<u8>
@@ -70,12 +90,33 @@ fn at_line(args: &[u8]) -> Option<Line>
     Some(Line::At(moment))
 }
 
+/// How many records each site may keep, by what stands behind the number of sites.
+fn limit_option(option: &[u8]) -> Option<u32>
+    ensures limit { result ≡ option_and_then limit_in (cut_of option.now) }
+    ensures range { IfSome result (λ n. (1 ≤ n) × (n ≤ 1000000)) }
+{
+    let (name, limit) = cut_at(b' ', option)?;
+    if name != b"max".as_slice() {
+        return None;
+    }
+    let limit = count(limit, GREATEST_LIMIT)?;
+    Some(limit as u32)
+}
+
 fn sites_line(args: &[u8]) -> Option<Line>
-    ensures said { option_map said_by result ≡ option_map (λ n. SaysSites n) (site_of args.now) }
+    ensures said { option_map said_by result ≡ sites_said args.now }
     ensures range { IfSome result (λ l. IsInRange l) }
 {
-    let sites = site_number(args)?;
-    Some(Line::Sites(sites))
+    let Some((count, option)) = cut_at(b' ', args) else {
+        let count = site_number(args)?;
+        return Some(Line::Sites {
+            count,
+            max: DEFAULT_LIMIT,
+        });
+    };
+    let count = site_number(count)?;
+    let max = limit_option(option)?;
+    Some(Line::Sites { count, max })
 }
 
 /// What a line says, without its line end: None where it is a bad line, whatever sites and parcels there are. Words are

@@ -3,6 +3,7 @@ ghost use Rattle.std.specs.Prelude.{◌≡◌, ◌≢◌, ◌+◌, ◌^◌, ◌<
 ghost use Rattle.geo_cluster.specs.Reads.{said_by, IsInRange};
 ghost use Rattle.geo_cluster.specs.Sayings.{SaysSites, SaysAt, SaysClient, SaysSend, SaysTake};
 ghost use Rattle.geo_cluster.specs.Posts.{AreNumbered, AreOpened};
+ghost use Rattle.geo_cluster.specs.declared.script.line.Line.TheVariants.{Sites};
 
 use crate::script::line::Line;
 use crate::script::post::Post;
@@ -12,15 +13,22 @@ use geo_lattice::Twin;
 use std::alloc::{AllocError, Global};
 use std::hash::RandomState;
 
-/// As many sites as are asked for.
-fn open_posts(alloc: Global, hasher: RandomState, sites: u8) -> Result<Vec<Post>, AllocError>
-    requires { sites ≤ 16 }
+/// As many sites as are asked for, each of which may keep `max` records.
+fn open_posts(
+    alloc: Global,
+    hasher: RandomState,
+    sites: u8,
+    max: u32,
+) -> Result<Vec<Post>, AllocError>
+    requires sites { sites ≤ 16 }
+    requires least { 1 ≤ max }
+    requires most { max ≤ 1000000 }
     ensures many { IfOk result (λ posts. length posts.items ≡ sites) }
-    ensures opened { IfOk result (λ posts. AreOpened sites posts.items) }
+    ensures opened { IfOk result (λ posts. AreOpened sites max posts.items) }
 {
     let mut posts = Vec::new(alloc);
     for index in 0..sites {
-        posts.push(Post::open(alloc, hasher, index + 1, sites)?)?;
+        posts.push(Post::open(alloc, hasher, index + 1, sites, max)?)?;
     }
     Ok(posts)
 }
@@ -59,7 +67,7 @@ impl Stage {
         ensures { IfOk result (λ o. Meets (scene_of self.old) (said_by line) o (scene_of self.new)) }
     {
         match line {
-            Line::Sites(count) => self.set_up(alloc, count),
+            Line::Sites { count, max } => self.set_up(alloc, count, max),
             Line::At(moment) => Ok(self.set_moment(alloc, moment)),
             Line::Client { site, text } => self.feed(alloc, site, text.as_slice()),
             Line::Send { from, to } => self.send(alloc, from, to),
@@ -78,15 +86,14 @@ impl Stage {
         Some(number - 1)
     }
 
-    fn set_up(&mut self, alloc: Global, count: u8) -> Result<Option<Vec<u8>>, AllocError>
-        requires least { 1 ≤ count }
-        requires most { count ≤ 16 }
-        ensures { IfOk result (λ o. Meets (scene_of self.old) (SaysSites count) o (scene_of self.new)) }
+    fn set_up(&mut self, alloc: Global, count: u8, max: u32) -> Result<Option<Vec<u8>>, AllocError>
+        requires { IsInRange (Sites count max) }
+        ensures { IfOk result (λ o. Meets (scene_of self.old) (SaysSites count max) o (scene_of self.new)) }
     {
         if !self.posts.is_empty() {
             return Ok(None);
         }
-        self.posts = open_posts(alloc, self.hasher, count)?;
+        self.posts = open_posts(alloc, self.hasher, count, max)?;
         Ok(Some(Vec::new(alloc)))
     }
 

@@ -2,12 +2,12 @@ use Rattle.std.proofs.Common.{◌≡◌, ◌+◌, ◌++◌, ◌∷◌, [], List,
 use Rattle.std.proofs.lemmas.List.{take_more}
 use Rattle.geo_grammar.specs.declared.item.Item.{Item}
 use Rattle.geo_cluster.specs.Answering.{AnswersItems}
-use Rattle.geo_cluster.proofs.Seats.{Answered-more}
+use Rattle.geo_cluster.proofs.Seats.{Answered-more, kept_on}
 use Rattle.geo_cluster.proofs.script.post.Post.answer.Goals as goal
 
 pub loop-item-preserved : goal.loop-item-preserved
 loop-item-preserved c =
-    let items = c.deref-item-items.result.now in
+    let items = c.acted_on-item-items.result.now in
     let i = c.loop-item.item-index in
     let item = c.item-item.result in
     let a = c.in_ok-answer_item.ensures.answers in
@@ -17,8 +17,9 @@ loop-item-preserved c =
     record {
       items = c.loop-item.invariant.items;
       reader = c.loop-item.invariant.reader;
+      ended = c.loop-item.invariant.ended;
       answers = subst (λ (ts : List Item). AnswersItems old c.args.now ts c.answer_item.new.answer.items new) (sym more)
           (subst (λ (out : List ℕ). AnswersItems old c.args.now (take i items ++ item ∷ []) out new) (sym a.2)
           (Answered-more (take i items) c.args.now old c.loop-item.self.site new item c.loop-item.answer.items a.0 c.loop-item.invariant.answers a.1));
-      seat = (c.in_ok-answer_item.ensures.seat.0 ∙ c.loop-item.invariant.seat.0, c.in_ok-answer_item.ensures.seat.1 ∙ c.loop-item.invariant.seat.1);
+      seat = kept_on old c.loop-item.self.site new c.loop-item.invariant.seat c.in_ok-answer_item.ensures.seat;
     }
