@@ -27,6 +27,23 @@ pub fn replies_as_due(
         limit,
         records: recorded(at, names),
     };
+    if let Some((key, ask)) = asked(request) {
+        return decides_as_due(alloc, at, now, room, key, &ask, reply);
+    }
+    Ok(match (request, reply) {
+        (Request::Fetch { keys, numbers }, Reply::Values(found)) => {
+            shows_as_due(at, now, *numbers, keys.as_slice(), found.as_slice())
+        }
+        (Request::Stats, Reply::Stats(stats)) => {
+            *stats == stats_due(at, site, room.records, names)
+        }
+        (Request::ShowVersion, Reply::Version) => true,
+        _ => false,
+    })
+}
+
+/// What a request asks of its one key, where it asks for a change.
+fn asked(request: &Request) -> Option<(&Key, Ask<'_>)> {
     match request {
         Request::Store {
             verb,
@@ -44,28 +61,11 @@ pub fn replies_as_due(
                 unique: *unique,
                 bytes,
             };
-            decides_as_due(alloc, at, now, room, key, &ask, reply)
+            Some((key, ask))
         }
-        Request::Delete { key, .. } => {
-            decides_as_due(alloc, at, now, room, key, &Ask::Delete, reply)
-        }
-        Request::Arith { up, key, by, .. } => {
-            let ask = Ask::Arith { up: *up, by: *by };
-            decides_as_due(alloc, at, now, room, key, &ask, reply)
-        }
-        Request::Fetch { keys, numbers } => Ok(match reply {
-            Reply::Values(found) => {
-                shows_as_due(at, now, *numbers, keys.as_slice(), found.as_slice())
-            }
-            _ => false,
-        }),
-        Request::Stats => Ok(match reply {
-            Reply::Stats(stats) => *stats == stats_due(at, site, room.records, names),
-            _ => false,
-        }),
-        Request::ShowVersion => Ok(matches!(reply, Reply::Version)),
-        Request::Verbosity { .. } => Ok(matches!(reply, Reply::Done)),
-        Request::Quit => Ok(matches!(reply, Reply::Closed)),
+        Request::Delete { key, .. } => Some((key, Ask::Delete)),
+        Request::Arith { up, key, by, .. } => Some((key, Ask::Arith { up: *up, by: *by })),
+        _ => None,
     }
 }
 
