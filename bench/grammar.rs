@@ -2,29 +2,18 @@
 // keys and data, the same lists of requests. Prints the same lines as grammar.rt.txt.
 use std::hint::black_box;
 
+mod clock;
+
+use clock::cpu_nanos;
+
 const GETS: u32 = 20_000;
 const SETS: u32 = 10_000;
 const MEBIBYTE: usize = 1_048_576;
 const PIECE: usize = 16_384;
 const LONGEST_LINE: usize = 65_536;
 
-#[repr(C)]
-struct Timespec {
-    seconds: i64,
-    nanos: i64,
-}
-
 extern "C" {
-    fn clock_gettime(clock: i32, time: *mut Timespec) -> i32;
     fn memchr(bytes: *const u8, byte: i32, count: usize) -> *const u8;
-}
-
-/// The processor time of this thread, in nanoseconds.
-fn cpu_nanos() -> u64 {
-    let mut time = Timespec { seconds: 0, nanos: 0 };
-    // 3 is CLOCK_THREAD_CPUTIME_ID.
-    unsafe { clock_gettime(3, &mut time) };
-    time.seconds as u64 * 1_000_000_000 + time.nanos as u64
 }
 
 fn find_newline(bytes: &[u8]) -> Option<usize> {

@@ -3,29 +3,15 @@
 use std::collections::HashMap;
 use std::hint::black_box;
 
+mod clock;
+
+use clock::cpu_nanos;
+
 const BATCH: u32 = 1_000;
 const COMMANDS: u32 = 200_000;
 const SMALL_TAKES: u32 = 5;
 const LAST_TIME: u64 = 0xff_ffff_ffff_ffff;
 const LONGEST_VALUE: usize = 1_048_576;
-
-#[repr(C)]
-struct Timespec {
-    seconds: i64,
-    nanos: i64,
-}
-
-extern "C" {
-    fn clock_gettime(clock: i32, time: *mut Timespec) -> i32;
-}
-
-/// The processor time of this thread, in nanoseconds.
-fn cpu_nanos() -> u64 {
-    let mut time = Timespec { seconds: 0, nanos: 0 };
-    // 3 is CLOCK_THREAD_CPUTIME_ID.
-    unsafe { clock_gettime(3, &mut time) };
-    time.seconds as u64 * 1_000_000_000 + time.nanos as u64
-}
 
 const K: [u32; 64] = [
     0x428a2f98, 0x71374491, 0xb5c0fbcf, 0xe9b5dba5, 0x3956c25b, 0x59f111f1, 0x923f82a4, 0xab1c5ed5,
