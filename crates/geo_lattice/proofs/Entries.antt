@@ -1,7 +1,7 @@
 -- What a look-up among entries finds.
 use Rattle.std.proofs.Common.{◌≡◌, Bool, true, false, cond, List, [], ◌∷◌, ◌++◌, Option, None, Some, refl, sym, ap, ◌∙◌, subst, ℕ, zero, suc, ◌<◌, ◌≤◌, length, arith, slice_get, get_or}
 use Rattle.std.specs.Map.{lookup}
-use Rattle.geo_lattice.specs.Maps.{EachOf, EachFound}
+use Rattle.geo_lattice.specs.Maps.{meaning_or, EachOf, EachFound}
 
 pub some_none : {V : Type 0} {x : V} → Some x ≡ None → ⊥
 some_none h = cc
@@ -31,6 +31,14 @@ entry_of {K} {V} P (e ∷ es) each test v h = head_or (test e.0) refl h
 
 pub each_entry : {K V : Type 0} (P : K → V → Type 0) (es : List (K × V)) (n : ℕ) → length es ≤ n → EachOf P es n → (test : K → Bool) (v : V) → lookup test es ≡ Some v → (k : K) × (test k ≡ true) × P k v
 each_entry P es n le each = entry_of P es (λ j k v h. let b = get_below es j (k, v) h in each j k v (omega arith) h)
+
+-- where no entry passes a test, nothing that is found does
+pub none_passes : {K V : Type 0} (passing : V → Bool) (es : List (K × V)) (n : ℕ) → length es ≤ n → EachOf (λ k v. passing v ≡ false) es n → (test : K → Bool) → meaning_or false passing (lookup test es) ≡ false
+none_passes {K} {V} passing es n le each test = by (lookup test es) refl
+  where
+    by : (o : Option V) → lookup test es ≡ o → meaning_or false passing o ≡ false
+    by None found = refl
+    by (Some v) found = (each_entry (λ (k : K) v. passing v ≡ false) es n le each test v found).2
 
 -- the last entry is found, where no entry before it has its key
 found_by : {V : Type 0} (b : Bool) (x : V) (o p : Option V) {w : Option V} → cond b (Some x) o ≡ None → (o ≡ None → p ≡ w) → cond b (Some x) p ≡ w

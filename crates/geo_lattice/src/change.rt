@@ -1,5 +1,5 @@
-//! Changes and views of values, by what they mean.
-ghost use Rattle.std.specs.Prelude.{◌≡◌, Option};
+//! Changes, views and tests of values, by what they mean.
+ghost use Rattle.std.specs.Prelude.{◌≡◌, Bool, Option};
 
 /// A change of values.
 pub trait Change<L> {
@@ -22,4 +22,14 @@ pub trait Show<L> {
     /// What one value shows, if anything.
     fn show(&self, value: &L) -> Option<Self::Item>
         ensures { result ≡ shown self.now value.now };
+}
+
+/// A test of values.
+pub trait Test<L> {
+    /// Whether a value passes.
+    ghost passing: { Self → L → Bool };
+
+    /// Whether one value passes.
+    fn passes(&self, value: &L) -> bool
+        ensures { result ≡ passing self.now value.now };
 }

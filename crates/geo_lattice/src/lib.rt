@@ -17,7 +17,7 @@ pub mod pair;
 mod tests;
 pub mod twin;
 
-pub use change::{Change, Show};
+pub use change::{Change, Show, Test};
 pub use exact::Exact;
 pub use items::Items;
 pub use lattice::{Bottom, Flat, Lattice};

@@ -1,12 +1,12 @@
 //! A map, joined key by key.
-ghost use Rattle.std.specs.Prelude.{◌≡◌, ◌+◌, ◌≤◌, ◌<◌, IsTrue, IsOk, IfOk, OnOk, OnErr, Option, IsSome, option_map, option_copied, None, Some, false, true, cond, is_some, length, ◌↔◌};
+ghost use Rattle.std.specs.Prelude.{◌≡◌, ◌+◌, ◌≤◌, ◌<◌, IsTrue, IsOk, IfOk, OnOk, OnErr, Option, IsSome, option_map, option_copied, None, Some, MatchOption, false, true, cond, is_some, length, ◌↔◌};
 ghost use Rattle.std.specs.Map.{keys_of, lookup};
 ghost use Rattle.std.specs.List.Sorted.{IsStrictlySortedBy};
 ghost use Rattle.std.specs.Option.{option_and_then};
 ghost use Rattle.std.specs.List.{IsDistinct};
 ghost use Rattle.geo_lattice.specs.Maps.{get, meaning_or, meaning_at, RoomFor, HasRoomFor, HasRoomForList, missing, EachFound, all_joined};
 
-use crate::change::{Change, Show};
+use crate::change::{Change, Show, Test};
 use crate::lattice::{Bottom, Flat, Lattice};
 use crate::twin::Twin;
 use indexmap::IndexMap;
@@ -119,6 +119,21 @@ impl<K: Twin + Eq + Hash, L: Bottom> MapOf<K, L> {
         ensures filled { EachFound (λ v. L.meaning v ≡ L.least → ⊥) K.eq self.now.entries }
     {
         self.entries.get(key)
+    }
+
+    /// The key of some value that passes a test, None exactly where no value does. It looks at one value after another, and takes no
+    /// memory.
+    pub fn found<T: Test<L>>(&self, test: &T) -> Option<&K>
+        ensures { MatchOption result ((q : K) → meaning_at false (T.passing test.now) K.eq self.now q ≡ false) (λ key. meaning_at false (T.passing test.now) K.eq self.now key.now ≡ true) }
+    {
+        for i in 0..self.entries.len() {
+            if let Some((key, value)) = self.entries.get_index(i) {
+                if test.passes(value) {
+                    return Some(key);
+                }
+            }
+        }
+        None
     }
 
     /// Joins one value. Where a growth was refused, nothing is joined. None is needed where there is a value with room for it.

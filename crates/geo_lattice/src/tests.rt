@@ -1,8 +1,9 @@
 //! Each public call once, with ample memory.
-ghost use Rattle.std.specs.Prelude.{◌≡◌, Option, None, Some, refl};
+ghost use Rattle.std.specs.Prelude.{◌≡◌, Option, None, Some, refl, false, nat_lt};
+ghost use Rattle.geo_lattice.specs.Maps.{meaning_or};
 ghost use Rattle.geo_lattice.specs.declared.lww.Lww.{Lww};
 
-use crate::{Bottom, Change, Items, Lattice, Lww, MapOf, Max, Pair, Show, Twin};
+use crate::{Bottom, Change, Items, Lattice, Lww, MapOf, Max, Pair, Show, Test, Twin};
 use std::alloc::{AllocError, Global};
 use std::hash::RandomState;
 use std::test::Fail;
@@ -45,6 +46,22 @@ impl Show<Register> for AsItIs {
 
     fn show(&self, value: &Register) -> Option<Register> {
         Some(value.copied())
+    }
+}
+
+/// Registers with a later stamp.
+struct After {
+    stamp: u64,
+}
+
+impl Test<Register> for After {
+    ghost passing = { λ t r. meaning_or false (λ p. nat_lt t.stamp p.0) r.register };
+
+    fn passes(&self, value: &Register) -> bool {
+        match value.get() {
+            None => false,
+            Some((stamp, _)) => self.stamp < *stamp,
+        }
     }
 }
 
@@ -177,6 +194,21 @@ fn lists_join_and_are_listed_by_rising_key(rt: HostRuntime) -> Result<(), Fail> 
     assert_eq!(rt; listed.len(), 0);
     map.change_all(&Emptied);
     assert_eq!(rt; map.len(), 0);
+    Ok(())
+}
+
+#[test]
+fn a_key_is_found_whose_value_passes(rt: HostRuntime) -> Result<(), Fail> {
+    let alloc = rt.alloc();
+    let mut map = MapOf::with_hasher(alloc, RandomState::new(&rt)?);
+    assert_eq!(rt; map.found(&After { stamp: 0 }), None);
+    map.put(alloc, &Name(1), Register::of(4, 40))?;
+    map.put(alloc, &Name(2), Register::of(2, 20))?;
+    map.put(alloc, &Name(3), Register::of(7, 70))?;
+    assert_eq!(rt; map.found(&After { stamp: 6 }), Some(&Name(3)));
+    assert_eq!(rt; map.found(&After { stamp: 7 }), None);
+    map.put(alloc, &Name(2), Register::of(9, 90))?;
+    assert_eq!(rt; map.found(&After { stamp: 7 }), Some(&Name(2)));
     Ok(())
 }
 

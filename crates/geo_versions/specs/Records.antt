@@ -1,5 +1,5 @@
 -- What the code's records mean, in the words of operations.
-use Rattle.std.specs.Prelude.{◌≡◌, ℕ, Bool, false, cond, not, ◌||◌, nat_le, List, [], ◌∷◌, Option, None, Some, is_some}
+use Rattle.std.specs.Prelude.{◌≡◌, ℕ, Bool, false, cond, not, ◌&&◌, ◌||◌, ◌==◌, nat_le, nat_lt, List, [], ◌∷◌, Option, None, Some, is_some}
 use Rattle.std.specs.Ordering.{nat_cmp}
 use Rattle.std.specs.Cmp.Lexicographic.{slice_cmp}
 use Rattle.std.specs.declared.cmp.Ordering.TheVariants.{Less}
@@ -12,6 +12,7 @@ use Rattle.geo_stamp.specs.Vectors.{entry_of}
 use Rattle.geo_versions.specs.Keys.{same_key}
 use Rattle.geo_versions.specs.Operations.{Record, Register, record_joined, above}
 use Rattle.geo_versions.specs.declared.body.Body.{Body}
+use Rattle.geo_versions.specs.declared.version.Version.{Version}
 
 abbrev pub Rec : Type 0
 Rec = Pair (Lww Moment Body) (Lww Moment ℕ)
@@ -47,6 +48,11 @@ since base r = cond (is_unknown base r.0 || is_unknown base r.1) r (None, None)
 
 abbrev pub rec_since : List ℕ → Rec → Option Rec
 rec_since base r = cond (is_unknown base r.left.register || is_unknown base r.right.register) (Some r) None
+
+-- the version is a write of this site that ended before a moment
+abbrev pub has_ended : ℕ → ℕ → Option Version → Bool
+has_ended site before None = false
+has_ended site before (Some v) = (v.stamp.site == site) && (not (v.expiry == 0) && nat_lt v.expiry before)
 
 -- each key is greater than the one before it, byte by byte
 abbrev pub Above : {V : Type 0} → List ℕ → List (List ℕ × V) → Type 0

@@ -1,11 +1,11 @@
-//! What is listed of records.
+//! What is listed of records, and what is sought among them.
 ghost use Rattle.std.specs.Prelude.{◌≡◌, Bool};
 ghost use Rattle.geo_versions.specs.Operations.{Register, version_in};
-ghost use Rattle.geo_versions.specs.Records.{rec_means, rec_since, is_unknown};
+ghost use Rattle.geo_versions.specs.Records.{rec_means, rec_since, is_unknown, has_ended};
 
 use crate::body::Rec;
 use crate::version::{Version, shown_version};
-use geo_lattice::{Exact, Lww, Pair, Show};
+use geo_lattice::{Exact, Lww, Pair, Show, Test};
 use geo_stamp::{Stamp, Vector};
 
 /// An equal record. It takes no memory.
@@ -58,5 +58,27 @@ impl Show<Rec> for Shown {
 
     fn show(&self, value: &Rec) -> Option<Version> {
         shown_version(value)
+    }
+}
+
+/// The versions that are writes of a site and ended before a moment, in seconds.
+#[derive(Clone, Copy)]
+pub(crate) struct Ended {
+    pub site: u8,
+    pub before: u64,
+}
+
+impl Test<Rec> for Ended {
+    ghost passing = { λ t r. has_ended t.site t.before (version_in (rec_means r)) };
+
+    fn passes(&self, value: &Rec) -> bool {
+        match shown_version(value) {
+            None => false,
+            Some(version) => {
+                version.stamp.site() == self.site
+                    && version.expiry != 0
+                    && version.expiry < self.before
+            }
+        }
     }
 }

@@ -32,6 +32,10 @@ fn written(time: u64, body: Body, expiry: u64) -> Result<Rec, Fail> {
     })
 }
 
+fn ended(known: &Versions, site: u8, before: u64) -> Option<&[u8]> {
+    known.ended(site, before).map(|key| key.bytes())
+}
+
 #[test]
 fn keys_are_1_to_250_allowed_bytes(rt: HostRuntime) -> Result<(), Fail> {
     let alloc = rt.alloc();
@@ -172,6 +176,41 @@ fn what_a_vector_does_not_know_is_listed_by_rising_key(rt: HostRuntime) -> Resul
     assert_eq!(rt; since[0].0.bytes(), b"a".as_slice());
     assert!(rt; since[0].1.left.get().copied() == Some((stamp(2, 2)?, Body::Gone)));
     assert_eq!(rt; since[1].0.bytes(), b"b".as_slice());
+    Ok(())
+}
+
+#[test]
+fn a_write_of_a_site_is_found_once_it_has_ended(rt: HostRuntime) -> Result<(), Fail> {
+    let alloc = rt.alloc();
+    let a = key(alloc, b"a")?;
+    let mut known = Versions::new(alloc, RandomState::new(&rt)?);
+    assert_eq!(rt; ended(&known, 1, u64::MAX), None);
+    known.write(alloc, &a, stamp(1, 1)?, value(1, 0, 1), 150)?;
+    known.write(alloc, &key(alloc, b"b")?, stamp(2, 2)?, value(2, 0, 1), 100)?;
+    known.write(alloc, &key(alloc, b"c")?, stamp(3, 1)?, value(3, 0, 1), 0)?;
+    assert_eq!(rt; ended(&known, 1, 149), None);
+    assert_eq!(rt; ended(&known, 1, 150), None);
+    assert_eq!(rt; ended(&known, 1, 151), Some(b"a".as_slice()));
+    assert_eq!(rt; ended(&known, 2, 101), Some(b"b".as_slice()));
+    assert_eq!(rt; ended(&known, 3, u64::MAX), None);
+    known.write(alloc, &a, stamp(4, 1)?, Body::Gone, 0)?;
+    assert_eq!(rt; ended(&known, 1, u64::MAX), None);
+    Ok(())
+}
+
+#[test]
+fn a_touch_moves_the_moment_at_which_a_write_ends(rt: HostRuntime) -> Result<(), Fail> {
+    let alloc = rt.alloc();
+    let a = key(alloc, b"a")?;
+    let mut known = Versions::new(alloc, RandomState::new(&rt)?);
+    known.write(alloc, &a, stamp(1, 1)?, value(1, 0, 1), 150)?;
+    if known.record(&a).is_some() {
+        known.touch(&a, stamp(2, 2)?, 200);
+    }
+    // Another site's touch moves the expiry, and the write stays this site's.
+    assert_eq!(rt; ended(&known, 1, 200), None);
+    assert_eq!(rt; ended(&known, 1, 201), Some(b"a".as_slice()));
+    assert_eq!(rt; ended(&known, 2, u64::MAX), None);
     Ok(())
 }
 

@@ -5,7 +5,7 @@ ghost use Rattle.geo_versions.specs.Normal.{IsNormal, normal_prop};
 use crate::body::{Body, Rec};
 use crate::floor::{AboveFloor, counts, later};
 use crate::key::Key;
-use crate::shown::{Shown, UnknownTo};
+use crate::shown::{Ended, Shown, UnknownTo};
 use crate::version::{Version, shown_version};
 use geo_lattice::{Lattice, Lww, MapOf, Pair};
 use geo_stamp::{Stamp, Vector};
@@ -21,13 +21,13 @@ pub struct Versions {
 }
 
 impl Versions {
-    ghost use Rattle.std.specs.Prelude.{◌≡◌, ◌↔◌, List, ℕ, None, Some, IsSome, IsOk, OnOk, OnErr, IfOk, cond, option_copied, length, Bool};
+    ghost use Rattle.std.specs.Prelude.{◌≡◌, ◌↔◌, List, ℕ, None, Some, IsSome, IsOk, OnOk, OnErr, IfOk, MatchOption, true, false, cond, option_copied, length, Bool};
     ghost use Rattle.std.specs.List.{All, IsDistinct, list_any};
     ghost use Rattle.std.specs.Map.{lookup};
     ghost use Rattle.geo_lattice.specs.Maps.{meaning_or};
     ghost use Rattle.geo_versions.specs.Keys.{same_key};
     ghost use Rattle.geo_versions.specs.Operations.{above_both, record_joined, floor_joined, version_in};
-    ghost use Rattle.geo_versions.specs.Maps.{floor_in, record_in, keys_in, count_in, has_register, HasRoomFor, rec_means, listed_at, since, Rising};
+    ghost use Rattle.geo_versions.specs.Maps.{floor_in, record_in, keys_in, count_in, has_register, HasRoomFor, rec_means, listed_at, since, has_ended, Rising};
 
     /// Nothing known. It takes no memory.
     pub fn new(alloc: Global, hasher: RandomState) -> Versions
@@ -72,6 +72,15 @@ impl Versions {
             None => None,
             Some(record) => shown_version(record),
         }
+    }
+
+    /// A key whose version is a write of this site that ended before a moment, in seconds: its expiry isn't 0, and is below
+    /// `before`. None exactly where there is no such key. A site finds so its own writes whose time to live is over, and deletes
+    /// them for all sites. It passes over all records and takes no memory.
+    pub fn ended(&self, site: u8, before: u64) -> Option<&Key>
+        ensures { MatchOption result ((q : List ℕ) → has_ended site before (version_in (record_in self.now q)) ≡ false) (λ key. has_ended site before (version_in (record_in self.now key.now)) ≡ true) }
+    {
+        self.records.found(&Ended { site, before })
     }
 
     /// Joins a write or a delete: a delete has the body Gone and the expiry 0. Where a growth was refused, nothing is joined. A key
