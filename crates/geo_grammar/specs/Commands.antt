@@ -1,19 +1,19 @@
 -- What a command line says, by its words (memcached's protocol.txt, "Storage commands" to "Other commands"). The number of
 -- words, the key and the place of `noreply` come before numbers: where one of them is wrong the line is bad.
-use Rattle.std.specs.Prelude.{ℕ, ℤ, nat_lt, Bool, true, false, List, [], ◌∷◌, codes, Option, Some, None, if◌then◌else◌}
+use Rattle.std.specs.Prelude.{ℕ, ℤ, pos, nat_lt, Bool, true, false, List, [], ◌∷◌, codes, Option, Some, None, if◌then◌else◌}
 use Rattle.std.specs.List.{list_all}
 use Rattle.std.specs.Option.{option_map, option_or}
 use Rattle.std.specs.Str.{bytes_eq}
 use Rattle.geo_versions.specs.Keys.{is_key}
 use Rattle.geo_grammar.specs.Limits.{longest_value, most_bytes, most_flags, most_number}
-use Rattle.geo_grammar.specs.Words.{line_text, words_of, number_of, exptime_of}
+use Rattle.geo_grammar.specs.Words.{line_text, words_of, number_of, signed_of}
 use Rattle.geo_grammar.specs.declared.fault.LineFault.TheVariants.{Unknown, BadLine, BadNumber}
 use Rattle.geo_grammar.specs.declared.request.Verb.{Verb}
 use Rattle.geo_grammar.specs.declared.request.Verb.TheVariants.{Set, Add, Replace, Append, Prepend, Cas}
 use Rattle.geo_grammar.specs.declared.request.Request.{Request}
 use Rattle.geo_grammar.specs.declared.request.Request.TheVariants as request
 use Rattle.geo_grammar.specs.declared.command.Command.{Command}
-use Rattle.geo_grammar.specs.declared.command.Command.TheVariants.{Storage, Fetch, Delete, Arith, Version, Verbosity, Stats, Quit}
+use Rattle.geo_grammar.specs.declared.command.Command.TheVariants.{Storage, Fetch, FetchTouch, Delete, Touch, Arith, FlushAll, Version, Verbosity, Stats, Quit}
 use Rattle.geo_grammar.specs.declared.head.Head.{Head}
 use Rattle.geo_grammar.specs.declared.storage.Ending.{Ending}
 use Rattle.geo_grammar.specs.declared.line.Line.{Line}
@@ -29,17 +29,21 @@ found_in (row ∷ rows) name = if bytes_eq name row.0 then Some row.1 else found
 abbrev pub verbs : List (List ℕ × Verb)
 verbs = (codes "set", Set) ∷ (codes "add", Add) ∷ (codes "replace", Replace) ∷ (codes "append", Append) ∷ (codes "prepend", Prepend) ∷ (codes "cas", Cas) ∷ []
 
+-- they name keys
+abbrev pub keyed : List (List ℕ × Command)
+keyed =
+    (codes "get", Fetch false) ∷ (codes "gets", Fetch true) ∷ (codes "gat", FetchTouch false) ∷ (codes "gats", FetchTouch true) ∷ (codes "delete", Delete) ∷ (codes "touch", Touch) ∷
+    (codes "incr", Arith true) ∷ (codes "decr", Arith false) ∷ []
+
 abbrev pub others : List (List ℕ × Command)
-others =
-    (codes "get", Fetch false) ∷ (codes "gets", Fetch true) ∷ (codes "delete", Delete) ∷ (codes "incr", Arith true) ∷ (codes "decr", Arith false) ∷
-    (codes "version", Version) ∷ (codes "verbosity", Verbosity) ∷ (codes "stats", Stats) ∷ (codes "quit", Quit) ∷ []
+others = (codes "flush_all", FlushAll) ∷ (codes "version", Version) ∷ (codes "verbosity", Verbosity) ∷ (codes "stats", Stats) ∷ (codes "quit", Quit) ∷ []
 
 abbrev pub verb_of : List ℕ → Option Verb
 verb_of name = found_in verbs name
 
 -- the command of a name, in lower case
 abbrev pub command_of : List ℕ → Option Command
-command_of name = option_or (found_in others name) (option_map Storage (verb_of name))
+command_of name = option_or (found_in keyed name) (option_or (found_in others name) (option_map Storage (verb_of name)))
 
 -- ---- noreply
 
@@ -86,7 +90,7 @@ head_of verb key (Some flags) (Some exptime) (Some size) None = None
 head_of verb key (Some flags) (Some exptime) (Some size) (Some ending) = Some (record { verb = verb; key = key; flags = flags; exptime = exptime; unique = ending.unique; size = size; noreply = ending.noreply })
 
 abbrev pub storage_head : Verb → List ℕ → List ℕ → List ℕ → List ℕ → List (List ℕ) → Option Head
-storage_head verb key flags exptime size words = if is_key key then head_of verb key (number_of most_flags flags) (exptime_of exptime) (number_of most_bytes size) (ending_of verb words) else None
+storage_head verb key flags exptime size words = if is_key key then head_of verb key (number_of most_flags flags) (signed_of exptime) (number_of most_bytes size) (ending_of verb words) else None
 
 -- data that is too large is skipped, and not kept
 abbrev pub head_line : Option Head → Line
@@ -105,6 +109,15 @@ abbrev pub fetch_line : Bool → List (List ℕ) → Line
 fetch_line numbers [] = line.Bad BadLine
 fetch_line numbers (key ∷ keys) = if list_all is_key (key ∷ keys) then line.Whole (request.Fetch (key ∷ keys) numbers) else line.Bad BadLine
 
+-- <exptime> <key>*, at least one
+abbrev pub touched_keys : Bool → List (List ℕ) → Option ℤ → Line
+touched_keys numbers keys None = line.Bad BadNumber
+touched_keys numbers keys (Some exptime) = line.Whole (request.FetchTouch exptime keys numbers)
+
+abbrev pub fetch_touch_line : Bool → List (List ℕ) → Line
+fetch_touch_line numbers (exptime ∷ key ∷ keys) = if list_all is_key (key ∷ keys) then touched_keys numbers (key ∷ keys) (signed_of exptime) else line.Bad BadLine
+fetch_touch_line numbers _ = line.Bad BadLine
+
 -- ---- deletion
 
 -- a 0 may stand before noreply
@@ -120,6 +133,21 @@ delete_words key (Some noreply) = if is_key key then line.Whole (request.Delete 
 abbrev pub delete_line : List (List ℕ) → Line
 delete_line [] = line.Bad BadLine
 delete_line (key ∷ words) = delete_words key (noreply_of (after_zero words))
+
+-- ---- touch
+
+abbrev pub touch_number : List ℕ → Option ℤ → Bool → Line
+touch_number key None noreply = line.Bad BadNumber
+touch_number key (Some exptime) noreply = line.Whole (request.Touch key exptime noreply)
+
+abbrev pub touch_words : List ℕ → List ℕ → Option Bool → Line
+touch_words key exptime None = line.Bad BadLine
+touch_words key exptime (Some noreply) = if is_key key then touch_number key (signed_of exptime) noreply else line.Bad BadLine
+
+-- <key> <exptime> [noreply]
+abbrev pub touch_line : List (List ℕ) → Line
+touch_line (key ∷ exptime ∷ words) = touch_words key exptime (noreply_of words)
+touch_line _ = line.Bad BadLine
 
 -- ---- increment and decrement
 
@@ -148,6 +176,23 @@ abbrev pub verbosity_line : List (List ℕ) → Line
 verbosity_line [] = line.Bad BadLine
 verbosity_line (level ∷ words) = verbosity_words (number_of most_flags level) (noreply_of words)
 
+abbrev pub flush_number : Option ℤ → Bool → Line
+flush_number None noreply = line.Bad BadNumber
+flush_number (Some delay) noreply = line.Whole (request.FlushAll delay noreply)
+
+abbrev pub flush_words : List ℕ → Option Bool → Line
+flush_words delay None = line.Bad BadLine
+flush_words delay (Some noreply) = flush_number (signed_of delay) noreply
+
+abbrev pub flush_alone : List (List ℕ) → Line
+flush_alone [] = line.Whole (request.FlushAll (pos 0) true)
+flush_alone (word ∷ words) = line.Bad BadLine
+
+-- [delay] [noreply]
+abbrev pub flush_line : List (List ℕ) → Line
+flush_line [] = line.Whole (request.FlushAll (pos 0) false)
+flush_line (word ∷ words) = if bytes_eq word (codes "noreply") then flush_alone words else flush_words word (noreply_of words)
+
 -- no word behind the name
 abbrev pub lone_line : Request → List (List ℕ) → Line
 lone_line request [] = line.Whole request
@@ -160,7 +205,10 @@ abbrev pub command_line : Option Command → List (List ℕ) → Line
 command_line None words = line.Bad Unknown
 command_line (Some (Storage verb)) words = storage_line verb words
 command_line (Some (Fetch numbers)) words = fetch_line numbers words
+command_line (Some (FetchTouch numbers)) words = fetch_touch_line numbers words
 command_line (Some Delete) words = delete_line words
+command_line (Some Touch) words = touch_line words
+command_line (Some FlushAll) words = flush_line words
 command_line (Some (Arith up)) words = arith_line up words
 command_line (Some Version) words = lone_line request.ShowVersion words
 command_line (Some Verbosity) words = verbosity_line words

@@ -7,4 +7,5 @@ pub mod Places
 pub mod Lines
 pub mod Blocks
 pub mod States
+pub mod Requests
 pub mod Replies

@@ -8,7 +8,7 @@ use Rattle.geo_grammar.specs.declared.request.Request.TheVariants as request
 use Rattle.geo_grammar.specs.declared.reply.Found.{Found}
 use Rattle.geo_grammar.specs.declared.stats.Stats as stats
 use Rattle.geo_grammar.specs.declared.reply.Reply.{Reply}
-use Rattle.geo_grammar.specs.declared.reply.Reply.TheVariants.{Stored, NotStored, Exists, NotFound, Deleted, Done, Number, Values, Version, Stats, Closed, NotANumber, TooLarge, MapFull, ClockEnded, OutOfMemory}
+use Rattle.geo_grammar.specs.declared.reply.Reply.TheVariants.{Stored, NotStored, Exists, NotFound, Deleted, Touched, Done, Number, Values, Version, Stats, Closed, NotANumber, TooLarge, MapFull, ClockEnded, OutOfMemory}
 
 abbrev pub fault_bytes : Fault → List ℕ
 fault_bytes fault.Unknown = codes "ERROR\r\n"
@@ -39,6 +39,7 @@ reply_bytes NotStored = codes "NOT_STORED\r\n"
 reply_bytes Exists = codes "EXISTS\r\n"
 reply_bytes NotFound = codes "NOT_FOUND\r\n"
 reply_bytes Deleted = codes "DELETED\r\n"
+reply_bytes Touched = codes "TOUCHED\r\n"
 reply_bytes Done = codes "OK\r\n"
 reply_bytes (Number number) = decimal number ++ codes "\r\n"
 reply_bytes (Values found) = flat_map found_bytes found ++ codes "END\r\n"
@@ -55,8 +56,11 @@ reply_bytes OutOfMemory = codes "SERVER_ERROR out of memory\r\n"
 abbrev pub is_noreply : Request → Bool
 is_noreply (request.Store verb key flags exptime unique bytes noreply) = noreply
 is_noreply (request.Fetch keys numbers) = false
+is_noreply (request.FetchTouch exptime keys numbers) = false
 is_noreply (request.Delete key noreply) = noreply
+is_noreply (request.Touch key exptime noreply) = noreply
 is_noreply (request.Arith up key by noreply) = noreply
+is_noreply (request.FlushAll delay noreply) = noreply
 is_noreply request.ShowVersion = false
 is_noreply (request.Verbosity noreply) = noreply
 is_noreply request.Stats = false

@@ -1,5 +1,5 @@
 -- The words of a line and the numbers that they write (memcached's protocol.txt).
-use Rattle.std.specs.Prelude.{ℕ, zero, suc, ℤ, pos, negsuc, neg_ℤ, ◌-◌, ◌==◌, nat_le, ◌&&◌, Bool, true, false, List, [], ◌∷◌, length, take, filter, slice_index, Option, Some, None, if◌then◌else◌}
+use Rattle.std.specs.Prelude.{ℕ, ℤ, pos, neg_ℤ, ◌-◌, ◌==◌, nat_le, ◌&&◌, Bool, true, false, List, [], ◌∷◌, length, take, filter, slice_index, Option, Some, None, if◌then◌else◌}
 use Rattle.std.specs.Option.{option_map}
 use Rattle.std.specs.List.{slice_split}
 use Rattle.std.specs.Str.{all_ascii_digits}
@@ -32,13 +32,3 @@ number_of most word = if is_filled word then number_after most 0 word else None
 abbrev pub signed_of : List ℕ → Option ℤ
 signed_of [] = None
 signed_of (b ∷ bs) = if b == 45 then option_map (λ n. neg_ℤ (pos n)) (number_of 9223372036854775808 bs) else option_map pos (number_of 9223372036854775807 (b ∷ bs))
-
--- only 0 is read so far
-abbrev pub only_never : Option ℤ → Option ℤ
-only_never None = None
-only_never (Some (pos zero)) = Some (pos 0)
-only_never (Some (pos (suc n))) = None
-only_never (Some (negsuc n)) = None
-
-abbrev pub exptime_of : List ℕ → Option ℤ
-exptime_of word = only_never (signed_of word)

@@ -1,6 +1,6 @@
 //! The names of commands.
 ghost use Rattle.std.specs.Prelude.{◌≡◌};
-ghost use Rattle.geo_grammar.specs.Commands.{verb_of, command_of};
+ghost use Rattle.geo_grammar.specs.Commands.{verb_of, found_in, keyed, command_of};
 
 use crate::request::Verb;
 
@@ -9,8 +9,11 @@ use crate::request::Verb;
 pub enum Command {
     Storage(Verb),
     Fetch { numbers: bool },
+    FetchTouch { numbers: bool },
     Delete,
+    Touch,
     Arith { up: bool },
+    FlushAll,
     Version,
     Verbosity,
     Stats,
@@ -42,9 +45,9 @@ fn verb_of(name: &[u8]) -> Option<Verb>
     None
 }
 
-/// The command of a name, None where it is none. Names are in lower case.
-pub fn command_of(name: &[u8]) -> Option<Command>
-    ensures { result ≡ command_of name.now }
+/// The command of a name that names keys and stores no data, None where it is none.
+fn keyed_of(name: &[u8]) -> Option<Command>
+    ensures { result ≡ found_in keyed name.now }
 {
     if name == b"get".as_slice() {
         return Some(Command::Fetch { numbers: false });
@@ -52,14 +55,36 @@ pub fn command_of(name: &[u8]) -> Option<Command>
     if name == b"gets".as_slice() {
         return Some(Command::Fetch { numbers: true });
     }
+    if name == b"gat".as_slice() {
+        return Some(Command::FetchTouch { numbers: false });
+    }
+    if name == b"gats".as_slice() {
+        return Some(Command::FetchTouch { numbers: true });
+    }
     if name == b"delete".as_slice() {
         return Some(Command::Delete);
+    }
+    if name == b"touch".as_slice() {
+        return Some(Command::Touch);
     }
     if name == b"incr".as_slice() {
         return Some(Command::Arith { up: true });
     }
     if name == b"decr".as_slice() {
         return Some(Command::Arith { up: false });
+    }
+    None
+}
+
+/// The command of a name, None where it is none. Names are in lower case.
+pub fn command_of(name: &[u8]) -> Option<Command>
+    ensures { result ≡ command_of name.now }
+{
+    if let Some(command) = keyed_of(name) {
+        return Some(command);
+    }
+    if name == b"flush_all".as_slice() {
+        return Some(Command::FlushAll);
     }
     if name == b"version".as_slice() {
         return Some(Command::Version);

@@ -3,12 +3,12 @@ ghost use Rattle.std.specs.Prelude.{◌≡◌, IfOk, true};
 ghost use Rattle.std.specs.List.{list_all};
 ghost use Rattle.geo_versions.specs.Keys.{is_key};
 ghost use Rattle.geo_grammar.specs.Words.{words_of};
-ghost use Rattle.geo_grammar.specs.Commands.{fetch_line};
+ghost use Rattle.geo_grammar.specs.Commands.{fetch_line, fetch_touch_line};
 
 use crate::fault::LineFault;
 use crate::line::Line;
 use crate::request::Request;
-use crate::words::next_word;
+use crate::words::{next_word, signed};
 use geo_lattice::Items;
 use geo_versions::Key;
 use std::alloc::{AllocError, Global};
@@ -53,4 +53,25 @@ pub fn fetch_line(alloc: Global, numbers: bool, line: &[u8]) -> Result<Line, All
     }
     let keys = keys_of(alloc, line)?;
     Ok(Line::Whole(Request::Fetch { keys, numbers }))
+}
+
+/// What a `gat` or `gats` line says, by the words behind its name.
+pub fn fetch_touch_line(alloc: Global, numbers: bool, line: &[u8]) -> Result<Line, AllocError>
+    ensures { IfOk result (λ l. l ≡ fetch_touch_line numbers (words_of line.now)) }
+{
+    let Some((exptime, rest)) = next_word(line) else {
+        return Ok(Line::Bad(LineFault::BadLine));
+    };
+    if next_word(rest).is_none() || !all_keys(rest) {
+        return Ok(Line::Bad(LineFault::BadLine));
+    }
+    let Some(exptime) = signed(exptime) else {
+        return Ok(Line::Bad(LineFault::BadNumber));
+    };
+    let keys = keys_of(alloc, rest)?;
+    Ok(Line::Whole(Request::FetchTouch {
+        exptime,
+        keys,
+        numbers,
+    }))
 }

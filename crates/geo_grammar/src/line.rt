@@ -1,16 +1,16 @@
 //! What a command line says.
 ghost use Rattle.std.specs.Prelude.{◌≡◌, IfOk};
 ghost use Rattle.geo_grammar.specs.Words.{words_of};
-ghost use Rattle.geo_grammar.specs.Commands.{after_zero, delete_line, arith_line, verbosity_line, lone_line, line_says};
+ghost use Rattle.geo_grammar.specs.Commands.{after_zero, delete_line, touch_line, arith_line, flush_line, verbosity_line, lone_line, line_says};
 
 use crate::command::{Command, command_of};
 use crate::fault::LineFault;
-use crate::fetch::fetch_line;
+use crate::fetch::{fetch_line, fetch_touch_line};
 use crate::head::Head;
 use crate::limits::{MOST_FLAGS, MOST_NUMBER};
 use crate::request::Request;
 use crate::storage::storage_line;
-use crate::words::{next_word, noreply as read_noreply, number, without_return};
+use crate::words::{next_word, noreply as read_noreply, number, signed, without_return};
 use geo_versions::Key;
 use std::alloc::{AllocError, Global};
 
@@ -52,6 +52,61 @@ fn delete_line(alloc: Global, line: &[u8]) -> Result<Line, AllocError>
         return Ok(bad);
     };
     Ok(Line::Whole(Request::Delete { key, noreply }))
+}
+
+/// What a `touch` line says, by the words behind its name.
+fn touch_line(alloc: Global, line: &[u8]) -> Result<Line, AllocError>
+    ensures { IfOk result (λ l. l ≡ touch_line (words_of line.now)) }
+{
+    let bad = Line::Bad(LineFault::BadLine);
+    let Some((key, rest)) = next_word(line) else {
+        return Ok(bad);
+    };
+    let Some((exptime, rest)) = next_word(rest) else {
+        return Ok(bad);
+    };
+    let Some(noreply) = read_noreply(rest) else {
+        return Ok(bad);
+    };
+    let Some(key) = Key::new(alloc, key)? else {
+        return Ok(bad);
+    };
+    let Some(exptime) = signed(exptime) else {
+        return Ok(Line::Bad(LineFault::BadNumber));
+    };
+    Ok(Line::Whole(Request::Touch {
+        key,
+        exptime,
+        noreply,
+    }))
+}
+
+/// What a `flush_all` line says, by the words behind its name.
+fn flush_line(line: &[u8]) -> Line
+    ensures { result ≡ flush_line (words_of line.now) }
+{
+    let Some((word, rest)) = next_word(line) else {
+        return Line::Whole(Request::FlushAll {
+            delay: 0,
+            noreply: false,
+        });
+    };
+    if word == b"noreply".as_slice() {
+        return match next_word(rest) {
+            None => Line::Whole(Request::FlushAll {
+                delay: 0,
+                noreply: true,
+            }),
+            Some(_) => Line::Bad(LineFault::BadLine),
+        };
+    }
+    let Some(noreply) = read_noreply(rest) else {
+        return Line::Bad(LineFault::BadLine);
+    };
+    match signed(word) {
+        Some(delay) => Line::Whole(Request::FlushAll { delay, noreply }),
+        None => Line::Bad(LineFault::BadNumber),
+    }
 }
 
 /// What an `incr` or `decr` line says, by the words behind its name.
@@ -122,7 +177,10 @@ pub fn read_line(alloc: Global, line: &[u8]) -> Result<Line, AllocError>
     match command {
         Command::Storage(verb) => storage_line(alloc, verb, rest),
         Command::Fetch { numbers } => fetch_line(alloc, numbers, rest),
+        Command::FetchTouch { numbers } => fetch_touch_line(alloc, numbers, rest),
         Command::Delete => delete_line(alloc, rest),
+        Command::Touch => touch_line(alloc, rest),
+        Command::FlushAll => Ok(flush_line(rest)),
         Command::Arith { up } => arith_line(alloc, up, rest),
         Command::Version => Ok(lone_line(Request::ShowVersion, rest)),
         Command::Verbosity => Ok(verbosity_line(rest)),

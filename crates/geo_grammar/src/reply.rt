@@ -38,6 +38,8 @@ pub enum Reply {
     NotFound,
     /// The value was deleted.
     Deleted,
+    /// The value has another time to live.
+    Touched,
     /// The request was carried out.
     Done,
     /// The number that the value is now.
@@ -70,6 +72,7 @@ impl Twin for Reply {
             Reply::Exists => Reply::Exists,
             Reply::NotFound => Reply::NotFound,
             Reply::Deleted => Reply::Deleted,
+            Reply::Touched => Reply::Touched,
             Reply::Done => Reply::Done,
             Reply::Number(number) => Reply::Number(*number),
             Reply::Values(values) => Reply::Values(values.twin(alloc)?),

@@ -1,7 +1,8 @@
 //! Requests.
-ghost use Rattle.std.specs.Prelude.{◌≡◌, IfOk};
+ghost use Rattle.std.specs.Prelude.{◌≡◌, false, IfOk};
 ghost use Rattle.geo_grammar.specs.Replies.{is_noreply};
-ghost use Rattle.geo_grammar.specs.declared.request.Request.TheVariants.{Arith};
+ghost use Rattle.geo_grammar.specs.Requests.{is_of_one_key};
+ghost use Rattle.geo_grammar.specs.declared.request.Request.TheVariants.{FetchTouch, Touch, Arith};
 
 use crate::value::ValueBytes;
 use geo_lattice::{Items, Twin};
@@ -44,9 +45,21 @@ pub enum Request {
         keys: Items<Key>,
         numbers: bool,
     },
+    /// Fetch values, and give each that is found the time to live that `exptime` says ("get and touch").
+    FetchTouch {
+        exptime: i64,
+        keys: Items<Key>,
+        numbers: bool,
+    },
     /// Delete a value.
     Delete {
         key: Key,
+        noreply: bool,
+    },
+    /// Give a value the time to live that `exptime` says.
+    Touch {
+        key: Key,
+        exptime: i64,
         noreply: bool,
     },
     /// Add `by` to a value that is a decimal number where `up`, else take it away.
@@ -54,6 +67,11 @@ pub enum Request {
         up: bool,
         key: Key,
         by: u64,
+        noreply: bool,
+    },
+    /// Forget all values: at once where `delay` is 0, else at the moment that it says, read as an exptime is.
+    FlushAll {
+        delay: i64,
         noreply: bool,
     },
     /// Show the version of the server.
@@ -76,11 +94,47 @@ impl Request {
         match self {
             Request::Store { noreply, .. }
             | Request::Delete { noreply, .. }
+            | Request::Touch { noreply, .. }
             | Request::Arith { noreply, .. }
+            | Request::FlushAll { noreply, .. }
             | Request::Verbosity { noreply } => *noreply,
-            Request::Fetch { .. } | Request::ShowVersion | Request::Stats | Request::Quit => false,
+            Request::Fetch { .. }
+            | Request::FetchTouch { .. }
+            | Request::ShowVersion
+            | Request::Stats
+            | Request::Quit => false,
         }
     }
+}
+
+fn twin_of_touches(
+    alloc: Global,
+    exptime: i64,
+    keys: &Items<Key>,
+    numbers: bool,
+) -> Result<Request, AllocError>
+    ensures { IfOk result (λ r. r ≡ FetchTouch exptime keys.now numbers) }
+{
+    Ok(Request::FetchTouch {
+        exptime,
+        keys: keys.twin(alloc)?,
+        numbers,
+    })
+}
+
+fn twin_of_touch(
+    alloc: Global,
+    key: &Key,
+    exptime: i64,
+    noreply: bool,
+) -> Result<Request, AllocError>
+    ensures { IfOk result (λ r. r ≡ Touch key.now exptime noreply) }
+{
+    Ok(Request::Touch {
+        key: key.twin(alloc)?,
+        exptime,
+        noreply,
+    })
 }
 
 fn twin_of_arith(
@@ -97,6 +151,36 @@ fn twin_of_arith(
         key: key.twin(alloc)?,
         by,
         noreply,
+    })
+}
+
+/// The twin of a request that is not about one key.
+fn twin_of_keyless(alloc: Global, request: &Request) -> Result<Request, AllocError>
+    requires { is_of_one_key request.now ≡ false }
+    ensures { IfOk result (λ r. r ≡ request.now) }
+{
+    Ok(match request {
+        Request::Fetch { keys, numbers } => Request::Fetch {
+            keys: keys.twin(alloc)?,
+            numbers: *numbers,
+        },
+        Request::FetchTouch {
+            exptime,
+            keys,
+            numbers,
+        } => twin_of_touches(alloc, *exptime, keys, *numbers)?,
+        Request::FlushAll { delay, noreply } => Request::FlushAll {
+            delay: *delay,
+            noreply: *noreply,
+        },
+        Request::ShowVersion => Request::ShowVersion,
+        Request::Verbosity { noreply } => Request::Verbosity { noreply: *noreply },
+        Request::Stats => Request::Stats,
+        Request::Quit => Request::Quit,
+        Request::Store { .. }
+        | Request::Delete { .. }
+        | Request::Touch { .. }
+        | Request::Arith { .. } => unreachable!(),
     })
 }
 
@@ -120,24 +204,22 @@ impl Twin for Request {
                 bytes: bytes.twin(alloc)?,
                 noreply: *noreply,
             },
-            Request::Fetch { keys, numbers } => Request::Fetch {
-                keys: keys.twin(alloc)?,
-                numbers: *numbers,
-            },
             Request::Delete { key, noreply } => Request::Delete {
                 key: key.twin(alloc)?,
                 noreply: *noreply,
             },
+            Request::Touch {
+                key,
+                exptime,
+                noreply,
+            } => twin_of_touch(alloc, key, *exptime, *noreply)?,
             Request::Arith {
                 up,
                 key,
                 by,
                 noreply,
             } => twin_of_arith(alloc, *up, key, *by, *noreply)?,
-            Request::ShowVersion => Request::ShowVersion,
-            Request::Verbosity { noreply } => Request::Verbosity { noreply: *noreply },
-            Request::Stats => Request::Stats,
-            Request::Quit => Request::Quit,
+            _ => twin_of_keyless(alloc, self)?,
         })
     }
 }

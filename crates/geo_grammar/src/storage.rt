@@ -8,7 +8,7 @@ use crate::head::Head;
 use crate::limits::{LONGEST_VALUE, MOST_BYTES, MOST_FLAGS, MOST_NUMBER};
 use crate::line::Line;
 use crate::request::Verb;
-use crate::words::{exptime as read_exptime, next_word, noreply as read_noreply, number};
+use crate::words::{next_word, noreply as read_noreply, number, signed as read_signed};
 use geo_versions::Key;
 use std::alloc::{AllocError, Global};
 
@@ -61,7 +61,7 @@ fn storage_head(
     let Some(flags) = number(flags, MOST_FLAGS) else {
         return Ok(None);
     };
-    let Some(exptime) = read_exptime(exptime) else {
+    let Some(exptime) = read_signed(exptime) else {
         return Ok(None);
     };
     let Some(size) = number(size, MOST_BYTES) else {

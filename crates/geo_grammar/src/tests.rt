@@ -40,6 +40,59 @@ fn show_keyed(out: &mut Vec<u8>, name: &str, key: &Key) -> Result<(), AllocError
     out.extend_from_slice(key.bytes())
 }
 
+fn show_number(out: &mut Vec<u8>, name: &str, number: i64) -> Result<(), AllocError> {
+    let alloc = *out.allocator();
+    out.extend_from_slice(format!(in alloc; "{name} {number}")?.as_bytes())
+}
+
+/// The flags of a store, its exptime where it has one, and the number of cas.
+fn show_numbers(
+    out: &mut Vec<u8>,
+    flags: u32,
+    exptime: i64,
+    unique: Option<u64>,
+) -> Result<(), AllocError> {
+    let alloc = *out.allocator();
+    out.extend_from_slice(format!(in alloc; " {flags} ")?.as_bytes())?;
+    if exptime != 0 {
+        out.extend_from_slice(format!(in alloc; "@{exptime} ")?.as_bytes())?;
+    }
+    if let Some(number) = unique {
+        out.extend_from_slice(format!(in alloc; "{number} ")?.as_bytes())?;
+    }
+    Ok(())
+}
+
+fn show_keys(out: &mut Vec<u8>, keys: &Items<Key>) -> Result<(), AllocError> {
+    for key in keys.as_slice() {
+        show_keyed(out, "", key)?;
+    }
+    Ok(())
+}
+
+fn show_keyless(out: &mut Vec<u8>, request: &Request) -> Result<(), AllocError> {
+    match request {
+        Request::Fetch { keys, numbers } => {
+            out.extend_from_slice(if *numbers { b"gets" } else { b"get" })?;
+            show_keys(out, keys)
+        }
+        Request::FetchTouch {
+            exptime,
+            keys,
+            numbers,
+        } => {
+            show_number(out, if *numbers { "gats" } else { "gat" }, *exptime)?;
+            show_keys(out, keys)
+        }
+        Request::FlushAll { delay, .. } => show_number(out, "flush_all", *delay),
+        Request::ShowVersion => out.extend_from_slice(b"version"),
+        Request::Verbosity { .. } => out.extend_from_slice(b"verbosity"),
+        Request::Stats => out.extend_from_slice(b"stats"),
+        Request::Quit => out.extend_from_slice(b"quit"),
+        _ => out.extend_from_slice(b"another request"),
+    }
+}
+
 fn show_request(out: &mut Vec<u8>, request: &Request) -> Result<(), AllocError> {
     let alloc = *out.allocator();
     match request {
@@ -53,31 +106,22 @@ fn show_request(out: &mut Vec<u8>, request: &Request) -> Result<(), AllocError> 
             ..
         } => {
             show_keyed(out, verb_name(*verb), key)?;
-            out.extend_from_slice(format!(in alloc; " {flags} ")?.as_bytes())?;
-            if *exptime != 0 || unique.is_some() != (*verb == Verb::Cas) {
+            show_numbers(out, *flags, *exptime, *unique)?;
+            if unique.is_some() != (*verb == Verb::Cas) {
                 out.extend_from_slice(b"wrong ")?;
-            }
-            if let Some(number) = unique {
-                out.extend_from_slice(format!(in alloc; "{number} ")?.as_bytes())?;
             }
             out.extend_from_slice(bytes.as_slice())
         }
-        Request::Fetch { keys, numbers } => {
-            out.extend_from_slice(if *numbers { b"gets" } else { b"get" })?;
-            for key in keys.as_slice() {
-                show_keyed(out, "", key)?;
-            }
-            Ok(())
-        }
         Request::Delete { key, .. } => show_keyed(out, "delete", key),
+        Request::Touch { key, exptime, .. } => {
+            show_keyed(out, "touch", key)?;
+            show_number(out, "", *exptime)
+        }
         Request::Arith { up, key, by, .. } => {
             show_keyed(out, if *up { "incr" } else { "decr" }, key)?;
             out.extend_from_slice(format!(in alloc; " {by}")?.as_bytes())
         }
-        Request::ShowVersion => out.extend_from_slice(b"version"),
-        Request::Verbosity { .. } => out.extend_from_slice(b"verbosity"),
-        Request::Stats => out.extend_from_slice(b"stats"),
-        Request::Quit => out.extend_from_slice(b"quit"),
+        _ => show_keyless(out, request),
     }
 }
 
@@ -158,12 +202,27 @@ fn reads_the_lines_of_storage_commands(rt: HostRuntime) -> Result<(), Fail> {
 }
 
 #[test]
+fn reads_exptimes_up_to_their_limits(rt: HostRuntime) -> Result<(), Fail> {
+    reads(&rt, rt.alloc(), table::TIMES)
+}
+
+#[test]
+fn reads_fetches_that_touch(rt: HostRuntime) -> Result<(), Fail> {
+    reads(&rt, rt.alloc(), table::TOUCHES)
+}
+
+#[test]
+fn reads_flushes_with_and_without_delay(rt: HostRuntime) -> Result<(), Fail> {
+    reads(&rt, rt.alloc(), table::FLUSHES)
+}
+
+#[test]
 fn reads_numbers_up_to_their_limits(rt: HostRuntime) -> Result<(), Fail> {
     reads(&rt, rt.alloc(), table::NUMBERS)
 }
 
 #[test]
-fn reads_an_exptime_of_0_and_sizes(rt: HostRuntime) -> Result<(), Fail> {
+fn reads_sizes_of_data(rt: HostRuntime) -> Result<(), Fail> {
     reads(&rt, rt.alloc(), table::SIZES)
 }
 
@@ -367,6 +426,7 @@ fn replies(alloc: Global) -> Result<Vec<(Reply, &'static [u8])>, AllocError> {
         (Reply::Exists, b"EXISTS\r\n"),
         (Reply::NotFound, b"NOT_FOUND\r\n"),
         (Reply::Deleted, b"DELETED\r\n"),
+        (Reply::Touched, b"TOUCHED\r\n"),
         (Reply::Done, b"OK\r\n"),
         (Reply::Number(0), b"0\r\n"),
         (
@@ -398,23 +458,36 @@ fn replies(alloc: Global) -> Result<Vec<(Reply, &'static [u8])>, AllocError> {
     ]?)
 }
 
-#[test]
-fn answers_in_the_texts_of_the_protocol(rt: HostRuntime) -> Result<(), Fail> {
-    let alloc = rt.alloc();
-    let answered = [
+/// Requests that are answered.
+fn answered(alloc: Global) -> Result<Vec<Request>, AllocError> {
+    Ok(vec![in alloc;
         store(alloc, false)?,
         Request::Fetch {
             keys: Items::of(vec![in alloc; key_a(alloc)?]?),
             numbers: true,
         },
+        Request::FetchTouch {
+            exptime: -1,
+            keys: Items::of(vec![in alloc; key_a(alloc)?]?),
+            numbers: false,
+        },
         Request::ShowVersion,
         Request::Stats,
         Request::Quit,
-    ];
-    let quiet = [
+    ]?)
+}
+
+/// Requests with noreply.
+fn quiet(alloc: Global) -> Result<Vec<Request>, AllocError> {
+    Ok(vec![in alloc;
         store(alloc, true)?,
         Request::Delete {
             key: key_a(alloc)?,
+            noreply: true,
+        },
+        Request::Touch {
+            key: key_a(alloc)?,
+            exptime: 10,
             noreply: true,
         },
         Request::Arith {
@@ -423,8 +496,18 @@ fn answers_in_the_texts_of_the_protocol(rt: HostRuntime) -> Result<(), Fail> {
             by: 1,
             noreply: true,
         },
+        Request::FlushAll {
+            delay: 0,
+            noreply: true,
+        },
         Request::Verbosity { noreply: true },
-    ];
+    ]?)
+}
+
+#[test]
+fn answers_in_the_texts_of_the_protocol(rt: HostRuntime) -> Result<(), Fail> {
+    let alloc = rt.alloc();
+    let (answered, quiet) = (answered(alloc)?, quiet(alloc)?);
     for (reply, text) in &replies(alloc)? {
         for request in &answered {
             let twins = (request.twin(alloc)?, reply.twin(alloc)?);

@@ -89,6 +89,7 @@ fn push_reply(out: &mut Vec<u8>, reply: &Reply) -> Result<(), AllocError>
         Reply::Exists => out.extend_from_slice(b"EXISTS\r\n"),
         Reply::NotFound => out.extend_from_slice(b"NOT_FOUND\r\n"),
         Reply::Deleted => out.extend_from_slice(b"DELETED\r\n"),
+        Reply::Touched => out.extend_from_slice(b"TOUCHED\r\n"),
         Reply::Done => out.extend_from_slice(b"OK\r\n"),
         Reply::Number(number) => {
             push_number(out, *number)?;

@@ -1,6 +1,6 @@
 //! The words of a line, and the numbers that they write.
 ghost use Rattle.std.specs.Prelude.{◌≡◌, ℕ, ◌∷◌, [], ◌<◌, ◌≤◌, length, MatchOption, IfSome};
-ghost use Rattle.geo_grammar.specs.Words.{words_of, number_of, signed_of, exptime_of, line_text};
+ghost use Rattle.geo_grammar.specs.Words.{words_of, number_of, signed_of, line_text};
 ghost use Rattle.geo_grammar.specs.Commands.{noreply_of};
 
 /// The first word of a line, and what follows it; None where there is none. Words stand between spaces.
@@ -63,16 +63,6 @@ pub fn signed(word: &[u8]) -> Option<i64>
             None => None,
         },
         _ => number(word, 9223372036854775807).map(|size| size as i64),
-    }
-}
-
-/// The exptime that a word writes. Only 0 is read so far.
-pub fn exptime(word: &[u8]) -> Option<i64>
-    ensures { result ≡ exptime_of word.now }
-{
-    match signed(word) {
-        Some(0) => Some(0),
-        _ => None,
     }
 }
 

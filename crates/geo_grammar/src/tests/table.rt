@@ -57,8 +57,8 @@ pub const NUMBERS: &[Row] = &[
     (b"set a 7 - 1\r\n", b"BadLine;"),
     (b"set a 7 --0 1\r\n", b"BadLine;"),
     (b"set a 7 +0 1\r\n", b"BadLine;"),
-    (b"set a 7 1 1\r\nx\r\n", b"BadLine;Unknown;"),
-    (b"set a 7 -1 1\r\nx\r\n", b"BadLine;Unknown;"),
+    (b"set a 7 1 1\r\nx\r\n", b"set a 7 @1 x;"),
+    (b"set a 7 -1 1\r\nx\r\n", b"set a 7 @-1 x;"),
     (b"set a 7 0 -1\r\n", b"BadLine;"),
     (b"set a 7 0 1.0\r\n", b"BadLine;"),
 ];
@@ -110,10 +110,8 @@ pub const NAMES: &[Row] = &[
     (b"quit\tx\r\n", b"Unknown;"),
     (b"\0\r\n", b"Unknown;"),
     (b"\xff\xfe\n", b"Unknown;"),
-    (b"touch a 0\r\n", b"Unknown;"),
-    (b"gat 0 a\r\n", b"Unknown;"),
-    (b"gats 0 a\r\n", b"Unknown;"),
-    (b"flush_all\r\n", b"Unknown;"),
+    (b"touchs a 0\r\n", b"Unknown;"),
+    (b"flush\r\n", b"Unknown;"),
     (b"mg a\r\n", b"Unknown;"),
 ];
 
@@ -267,17 +265,76 @@ pub const VERBOSITY: &[Row] = &[
     (b"verbosity\r\n", b"BadLine;"),
 ];
 
-/// Exptimes, of which only 0 is read, and sizes of data.
+/// Sizes of data.
 pub const SIZES: &[Row] = &[
-    (b"set a 7 0000 1\r\nx\r\n", b"set a 7 x;"),
-    (b"set a 7 -00 1\r\nx\r\n", b"set a 7 x;"),
-    (b"set a 7 9223372036854775807 1\r\n", b"BadLine;"),
-    (b"set a 7 9223372036854775808 1\r\n", b"BadLine;"),
-    (b"set a 7 -9223372036854775808 1\r\n", b"BadLine;"),
-    (b"set a 7 x 1\r\n", b"BadLine;"),
     (b"set a 7 0 1048577\r\nget b\r\n", b""),
     (b"set a 7 0 2147483647 noreply\r\nget b\r\n", b""),
     (b"set a 7 0 2147483648\r\nget b\r\n", b"BadLine;get b;"),
     (b"set a 7 0 1048577 x\r\nget b\r\n", b"BadLine;get b;"),
     (b"set a\x7f 7 0 1048577\r\nget b\r\n", b"BadLine;get b;"),
+];
+
+/// Exptimes up to their limits, in a storage line and elsewhere.
+pub const TIMES: &[Row] = &[
+    (b"set a 7 0000 1\r\nx\r\n", b"set a 7 x;"),
+    (b"set a 7 -00 1\r\nx\r\n", b"set a 7 x;"),
+    (b"set a 7 x 1\r\n", b"BadLine;"),
+    (
+        b"set a 0 9223372036854775807 1\r\nx\r\n",
+        b"set a 0 @9223372036854775807 x;",
+    ),
+    (
+        b"set a 0 9223372036854775808 1\r\nx\r\n",
+        b"BadLine;Unknown;",
+    ),
+    (
+        b"set a 0 -9223372036854775808 1\r\nx\r\n",
+        b"set a 0 @-9223372036854775808 x;",
+    ),
+    (
+        b"set a 0 -9223372036854775809 1\r\nx\r\n",
+        b"BadLine;Unknown;",
+    ),
+    (b"touch a 0\r\n", b"touch a 0;"),
+    (b"touch a -0\r\n", b"touch a 0;"),
+    (b"touch a -1 noreply\r\n", b"touch a -1 quiet;"),
+    (
+        b"touch a 9223372036854775807\r\n",
+        b"touch a 9223372036854775807;",
+    ),
+    (b"touch a 9223372036854775808\r\n", b"BadNumber;"),
+    (b"touch a x\r\n", b"BadNumber;"),
+    (b"touch a\r\n", b"BadLine;"),
+    (b"touch\r\n", b"BadLine;"),
+    (b"touch a 0 x\r\n", b"BadLine;"),
+    (b"touch a x x\r\n", b"BadLine;"),
+    (b"touch a\x7f x\r\n", b"BadLine;"),
+    (b"touch a noreply\r\n", b"BadNumber;"),
+];
+
+/// Fetches that touch.
+pub const TOUCHES: &[Row] = &[
+    (b"gat 0 a\r\n", b"gat 0 a;"),
+    (b"gats -7 a b\r\n", b"gats -7 a b;"),
+    (b"gat 10\r\n", b"BadLine;"),
+    (b"gat\r\n", b"BadLine;"),
+    (b"gat x a\r\n", b"BadNumber;"),
+    (b"gat x a\x7f\r\n", b"BadLine;"),
+    (b"gat 1 a noreply\r\n", b"gat 1 a noreply;"),
+    (b"GAT 1 a\r\n", b"Unknown;"),
+];
+
+/// Flushes.
+pub const FLUSHES: &[Row] = &[
+    (b"flush_all\r\n", b"flush_all 0;"),
+    (b"flush_all noreply\r\n", b"flush_all 0 quiet;"),
+    (b"flush_all 10\r\n", b"flush_all 10;"),
+    (b"flush_all -3 noreply\r\n", b"flush_all -3 quiet;"),
+    (b"flush_all -0\r\n", b"flush_all 0;"),
+    (b"flush_all noreply 10\r\n", b"BadLine;"),
+    (b"flush_all noreply noreply\r\n", b"BadLine;"),
+    (b"flush_all x\r\n", b"BadNumber;"),
+    (b"flush_all x y\r\n", b"BadLine;"),
+    (b"flush_all 1 noreply x\r\n", b"BadLine;"),
+    (b"flush_all 9223372036854775808\r\n", b"BadNumber;"),
 ];

@@ -1,0 +1,18 @@
+-- Kinds of requests.
+use Rattle.std.specs.Prelude.{Bool, true, false}
+use Rattle.geo_grammar.specs.declared.request.Request.{Request}
+use Rattle.geo_grammar.specs.declared.request.Request.TheVariants.{Store, Fetch, FetchTouch, Delete, Touch, Arith, FlushAll, ShowVersion, Verbosity, Stats, Quit}
+
+-- the request is about one key
+abbrev pub is_of_one_key : Request → Bool
+is_of_one_key (Store verb key flags exptime unique bytes noreply) = true
+is_of_one_key (Fetch keys numbers) = false
+is_of_one_key (FetchTouch exptime keys numbers) = false
+is_of_one_key (Delete key noreply) = true
+is_of_one_key (Touch key exptime noreply) = true
+is_of_one_key (Arith up key by noreply) = true
+is_of_one_key (FlushAll delay noreply) = false
+is_of_one_key ShowVersion = false
+is_of_one_key (Verbosity noreply) = false
+is_of_one_key Stats = false
+is_of_one_key Quit = false
