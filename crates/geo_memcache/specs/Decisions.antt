@@ -5,13 +5,13 @@ use Rattle.geo_grammar.specs.Words.{number_of}
 use Rattle.geo_grammar.specs.declared.request.Verb.{Verb}
 use Rattle.geo_grammar.specs.declared.request.Verb.TheVariants.{Set, Add, Replace, Append, Prepend, Cas}
 use Rattle.geo_grammar.specs.declared.reply.Reply.{Reply}
-use Rattle.geo_grammar.specs.declared.reply.Reply.TheVariants.{Stored, NotStored, Exists, NotFound, Deleted, Number, NotANumber, TooLarge}
+use Rattle.geo_grammar.specs.declared.reply.Reply.TheVariants.{Stored, NotStored, Exists, NotFound, Deleted, Touched, Number, NotANumber, TooLarge}
 use Rattle.geo_memcache.specs.Entries.{Entry, expiry_at}
 use Rattle.geo_memcache.specs.declared.ask.Ask.{Ask}
 use Rattle.geo_memcache.specs.declared.ask.Ask.TheVariants as ask
 use Rattle.geo_memcache.specs.declared.decision.Answer.TheVariants as answer
 use Rattle.geo_memcache.specs.declared.decision.Effect.{Effect}
-use Rattle.geo_memcache.specs.declared.decision.Effect.TheVariants.{Nothing, Keep, Made, Tomb}
+use Rattle.geo_memcache.specs.declared.decision.Effect.TheVariants.{Nothing, Keep, Made, Renew, Tomb}
 use Rattle.geo_memcache.specs.declared.decision.Decision.{Decision}
 
 -- what is answered, and what becomes of the entry
@@ -54,6 +54,11 @@ abbrev pub deletes : Option Entry → Verdict
 deletes None = (NotFound, Tomb)
 deletes (Some e) = (Deleted, Tomb)
 
+-- a touch gives an entry another expiry, and leaves all else as it is
+abbrev pub touches : ℤ → ℕ → Option Entry → Verdict
+touches exptime now None = (NotFound, Nothing)
+touches exptime now (Some e) = (Touched, Renew (expiry_at exptime now))
+
 -- the number that a value writes: 1 to 20 digits, at most 2^64 - 1
 abbrev pub number_in : List ℕ → Option ℕ
 number_in bytes = if nat_le (length bytes) 20 then number_of most_number bytes else None
@@ -83,7 +88,10 @@ abbrev pub decided : Option Entry → ℕ → Ask → Decision
 decided present now (ask.Store verb flags exptime unique bytes) = decision_of (stores verb flags exptime unique bytes.now now present)
 decided None now (ask.Fetch numbers) = record { answer = answer.Miss; effect = Nothing }
 decided (Some e) now (ask.Fetch numbers) = record { answer = answer.Hit; effect = Nothing }
+decided None now (ask.FetchTouch exptime numbers) = record { answer = answer.Miss; effect = Nothing }
+decided (Some e) now (ask.FetchTouch exptime numbers) = record { answer = answer.Hit; effect = Renew (expiry_at exptime now) }
 decided present now ask.Delete = decision_of (deletes present)
+decided present now (ask.Touch exptime) = decision_of (touches exptime now present)
 decided present now (ask.Arith up by) = decision_of (counts up by present)
 
 -- whether new bytes are made, for which memory may be wanted
@@ -91,4 +99,5 @@ abbrev pub is_made : Effect → Bool
 is_made Nothing = false
 is_made (Keep flags expiry) = false
 is_made (Made bytes flags expiry) = true
+is_made (Renew expiry) = false
 is_made Tomb = false

@@ -32,6 +32,10 @@ pub enum Effect {
         flags: u32,
         expiry: u64,
     },
+    /// It gets another expiry.
+    Renew {
+        expiry: u64,
+    },
     /// It is deleted.
     Tomb,
 }

@@ -13,7 +13,7 @@ mod expiry;
 mod storage;
 mod table;
 
-pub use ask::Ask;
+pub use ask::{Ask, ask_of};
 pub use decision::{Answer, Decision, Effect};
 pub use entry::Entry;
 pub use expiry::{expiry_of, live};

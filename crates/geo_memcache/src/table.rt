@@ -1,12 +1,14 @@
 //! The table of commands, for one key.
-ghost use Rattle.std.specs.Prelude.{◌≡◌, ◌≤◌, ◌^◌, true, IfOk, IfErr};
+ghost use Rattle.std.specs.Prelude.{◌≡◌, ◌≤◌, ◌^◌, Bool, true, IfOk, IfErr};
+ghost use Rattle.geo_memcache.specs.declared.ask.Ask.TheVariants.{FetchTouch};
 ghost use Rattle.geo_memcache.specs.Entries.{present_of};
-ghost use Rattle.geo_memcache.specs.Decisions.{decided, decision_of, deletes, is_made};
+ghost use Rattle.geo_memcache.specs.Decisions.{decided, decision_of, deletes, touches, is_made};
 
 use crate::arith::arith;
 use crate::ask::Ask;
 use crate::decision::{Answer, Decision, Effect};
 use crate::entry::Entry;
+use crate::expiry::expiry_of;
 use crate::storage::store;
 use geo_grammar::Reply;
 use std::alloc::{AllocError, Global};
@@ -23,6 +25,41 @@ fn delete(present: Option<&Entry<'_>>) -> Decision
     Decision {
         answer: Answer::Reply(reply),
         effect: Effect::Tomb,
+    }
+}
+
+/// A touch gives what is there another expiry.
+fn touch(present: Option<&Entry<'_>>, now: u64, exptime: i64) -> Decision
+    requires moment { now ≤ 2 ^ 40 }
+    ensures { result ≡ decision_of (touches exptime now (present_of present.entry)) }
+{
+    if present.is_none() {
+        return Decision::only(Reply::NotFound);
+    }
+    Decision {
+        answer: Answer::Reply(Reply::Touched),
+        effect: Effect::Renew {
+            expiry: expiry_of(exptime, now),
+        },
+    }
+}
+
+/// A fetch and touch finds what is there, and gives it another expiry.
+fn fetch_touch(present: Option<&Entry<'_>>, now: u64, exptime: i64) -> Decision
+    requires moment { now ≤ 2 ^ 40 }
+    ensures { (numbers : Bool) → result ≡ decided (present_of present.entry) now (FetchTouch exptime numbers) }
+{
+    if present.is_none() {
+        return Decision {
+            answer: Answer::Miss,
+            effect: Effect::Nothing,
+        };
+    }
+    Decision {
+        answer: Answer::Hit,
+        effect: Effect::Renew {
+            expiry: expiry_of(exptime, now),
+        },
     }
 }
 
@@ -57,7 +94,9 @@ pub fn decide(
             },
             effect: Effect::Nothing,
         }),
+        Ask::FetchTouch { exptime, .. } => Ok(fetch_touch(present, now, *exptime)),
         Ask::Delete => Ok(delete(present)),
+        Ask::Touch { exptime } => Ok(touch(present, now, *exptime)),
         Ask::Arith { up, by } => arith(alloc, present, *up, *by),
     }
 }

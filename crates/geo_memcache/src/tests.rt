@@ -1,6 +1,8 @@
 //! What is decided of one entry, worked out by hand from memcached's protocol.txt.
-use crate::{Answer, Ask, Decision, Effect, Entry, decide, expiry_of, live};
-use geo_grammar::{LONGEST_VALUE, Reply, ValueBytes, Verb};
+use crate::{Answer, Ask, Decision, Effect, Entry, ask_of, decide, expiry_of, live};
+use geo_grammar::{LONGEST_VALUE, Reply, Request, ValueBytes, Verb};
+use geo_lattice::Items;
+use geo_versions::Key;
 use std::alloc::{AllocError, Global};
 use std::process::Abort;
 use std::test::Fail;
@@ -45,6 +47,7 @@ fn push_reply(alloc: Global, out: &mut Vec<u8>, reply: &Reply) -> Result<(), All
         Reply::Exists => out.extend_from_slice(b"EXISTS"),
         Reply::NotFound => out.extend_from_slice(b"NOT_FOUND"),
         Reply::Deleted => out.extend_from_slice(b"DELETED"),
+        Reply::Touched => out.extend_from_slice(b"TOUCHED"),
         Reply::NotANumber => out.extend_from_slice(b"no number"),
         Reply::TooLarge => out.extend_from_slice(b"too large"),
         Reply::Number(number) => out.extend_from_slice(format!(in alloc; "{number}")?.as_bytes()),
@@ -73,6 +76,9 @@ fn push_effect(alloc: Global, out: &mut Vec<u8>, effect: &Effect) -> Result<(), 
         } => {
             out.extend_from_slice(format!(in alloc; ", made {flags} {expiry} ")?.as_bytes())?;
             out.extend_from_slice(bytes.as_slice())
+        }
+        Effect::Renew { expiry } => {
+            out.extend_from_slice(format!(in alloc; ", renew {expiry}")?.as_bytes())
         }
         Effect::Tomb => out.extend_from_slice(b", tomb"),
     }
@@ -299,6 +305,109 @@ fn fetches_deletes_and_counts_what_is_there(rt: HostRuntime) -> Result<(), Fail>
     for (ask, missing, there) in &rows {
         assert_eq!(rt; without(rt.alloc(), ask)?.as_slice(), *missing);
         assert_eq!(rt; with(rt.alloc(), &held, ask)?.as_slice(), *there);
+    }
+    Ok(())
+}
+
+#[test]
+fn touches_what_is_there_alone(rt: HostRuntime) -> Result<(), Fail> {
+    let held = value(rt.alloc(), b"x")?;
+    let cases = [
+        (
+            0,
+            b"TOUCHED, renew 0".as_slice(),
+            b"hit, renew 0".as_slice(),
+        ),
+        (-1, b"TOUCHED, renew 1", b"hit, renew 1"),
+        (20, b"TOUCHED, renew 120", b"hit, renew 120"),
+        (2_592_000, b"TOUCHED, renew 2592100", b"hit, renew 2592100"),
+        (2_592_001, b"TOUCHED, renew 2592001", b"hit, renew 2592001"),
+    ];
+    for (exptime, touched, fetched) in cases {
+        let touch = Ask::Touch { exptime };
+        assert_eq!(rt; with(rt.alloc(), &held, &touch)?.as_slice(), touched);
+        assert_eq!(rt;
+            without(rt.alloc(), &touch)?.as_slice(),
+            b"NOT_FOUND".as_slice()
+        );
+        for numbers in [false, true] {
+            let fetch = Ask::FetchTouch { exptime, numbers };
+            assert_eq!(rt; with(rt.alloc(), &held, &fetch)?.as_slice(), fetched);
+            assert_eq!(rt; without(rt.alloc(), &fetch)?.as_slice(), b"miss".as_slice());
+        }
+    }
+    Ok(())
+}
+
+/// What is decided of the entry of a key, where a request is about that key alone.
+fn asked(alloc: Global, held: &ValueBytes, request: &Request) -> Result<Vec<u8>, AllocError> {
+    match ask_of(request) {
+        Some((key, ask)) if key.bytes() == b"a".as_slice() => with(alloc, held, &ask),
+        Some(_) => Vec::from_slice(alloc, b"another key"),
+        None => Vec::from_slice(alloc, b"none"),
+    }
+}
+
+fn key_a(alloc: Global) -> Result<Key, AllocError> {
+    Ok(Key::new(alloc, b"a")?.unwrap())
+}
+
+fn append_1(alloc: Global) -> Result<Request, AllocError> {
+    Ok(Request::Store {
+        verb: Verb::Append,
+        key: key_a(alloc)?,
+        flags: 9,
+        exptime: 20,
+        unique: None,
+        bytes: value(alloc, b"1")?,
+        noreply: false,
+    })
+}
+
+/// Requests, and what is decided of each.
+fn requests(alloc: Global) -> Result<Vec<(Request, &'static [u8])>, AllocError> {
+    Ok(vec![in alloc;
+        (append_1(alloc)?, b"STORED, made 7 150 51".as_slice()),
+        (
+            Request::Delete {
+                key: key_a(alloc)?,
+                noreply: true
+            },
+            b"DELETED, tomb"
+        ),
+        (
+            Request::Touch {
+                key: key_a(alloc)?,
+                exptime: 20,
+                noreply: false
+            },
+            b"TOUCHED, renew 120"
+        ),
+        (
+            Request::Arith {
+                up: false,
+                key: key_a(alloc)?,
+                by: 2,
+                noreply: false
+            },
+            b"3, made 7 150 3"
+        ),
+        (
+            Request::Fetch {
+                keys: Items::of(vec![in alloc; key_a(alloc)?]?),
+                numbers: true
+            },
+            b"none"
+        ),
+        (Request::Quit, b"none"),
+    ]?)
+}
+
+#[test]
+fn asks_what_a_request_about_one_key_asks(rt: HostRuntime) -> Result<(), Fail> {
+    let held = value(rt.alloc(), b"5")?;
+    for (request, told) in &requests(rt.alloc())? {
+        assert_eq!(rt; asked(rt.alloc(), &held, request)?.as_slice(), *told);
     }
     Ok(())
 }
