@@ -1,25 +1,27 @@
 -- A request that changes one key: from what becomes of the key to what is owed.
-use Rattle.std.proofs.Common.{◌≡◌, ℕ, ◌+◌, ◌≤◌, ◌<◌, Bool, true, false, cond, not, ◌&&◌, ◌||◌, nat_lt, List, [], ◌∷◌, length, Option, None, Some, refl, sym, ap, ◌∙◌, subst, inl, inr, arith, true≢false}
+use Rattle.std.proofs.Common.{◌≡◌, ℕ, ℤ, ◌+◌, ◌≤◌, ◌<◌, Bool, true, false, cond, not, ◌&&◌, ◌||◌, nat_lt, List, [], ◌∷◌, length, Option, None, Some, refl, sym, ap, ◌∙◌, subst, inl, inr, arith, true≢false}
 use Rattle.std.proofs.lemmas.Bool.Decides.{nat_tests}
+use Rattle.std.specs.List.{list_any}
 use Rattle.geo_stamp.specs.Stamps.{last_time}
+use Rattle.geo_versions.specs.Operations.{Record, version_in}
 use Rattle.geo_grammar.specs.declared.request.Request.{Request}
 use Rattle.geo_grammar.specs.declared.reply.Reply.{Reply}
 use Rattle.geo_grammar.specs.declared.reply.Reply.TheVariants as reply
 use Rattle.geo_memcache.specs.Entries.{Entry}
-use Rattle.geo_memcache.specs.Decisions.{Verdict, stores, deletes, counts, decision_of, decided, is_made}
+use Rattle.geo_memcache.specs.Decisions.{Verdict, stores, deletes, touches, counts, decision_of, decided, is_made}
 use Rattle.geo_memcache.specs.declared.ask.Ask.{Ask}
-use Rattle.geo_memcache.specs.declared.ask.Ask.TheVariants.{Store, Fetch, Delete, Arith}
+use Rattle.geo_memcache.specs.declared.ask.Ask.TheVariants.{Store, Fetch, FetchTouch, Delete, Touch, Arith}
 use Rattle.geo_memcache.specs.declared.decision.Answer.TheVariants as answer
 use Rattle.geo_memcache.specs.declared.decision.Effect.{Effect}
-use Rattle.geo_memcache.specs.declared.decision.Effect.TheVariants.{Nothing, Keep, Made, Tomb}
+use Rattle.geo_memcache.specs.declared.decision.Effect.TheVariants.{Nothing, Keep, Made, Renew, Tomb}
 use Rattle.geo_site.specs.declared.site.Site.{Site}
 use Rattle.geo_site.specs.declared.refusal.WriteError.{WriteError}
 use Rattle.geo_site.specs.declared.refusal.WriteError.TheVariants.{MapFull, ClockEnded, Memory}
-use Rattle.geo_site.specs.Entries.{Basis, Visible, found_of, replied, issued, acts_of, is_some_act, is_crowded, lacks, owed, may_want_memory, shows_values, Answers, is_done}
+use Rattle.geo_site.specs.Entries.{Basis, Visible, entry_in, found_of, replied, issued, acts_of, is_some_act, is_growth, is_crowded, lacks, owed, may_want_memory, shows_values, Answers, is_done}
 use Rattle.geo_site.specs.Machine.{SiteState, Same, clock_of, visible_in}
 use Rattle.geo_site.specs.Sites.{state_in, basis_in, stats_in, issued_in, HasIssued}
-use Rattle.geo_site.specs.Changes.{is_change, bytes_in, is_crowded_out, CanWrite, refusal_reply, EffectDoes, ChangeDoes, IsShort}
-use Rattle.geo_site.proofs.Verdicts.{Plain, stores_plain, deletes_plain, counts_plain}
+use Rattle.geo_site.specs.Changes.{is_change, bytes_in, IsThere, is_crowded_out, CanWrite, refusal_reply, EffectDoes, ChangeDoes, IsShort}
+use Rattle.geo_site.proofs.Verdicts.{Plain, is_renewal, stores_plain, stores_fixed, deletes_plain, touches_plain, counts_plain, counts_fixed, none_some}
 
 -- a state is itself
 pub unchanged : (st : SiteState) → Same st st
@@ -29,13 +31,46 @@ unchanged st = record { vector = refl; floor = refl; map = λ key. refl; held = 
 pub decided_short : (present : Option Entry) (now : ℕ) (ask : Ask) → is_change ask ≡ true → IsShort (decided present now ask).effect (bytes_in ask)
 decided_short present now (Store verb flags exptime unique bytes) h = (stores_plain verb flags exptime unique bytes.now now present).short
 decided_short present now (Fetch numbers) h = absurd (true≢false (sym h))
+decided_short present now (FetchTouch exptime numbers) h = absurd (true≢false (sym h))
+decided_short present now (Touch exptime) h = (touches_plain exptime now present).short
 decided_short present now Delete h = (deletes_plain present).short
 decided_short present now (Arith up by) h = (counts_plain up by present).short
+
+-- what is visible has a record
+pub visible_recorded : (now : ℕ) (r : Record) (o : Option (List ℕ)) (e : Entry) → entry_in now (version_in r) o ≡ Some e → r ≡ (None, None) → ⊥
+visible_recorded now r None e h is = none_some h
+visible_recorded now r (Some bytes) e h is = none_some (sym (ap (λ (r : Record). entry_in now (version_in r) (Some bytes)) is) ∙ h)
+
+-- what renews nothing needs nothing to be there
+fixed_there : (site : Site) (key : List ℕ) (effect : Effect) → is_renewal effect ≡ false → IsThere site key effect
+fixed_there site key Nothing h = tt
+fixed_there site key (Keep flags expiry) h = tt
+fixed_there site key (Made made flags expiry) h = tt
+fixed_there site key (Renew expiry) h = absurd (true≢false h)
+fixed_there site key Tomb h = tt
+
+-- a decision renews nothing but what is there
+decided_there_by : (site : Site) (now : ℕ) (key : List ℕ) (ask : Ask) (present : Option Entry) → visible_in (state_in site) now key ≡ present → IsThere site key (decided present now ask).effect
+decided_there_by site now key (Store verb flags exptime unique bytes) present is = fixed_there site key (stores verb flags exptime unique bytes.now now present).1 (stores_fixed verb flags exptime unique bytes.now now present)
+decided_there_by site now key (Fetch numbers) None is = tt
+decided_there_by site now key (Fetch numbers) (Some e) is = tt
+decided_there_by site now key (FetchTouch exptime numbers) None is = tt
+decided_there_by site now key (FetchTouch exptime numbers) (Some e) is = visible_recorded now ((state_in site).map key) ((state_in site).held key) e is
+decided_there_by site now key Delete None is = tt
+decided_there_by site now key Delete (Some e) is = tt
+decided_there_by site now key (Touch exptime) None is = tt
+decided_there_by site now key (Touch exptime) (Some e) is = visible_recorded now ((state_in site).map key) ((state_in site).held key) e is
+decided_there_by site now key (Arith up by) present is = fixed_there site key (counts up by present).1 (counts_fixed up by present)
+
+pub decided_there : (site : Site) (now : ℕ) (key : List ℕ) (ask : Ask) → IsThere site key (decided (visible_in (state_in site) now key) now ask).effect
+decided_there site now key ask = decided_there_by site now key ask (visible_in (state_in site) now key) refl
 
 -- each change is answered by a reply
 pub decided_replies : (present : Option Entry) (now : ℕ) (ask : Ask) → is_change ask ≡ true → (r : Reply) × ((decided present now ask).answer ≡ answer.Reply r)
 decided_replies present now (Store verb flags exptime unique bytes) h = ((stores verb flags exptime unique bytes.now now present).0, refl)
 decided_replies present now (Fetch numbers) h = absurd (true≢false (sym h))
+decided_replies present now (FetchTouch exptime numbers) h = absurd (true≢false (sym h))
+decided_replies present now (Touch exptime) h = ((touches exptime now present).0, refl)
 decided_replies present now Delete h = ((deletes present).0, refl)
 decided_replies present now (Arith up by) h = ((counts up by present).0, refl)
 
@@ -44,9 +79,18 @@ pub made_acts : (key bytes : List ℕ) (effect : Effect) → is_made effect ≡ 
 made_acts key bytes Nothing h = h
 made_acts key bytes (Keep flags expiry) h = refl
 made_acts key bytes (Made made flags expiry) h = refl
+made_acts key bytes (Renew expiry) h = refl
 made_acts key bytes Tomb h = refl
 
-and_false : (b : Bool) → b && false ≡ false
+-- and memory is wanted for that
+pub made_grows : (key bytes : List ℕ) (effect : Effect) → is_made effect ≡ true → list_any is_growth (acts_of key bytes effect) ≡ true
+made_grows key bytes Nothing h = h
+made_grows key bytes (Keep flags expiry) h = refl
+made_grows key bytes (Made made flags expiry) h = refl
+made_grows key bytes (Renew expiry) h = absurd (true≢false (sym h))
+made_grows key bytes Tomb h = refl
+
+pub and_false : (b : Bool) → b && false ≡ false
 and_false true = refl
 and_false false = refl
 
@@ -55,10 +99,10 @@ one_key true true = refl
 one_key true false = refl
 one_key false recorded = refl
 
-later : (clock : ℕ) → clock + 1 ≤ last_time → nat_lt last_time (clock + 1) ≡ false
+pub later : (clock : ℕ) → clock + 1 ≤ last_time → nat_lt last_time (clock + 1) ≡ false
 later clock le = grind (arith, nat_tests)
 
-ended : (clock : ℕ) → last_time < clock + 1 → nat_lt last_time (clock + 1) ≡ true
+pub ended : (clock : ℕ) → last_time < clock + 1 → nat_lt last_time (clock + 1) ≡ true
 ended clock lt = grind (arith, nat_tests)
 
 module _ (old : Site) (now : ℕ) (key bytes : List ℕ) where
@@ -69,12 +113,14 @@ module _ (old : Site) (now : ℕ) (key bytes : List ℕ) where
   crowded_is Nothing h = absurd (true≢false (sym h))
   crowded_is (Keep flags expiry) h = one_key (basis_in old now).full ((basis_in old now).recorded key)
   crowded_is (Made made flags expiry) h = one_key (basis_in old now).full ((basis_in old now).recorded key)
+  crowded_is (Renew expiry) h = one_key (basis_in old now).full ((basis_in old now).recorded key)
   crowded_is Tomb h = one_key (basis_in old now).full ((basis_in old now).recorded key)
 
   lacks_is : (effect : Effect) → is_some_act (acts_of key bytes effect) ≡ true → lacks (clock_of (state_in old)) (acts_of key bytes effect) ≡ nat_lt last_time (clock_of (state_in old) + 1)
   lacks_is Nothing h = absurd (true≢false (sym h))
   lacks_is (Keep flags expiry) h = refl
   lacks_is (Made made flags expiry) h = refl
+  lacks_is (Renew expiry) h = refl
   lacks_is Tomb h = refl
 
   not_refused : (effect : Effect) → (is_some_act (acts_of key bytes effect) ≡ true → CanWrite old key)
@@ -82,6 +128,7 @@ module _ (old : Site) (now : ℕ) (key bytes : List ℕ) where
   not_refused Nothing h = (and_false (basis_in old now).full, refl)
   not_refused (Keep flags expiry) h = let c = h refl in (crowded_is (Keep flags expiry) refl ∙ c.0, later (clock_of (state_in old)) c.1)
   not_refused (Made made flags expiry) h = let c = h refl in (crowded_is (Made made flags expiry) refl ∙ c.0, later (clock_of (state_in old)) c.1)
+  not_refused (Renew expiry) h = let c = h refl in (crowded_is (Renew expiry) refl ∙ c.0, later (clock_of (state_in old)) c.1)
   not_refused Tomb h = let c = h refl in (crowded_is Tomb refl ∙ c.0, later (clock_of (state_in old)) c.1)
 
 same_reply : {a b : Reply} → answer.Reply a ≡ answer.Reply b → a ≡ b
@@ -111,14 +158,14 @@ module _ (old new : Site) (now : ℕ) (request : Request) (key bytes : List ℕ)
   ]
     where
       refused : (why : WriteError) → said ≡ refusal_reply why → EffectDoes old new key bytes v.1 (Rattle.std.specs.Prelude.Err why) → Answers now (basis_in old now) request said
-      refused MapFull e h = inl (e ∙ sym (owed_by true _ (crowded_is old now key bytes v.1 h.0 ∙ h.1) refl))
-      refused ClockEnded e h = inl (e ∙ sym (owed_by false true (crowded_is old now key bytes v.1 h.0 ∙ h.1.0) (lacks_is old now key bytes v.1 h.0 ∙ ended (clock_of (state_in old)) h.1.1)))
+      refused MapFull e h = inl (e ∙ sym (owed_by true _ (crowded_is old now key bytes v.1 h.0 ∙ h.2) refl))
+      refused ClockEnded e h = inl (e ∙ sym (owed_by false true (crowded_is old now key bytes v.1 h.0 ∙ h.2.0) (lacks_is old now key bytes v.1 h.0 ∙ ended (clock_of (state_in old)) h.2.1)))
       refused Memory e h = inr (
         e,
-        wants (is_some_act (issued now (visible_in (state_in old) now) request)) (shows_values request) (is_crowded (basis_in old now) (issued now (visible_in (state_in old) now) request)) (lacks (clock_of (state_in old)) (issued now (visible_in (state_in old) now) request))
-            (ap is_some_act issued_is ∙ h.0)
-            (ap (is_crowded (basis_in old now)) issued_is ∙ crowded_is old now key bytes v.1 h.0 ∙ h.1.0)
-            (ap (lacks (clock_of (state_in old))) issued_is ∙ lacks_is old now key bytes v.1 h.0 ∙ later (clock_of (state_in old)) h.1.1),
+        wants (list_any is_growth (issued now (visible_in (state_in old) now) request)) (shows_values request) (is_crowded (basis_in old now) (issued now (visible_in (state_in old) now) request)) (lacks (clock_of (state_in old)) (issued now (visible_in (state_in old) now) request))
+            (ap (list_any is_growth) issued_is ∙ h.1 refl)
+            (ap (is_crowded (basis_in old now)) issued_is ∙ crowded_is old now key bytes v.1 h.0 ∙ h.2.0)
+            (ap (lacks (clock_of (state_in old))) issued_is ∙ lacks_is old now key bytes v.1 h.0 ∙ later (clock_of (state_in old)) h.2.1),
       )
 
   pub change_done : is_done said ≡ true → HasIssued old new (issued_in old now request)
@@ -134,7 +181,7 @@ module _ (old new : Site) (now : ℕ) (request : Request) (key bytes : List ℕ)
   ]
     where
       refused_same : (why : WriteError) → EffectDoes old new key bytes v.1 (Rattle.std.specs.Prelude.Err why) → Same (state_in old) (state_in new)
-      refused_same why h = h.2
+      refused_same why h = h.3
 
 -- as many are found as there are keys, at most
 pub found_at_most : (numbers : Bool) (seen : Visible) (keys : List (List ℕ)) → length (found_of numbers seen keys) ≤ length keys
@@ -144,3 +191,11 @@ found_at_most numbers seen (key ∷ keys) = by (seen key) (found_at_most numbers
     by : (o : Option Entry) → length (found_of numbers seen keys) ≤ length keys → length (Rattle.std.specs.Prelude.◌++◌ (Rattle.geo_site.specs.Entries.found_at numbers key o) (found_of numbers seen keys)) ≤ length (key ∷ keys)
     by None h = omega (arith, h)
     by (Some e) h = omega (arith, h)
+
+-- a touch by an equal exptime
+pub change_touch : (old new : Site) (now : ℕ) (key bytes : List ℕ) (seen : Option Entry) (said : Reply) (e f : ℤ) → ChangeDoes old new key bytes (decided seen now (Touch f)) said → f ≡ e → ChangeDoes old new key [] (decision_of (touches e now seen)) said
+change_touch old new now key bytes seen said e f does same = subst (λ e. ChangeDoes old new key [] (decision_of (touches e now seen)) said) same (by seen does)
+  where
+    by : (seen : Option Entry) → ChangeDoes old new key bytes (decided seen now (Touch f)) said → ChangeDoes old new key [] (decision_of (touches f now seen)) said
+    by None h = h
+    by (Some e) h = h

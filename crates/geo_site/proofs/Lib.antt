@@ -7,7 +7,13 @@ pub mod Verdicts
 pub mod Served
 pub mod Writing
 pub mod Written
+pub mod Flushing
+pub mod Touching
 pub mod Acting
+pub mod Ending
+pub mod Due
+pub mod Reaping
+pub mod Fetching
 pub mod Found
 pub mod Listed
 pub mod Filtered

@@ -1,5 +1,6 @@
 -- Values that are served are what was written.
 use Rattle.std.proofs.Common.{◌≡◌, ℕ, Bool, true, false, cond, true≢false, ◌==◌, ◌&&◌, List, [], ◌∷◌, ◌++◌, length, Option, None, Some, refl, sym, ap, ◌∙◌, subst, inl, inr}
+use Rattle.std.specs.List.{list_any}
 use Rattle.std.specs.Str.{bytes_eq}
 use Rattle.std.specs.Cmp.Lexicographic.{same_text}
 use Rattle.sha2.specs.Sha256.{sha256}
@@ -13,25 +14,25 @@ use Rattle.geo_versions.specs.declared.body.Body.{Body}
 use Rattle.geo_versions.specs.declared.body.Body.TheVariants.{Gone, Value}
 use Rattle.geo_versions.specs.declared.version.Version.{Version}
 use Rattle.geo_grammar.specs.declared.request.Request.{Request}
-use Rattle.geo_grammar.specs.declared.request.Request.TheVariants.{Store, Fetch, Arith, ShowVersion, Verbosity, Quit}
+use Rattle.geo_grammar.specs.declared.request.Request.TheVariants.{Store, Fetch, FetchTouch, Arith, FlushAll, ShowVersion, Verbosity, Quit}
 use Rattle.geo_grammar.specs.declared.request.Request.TheVariants as request
 use Rattle.geo_grammar.specs.declared.reply.Reply.{Reply}
 use Rattle.geo_grammar.specs.declared.reply.Reply.TheVariants.{MapFull, ClockEnded}
 use Rattle.geo_grammar.specs.declared.reply.Found.{Found}
 use Rattle.geo_grammar.specs.declared.stats.Stats.{Stats}
-use Rattle.geo_memcache.specs.Entries.{is_live}
-use Rattle.geo_memcache.specs.Decisions.{stores, deletes, counts}
+use Rattle.geo_memcache.specs.Entries.{Entry, is_live, expiry_at}
+use Rattle.geo_memcache.specs.Decisions.{stores, deletes, touches, counts}
 use Rattle.geo_site.specs.declared.event.Event.{Event}
-use Rattle.geo_site.specs.declared.event.Event.TheVariants.{Command, Send, Take}
+use Rattle.geo_site.specs.declared.event.Event.TheVariants.{Command, Send, Take, Tick, Reap}
 use Rattle.geo_site.specs.declared.event.Trace.{Trace}
-use Rattle.geo_site.specs.declared.event.Trace.TheVariants.{Replied, Sent, SendRefused, Taken, TakeRefused}
-use Rattle.geo_site.specs.Entries.{names, entry_in, found_at, found_of, unique_if, cas_of, Basis, replied, issued, is_crowded, lacks, owed}
-use Rattle.geo_site.specs.Schedule.{Known, visible, basis, RepliesTo, happens, known, Lawful, EachLawful}
+use Rattle.geo_site.specs.declared.event.Trace.TheVariants.{Replied, Sent, SendRefused, Taken, TakeRefused, Ticked, Reaped, ReapRefused}
+use Rattle.geo_site.specs.Entries.{names, entry_in, renewed, found_at, found_of, found_after, touched_after, is_stuck, unique_if, cas_of, Basis, replied, issued, is_crowded, lacks, owed}
+use Rattle.geo_site.specs.Schedule.{Known, visible, basis, flushed, RepliesTo, RepliesBy, happens, known, Lawful, EachLawful}
 use Rattle.geo_site.specs.Served.{Written, NoCollision, ServedBy, EachServed, values_in, ReplyServes, TraceServes, AllServe}
 use Rattle.geo_site.proofs.Registers.{found}
 use Rattle.geo_site.proofs.Records.{B, above_is}
-use Rattle.geo_site.proofs.Verdicts.{stores_plain, deletes_plain, counts_plain}
-use Rattle.geo_site.proofs.Sound.{Sound, some_same, some_none, sound_happens, grown}
+use Rattle.geo_site.proofs.Verdicts.{stores_plain, deletes_plain, touches_plain, counts_plain}
+use Rattle.geo_site.proofs.Sound.{Sound, some_same, some_none, sound_happens, sound_flushed, grown, grown_replied}
 
 both_true : (a b : Bool) → a && b ≡ true → (a ≡ true) × (b ≡ true)
 both_true true b h = (refl, h)
@@ -128,12 +129,40 @@ module _ (w : Known) (s : ℕ) (sound : Sound w) (apart : NoCollision w) where
       (serve_at now numbers q (w.held s q) (version_of (w.at s) q) refl refl)
       (serve_keys now numbers keys)
 
+  -- a touched entry shows what it showed
+  serve_renewed : (now expiry : ℕ) (numbers : Bool) (q : List ℕ) (o : Option Entry) → EachServed w (w.at s) (found_at numbers q o) → EachServed w (w.at s) (found_at numbers q (renewed now expiry o))
+  serve_renewed now expiry numbers q None h = tt
+  serve_renewed now expiry numbers q (Some e) h = by (is_live expiry now)
+    where
+      by : (t : Bool) → EachServed w (w.at s) (found_at numbers q (cond t (Some (record { bytes = e.bytes; flags = e.flags; expiry = expiry; unique = e.unique })) None))
+      by true = h
+      by false = tt
+
+  serve_after : (now expiry : ℕ) (numbers : Bool) (before : List (List ℕ)) (q : List ℕ) → EachServed w (w.at s) (found_after now expiry numbers (visible w s now) before q)
+  serve_after now expiry numbers before q = by (list_any (same_key q) before)
+    where
+      plain : EachServed w (w.at s) (found_at numbers q (visible w s now q))
+      plain = serve_at now numbers q (w.held s q) (version_of (w.at s) q) refl refl
+
+      by : (t : Bool) → EachServed w (w.at s) (found_at numbers q (cond t (renewed now expiry (visible w s now q)) (visible w s now q)))
+      by true = serve_renewed now expiry numbers q (visible w s now q) plain
+      by false = plain
+
+  serve_touched : (now expiry : ℕ) (numbers : Bool) (before keys : List (List ℕ)) → EachServed w (w.at s) (touched_after now expiry numbers (visible w s now) before keys)
+  serve_touched now expiry numbers before [] = tt
+  serve_touched now expiry numbers before (q ∷ keys) = served_append (found_after now expiry numbers (visible w s now) before q) (touched_after now expiry numbers (visible w s now) (before ++ q ∷ []) keys)
+      (serve_after now expiry numbers before q)
+      (serve_touched now expiry numbers (before ++ q ∷ []) keys)
+
   silent : (r : Reply) → values_in r ≡ [] → ReplyServes w s r
   silent r h = subst (λ xs. EachServed w (w.at s) xs) (sym h) tt
 
   serve_plain : (now : ℕ) (stats : Stats) (request : Request) → ReplyServes w s (replied now (visible w s now) stats request)
   serve_plain now stats (Store verb key flags exptime unique bytes noreply) = silent (stores verb flags exptime unique bytes now (visible w s now key)).0 (stores_plain verb flags exptime unique bytes now (visible w s now key)).silent
   serve_plain now stats (Fetch keys numbers) = serve_keys now numbers keys
+  serve_plain now stats (FetchTouch exptime keys numbers) = serve_touched now (expiry_at exptime now) numbers [] keys
+  serve_plain now stats (request.Touch key exptime noreply) = silent (touches exptime now (visible w s now key)).0 (touches_plain exptime now (visible w s now key)).silent
+  serve_plain now stats (FlushAll delay noreply) = tt
   serve_plain now stats (request.Delete key noreply) = silent (deletes (visible w s now key)).0 (deletes_plain (visible w s now key)).silent
   serve_plain now stats (Arith up key by noreply) = silent (counts up by (visible w s now key)).0 (counts_plain up by (visible w s now key)).silent
   serve_plain now stats ShowVersion = tt
@@ -158,22 +187,55 @@ module _ (w : Known) (s : ℕ) (sound : Sound w) (apart : NoCollision w) where
     | inr e ↦ subst (λ r. ReplyServes w s r) (sym e.0) tt
   ]
 
-serve_trace : (w : Known) (e : Event) (t : Trace) → Sound w → NoCollision w → Lawful w e t → TraceServes w e t
-serve_trace w (Command s now request) (Replied reply) sound apart h = serve_reply w s sound apart now request reply h
-serve_trace w (Send s to) (Replied reply) sound apart h = absurd h
-serve_trace w (Take s p) (Replied reply) sound apart h = absurd h
+serve_by : (stuck : Bool) (w : Known) (s now : ℕ) (request : Request) (reply : Reply) → Sound w → NoCollision w → RepliesBy stuck w s now request reply → ReplyServes w s reply
+serve_by true w s now request reply sound apart h = subst (λ r. ReplyServes w s r) (sym h) tt
+serve_by false w s now request reply sound apart h = serve_reply w s sound apart now request reply h
+
+written_replied : (w : Known) (s now : ℕ) (request : Request) (reply : Reply) (bytes : List ℕ) → Written (flushed w s now) bytes → Written (happens w (Command s now request) (Replied reply)) bytes
+written_replied w s now request reply bytes h = record { site = h.site; writing = record { op = h.writing.op; among = grown_replied w s now request reply h.site h.writing.op h.writing.among; key = h.writing.key; flags = h.writing.flags; expiry = h.writing.expiry; is = h.writing.is } }
+
+-- what is known after the event has no collision
+serve_trace : (w : Known) (e : Event) (t : Trace) → Sound w → NoCollision (happens w e t) → Lawful w e t → TraceServes w e t
+serve_trace w (Command s now request) (Replied reply) sound apart h = serve_by (is_stuck (w.waiting s) (latest (w.at s)) now) (flushed w s now) s now request reply (sound_flushed w s now sound) (λ a b x y. apart a b (written_replied w s now request reply a x) (written_replied w s now request reply b y)) h
 serve_trace w (Command s now request) Sent sound apart h = tt
 serve_trace w (Command s now request) (SendRefused why) sound apart h = tt
 serve_trace w (Command s now request) Taken sound apart h = tt
 serve_trace w (Command s now request) (TakeRefused why) sound apart h = tt
+serve_trace w (Command s now request) (Ticked done) sound apart h = tt
+serve_trace w (Command s now request) (Reaped done) sound apart h = tt
+serve_trace w (Command s now request) (ReapRefused why) sound apart h = tt
+serve_trace w (Send s to) (Replied reply) sound apart h = absurd h
 serve_trace w (Send s to) Sent sound apart h = tt
 serve_trace w (Send s to) (SendRefused why) sound apart h = tt
 serve_trace w (Send s to) Taken sound apart h = tt
 serve_trace w (Send s to) (TakeRefused why) sound apart h = tt
+serve_trace w (Send s to) (Ticked done) sound apart h = tt
+serve_trace w (Send s to) (Reaped done) sound apart h = tt
+serve_trace w (Send s to) (ReapRefused why) sound apart h = tt
+serve_trace w (Take s p) (Replied reply) sound apart h = absurd h
 serve_trace w (Take s p) Sent sound apart h = tt
 serve_trace w (Take s p) (SendRefused why) sound apart h = tt
 serve_trace w (Take s p) Taken sound apart h = tt
 serve_trace w (Take s p) (TakeRefused why) sound apart h = tt
+serve_trace w (Take s p) (Ticked done) sound apart h = tt
+serve_trace w (Take s p) (Reaped done) sound apart h = tt
+serve_trace w (Take s p) (ReapRefused why) sound apart h = tt
+serve_trace w (Tick s now) (Replied reply) sound apart h = absurd h
+serve_trace w (Tick s now) Sent sound apart h = tt
+serve_trace w (Tick s now) (SendRefused why) sound apart h = tt
+serve_trace w (Tick s now) Taken sound apart h = tt
+serve_trace w (Tick s now) (TakeRefused why) sound apart h = tt
+serve_trace w (Tick s now) (Ticked done) sound apart h = tt
+serve_trace w (Tick s now) (Reaped done) sound apart h = tt
+serve_trace w (Tick s now) (ReapRefused why) sound apart h = tt
+serve_trace w (Reap s now key) (Replied reply) sound apart h = absurd h
+serve_trace w (Reap s now key) Sent sound apart h = tt
+serve_trace w (Reap s now key) (SendRefused why) sound apart h = tt
+serve_trace w (Reap s now key) Taken sound apart h = tt
+serve_trace w (Reap s now key) (TakeRefused why) sound apart h = tt
+serve_trace w (Reap s now key) (Ticked done) sound apart h = tt
+serve_trace w (Reap s now key) (Reaped done) sound apart h = tt
+serve_trace w (Reap s now key) (ReapRefused why) sound apart h = tt
 
 grown_all : (w : Known) (es : List Event) (ts : List Trace) (s : ℕ) (op : Operation) → Among (w.at s) op → Among ((known w es ts).at s) op
 grown_all w [] ts s op a = a
@@ -188,7 +250,7 @@ pub all_serve : (w : Known) (es : List Event) (ts : List Trace) → Sound w → 
 all_serve w [] ts sound lawful apart = tt
 all_serve w (e ∷ es) [] sound lawful apart = tt
 all_serve w (e ∷ es) (t ∷ ts) sound lawful apart = (
-  serve_trace w e t sound (λ a b x y. apart a b (written_all w (e ∷ es) (t ∷ ts) a x) (written_all w (e ∷ es) (t ∷ ts) b y)) lawful.0,
+  serve_trace w e t sound (λ a b x y. apart a b (written_all (happens w e t) es ts a x) (written_all (happens w e t) es ts b y)) lawful.0,
   all_serve (happens w e t) es ts (sound_happens w e t sound) lawful.1 apart,
 )
 

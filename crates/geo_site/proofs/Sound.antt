@@ -4,16 +4,19 @@ use Rattle.std.proofs.lemmas.Bool.{cases_eq}
 use Rattle.std.proofs.lemmas.Bool.Decides.{eqb_tells}
 use Rattle.geo_stamp.specs.Stamps.{Moment}
 use Rattle.geo_versions.specs.Keys.{same_key}
-use Rattle.geo_versions.specs.Operations.{Operation, Act, Among, version_of}
+use Rattle.geo_versions.specs.Operations.{Operation, Act, Among, version_of, latest}
 use Rattle.geo_versions.specs.Operations.Act.{Write, Delete, Touch, Flush}
 use Rattle.geo_versions.specs.declared.version.Version.{Version}
 use Rattle.geo_site.specs.declared.event.Event.{Event}
-use Rattle.geo_site.specs.declared.event.Event.TheVariants.{Command, Send, Take}
+use Rattle.geo_site.specs.declared.event.Event.TheVariants.{Command, Send, Take, Tick, Reap}
 use Rattle.geo_site.specs.declared.event.Trace.{Trace}
-use Rattle.geo_site.specs.declared.event.Trace.TheVariants.{Replied, Sent, SendRefused, Taken, TakeRefused}
-use Rattle.geo_site.specs.Entries.{Held, Counts, names, named_by, is_done}
+use Rattle.geo_site.specs.declared.event.Trace.TheVariants.{Replied, Sent, SendRefused, Taken, TakeRefused, Ticked, Reaped, ReapRefused}
+use Rattle.geo_site.specs.declared.setup.Limits.{Limits}
+use Rattle.geo_grammar.specs.declared.request.Request.{Request}
+use Rattle.geo_grammar.specs.declared.reply.Reply.{Reply}
+use Rattle.geo_site.specs.Entries.{Held, Counts, counted, names, named_by, waits_after, due_acts, waits_on, is_done}
 use Rattle.geo_site.specs.Machine.{act_held}
-use Rattle.geo_site.specs.Schedule.{Known, nothing_known, still_held, settles, new_operation, issues, learns, carried, issues_on, counts_keys, carries_out, happens}
+use Rattle.geo_site.specs.Schedule.{Known, nothing_known, still_held, settles, new_operation, issues, learns, carried, issues_on, counts_keys, carries_out, happens, waits, flushed, visible, reaps_on}
 use Rattle.geo_site.specs.Served.{Writing}
 use Rattle.geo_site.proofs.Steps.{among_append, at_most_latest}
 
@@ -180,7 +183,7 @@ sent_more [] x (suc p) op h = inl h
 sent_more (y ∷ xs) x zero op h = inl h
 sent_more (y ∷ xs) x (suc p) op h = sent_more xs x p op h
 
-pub sound_sends : (w : Known) (s to : ℕ) → Sound w → Sound (record { at = w.at; held = w.held; counts = w.counts; limit = w.limit; sent = w.sent ++ (to, w.at s) ∷ [] })
+pub sound_sends : (w : Known) (s to : ℕ) → Sound w → Sound (record { at = w.at; held = w.held; counts = w.counts; waiting = w.waiting; limits = w.limits; sent = w.sent ++ (to, w.at s) ∷ [] })
 sound_sends w s to sound = record {
   home = sound.home;
   home_sent = λ p op a. elim (sent_more w.sent (to, w.at s) p op a) [ inl x ↦ sound.home_sent p op x | inr x ↦ sound.home s op x ];
@@ -197,25 +200,63 @@ sound_done : (t : Bool) (w v : Known) → Sound w → Sound v → Sound (cond t 
 sound_done true w v a b = b
 sound_done false w v a b = a
 
+-- no more is a flush that waits
+sound_waits : (w : Known) (s : ℕ) (waiting : Option ℕ) → Sound w → Sound (waits w s waiting)
+sound_waits w s waiting sound = record { home = sound.home; home_sent = sound.home_sent; once = sound.once; written = sound.written; named = sound.named }
+
+pub sound_flushed : (w : Known) (s now : ℕ) → Sound w → Sound (flushed w s now)
+sound_flushed w s now sound = let acts = due_acts (w.waiting s) (latest (w.at s)) now in sound_waits (issues w s acts) s (waits_on (w.waiting s) (latest (w.at s)) now) (sound_issues w s acts sound)
+
+sound_carries : (w : Known) (s now : ℕ) (request : Request) → Sound w → Sound (carries_out w s now request)
+sound_carries w s now request sound =
+    let acts = issues_on w s now request in
+    let counts = counted (visible w s now) request (w.counts s) in
+    sound_waits (counts_keys (issues w s acts) s counts) s (waits_after now request (w.waiting s)) (sound_counts (issues w s acts) s counts (sound_issues w s acts sound))
+
 pub sound_happens : (w : Known) (e : Event) (t : Trace) → Sound w → Sound (happens w e t)
-sound_happens w (Command s now request) (Replied reply) sound = sound_done (is_done reply) w (carries_out w s now request) sound (sound_counts (issues w s (issues_on w s now request)) s _ (sound_issues w s (issues_on w s now request) sound))
+sound_happens w (Command s now request) (Replied reply) sound = let v = flushed w s now in let ok = sound_flushed w s now sound in sound_done (is_done reply) v (carries_out v s now request) ok (sound_carries v s now request ok)
 sound_happens w (Command s now request) Sent sound = sound
 sound_happens w (Command s now request) (SendRefused why) sound = sound
 sound_happens w (Command s now request) Taken sound = sound
 sound_happens w (Command s now request) (TakeRefused why) sound = sound
+sound_happens w (Command s now request) (Ticked done) sound = sound
+sound_happens w (Command s now request) (Reaped done) sound = sound
+sound_happens w (Command s now request) (ReapRefused why) sound = sound
+sound_happens w (Send s to) (Replied reply) sound = sound
 sound_happens w (Send s to) Sent sound = sound_sends w s to sound
-sound_happens w (Send s to) (Replied r) sound = sound
 sound_happens w (Send s to) (SendRefused why) sound = sound
 sound_happens w (Send s to) Taken sound = sound
 sound_happens w (Send s to) (TakeRefused why) sound = sound
-sound_happens w (Take s p) Taken sound = sound_takes w s p sound
-sound_happens w (Take s p) (Replied r) sound = sound
+sound_happens w (Send s to) (Ticked done) sound = sound
+sound_happens w (Send s to) (Reaped done) sound = sound
+sound_happens w (Send s to) (ReapRefused why) sound = sound
+sound_happens w (Take s p) (Replied reply) sound = sound
 sound_happens w (Take s p) Sent sound = sound
 sound_happens w (Take s p) (SendRefused why) sound = sound
+sound_happens w (Take s p) Taken sound = sound_takes w s p sound
 sound_happens w (Take s p) (TakeRefused why) sound = sound
+sound_happens w (Take s p) (Ticked done) sound = sound
+sound_happens w (Take s p) (Reaped done) sound = sound
+sound_happens w (Take s p) (ReapRefused why) sound = sound
+sound_happens w (Tick s now) (Replied reply) sound = sound
+sound_happens w (Tick s now) Sent sound = sound
+sound_happens w (Tick s now) (SendRefused why) sound = sound
+sound_happens w (Tick s now) Taken sound = sound
+sound_happens w (Tick s now) (TakeRefused why) sound = sound
+sound_happens w (Tick s now) (Ticked done) sound = sound_flushed w s now sound
+sound_happens w (Tick s now) (Reaped done) sound = sound
+sound_happens w (Tick s now) (ReapRefused why) sound = sound
+sound_happens w (Reap s now key) (Replied reply) sound = sound
+sound_happens w (Reap s now key) Sent sound = sound
+sound_happens w (Reap s now key) (SendRefused why) sound = sound
+sound_happens w (Reap s now key) Taken sound = sound
+sound_happens w (Reap s now key) (TakeRefused why) sound = sound
+sound_happens w (Reap s now key) (Ticked done) sound = sound
+sound_happens w (Reap s now key) (Reaped done) sound = let v = flushed w s now in sound_issues v s (reaps_on v s now key) (sound_flushed w s now sound)
+sound_happens w (Reap s now key) (ReapRefused why) sound = sound_flushed w s now sound
 
-pub sound_nothing : (limit : ℕ → ℕ) → Sound (nothing_known limit)
-sound_nothing limit = record {
+pub sound_nothing : (limits : ℕ → Limits) → Sound (nothing_known limits)
+sound_nothing limits = record {
   home = λ t op a. absurd a;
   home_sent = λ p op a. absurd (none p op a);
   once = λ t a b x y e. absurd x;
@@ -236,19 +277,50 @@ grown_done : (b : Bool) (w v : Known) (t : ℕ) (op : Operation) → Among (w.at
 grown_done true w v t op a c = c
 grown_done false w v t op a c = a
 
-pub grown : (w : Known) (e : Event) (t : Trace) (s : ℕ) (op : Operation) → Among (w.at s) op → Among ((happens w e t).at s) op
-grown w (Command s now request) (Replied reply) t op a = grown_done (is_done reply) w (carries_out w s now request) t op a (grown_issues w s (issues_on w s now request) t op a)
+pub grown_flushed : (w : Known) (s now t : ℕ) (op : Operation) → Among (w.at t) op → Among ((flushed w s now).at t) op
+grown_flushed w s now t op a = grown_issues w s (due_acts (w.waiting s) (latest (w.at s)) now) t op a
+
+pub grown_replied : (w : Known) (s now : ℕ) (request : Request) (reply : Reply) (t : ℕ) (op : Operation) → Among ((flushed w s now).at t) op → Among ((happens w (Command s now request) (Replied reply)).at t) op
+grown_replied w s now request reply t op a = let v = flushed w s now in grown_done (is_done reply) v (carries_out v s now request) t op a (grown_issues v s (issues_on v s now request) t op a)
+
+pub grown : (w : Known) (e : Event) (t : Trace) (k : ℕ) (op : Operation) → Among (w.at k) op → Among ((happens w e t).at k) op
+grown w (Command s now request) (Replied reply) t op a = grown_replied w s now request reply t op (grown_flushed w s now t op a)
 grown w (Command s now request) Sent t op a = a
 grown w (Command s now request) (SendRefused why) t op a = a
 grown w (Command s now request) Taken t op a = a
 grown w (Command s now request) (TakeRefused why) t op a = a
+grown w (Command s now request) (Ticked done) t op a = a
+grown w (Command s now request) (Reaped done) t op a = a
+grown w (Command s now request) (ReapRefused why) t op a = a
+grown w (Send s to) (Replied reply) t op a = a
 grown w (Send s to) Sent t op a = a
-grown w (Send s to) (Replied r) t op a = a
 grown w (Send s to) (SendRefused why) t op a = a
 grown w (Send s to) Taken t op a = a
 grown w (Send s to) (TakeRefused why) t op a = a
-grown w (Take s p) Taken t op a = grows w s (carried w p) (w.held s) t op a
-grown w (Take s p) (Replied r) t op a = a
+grown w (Send s to) (Ticked done) t op a = a
+grown w (Send s to) (Reaped done) t op a = a
+grown w (Send s to) (ReapRefused why) t op a = a
+grown w (Take s p) (Replied reply) t op a = a
 grown w (Take s p) Sent t op a = a
 grown w (Take s p) (SendRefused why) t op a = a
+grown w (Take s p) Taken t op a = grows w s (carried w p) (w.held s) t op a
 grown w (Take s p) (TakeRefused why) t op a = a
+grown w (Take s p) (Ticked done) t op a = a
+grown w (Take s p) (Reaped done) t op a = a
+grown w (Take s p) (ReapRefused why) t op a = a
+grown w (Tick s now) (Replied reply) t op a = a
+grown w (Tick s now) Sent t op a = a
+grown w (Tick s now) (SendRefused why) t op a = a
+grown w (Tick s now) Taken t op a = a
+grown w (Tick s now) (TakeRefused why) t op a = a
+grown w (Tick s now) (Ticked done) t op a = grown_flushed w s now t op a
+grown w (Tick s now) (Reaped done) t op a = a
+grown w (Tick s now) (ReapRefused why) t op a = a
+grown w (Reap s now key) (Replied reply) t op a = a
+grown w (Reap s now key) Sent t op a = a
+grown w (Reap s now key) (SendRefused why) t op a = a
+grown w (Reap s now key) Taken t op a = a
+grown w (Reap s now key) (TakeRefused why) t op a = a
+grown w (Reap s now key) (Ticked done) t op a = a
+grown w (Reap s now key) (Reaped done) t op a = let v = flushed w s now in grown_issues v s (reaps_on v s now key) t op (grown_flushed w s now t op a)
+grown w (Reap s now key) (ReapRefused why) t op a = grown_flushed w s now t op a

@@ -103,7 +103,7 @@ never t h = absurd h
 pub state_version : (n s : ℕ) (st : SiteState) (ops : List Operation) (held : Held) (key : List ℕ) → StateOf n s st ops held → version_in (st.map key) ≡ version_of ops key
 state_version n s st ops held key ok = holds_version NoTime (st.map key) ops key (ok.holds key)
 
-act_held_same : (act : Act) (a b : Held) (key : List ℕ) → a key ≡ b key → act_held act a key ≡ act_held act b key
+pub act_held_same : (act : Act) (a b : Held) (key : List ℕ) → a key ≡ b key → act_held act a key ≡ act_held act b key
 act_held_same (Write k bytes flags expiry) a b key e = ap (λ o. cond (same_key key k) (Some bytes) o) e
 act_held_same (Delete k) a b key e = e
 act_held_same (Touch k expiry) a b key e = e

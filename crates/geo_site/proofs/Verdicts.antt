@@ -11,8 +11,9 @@ use Rattle.geo_grammar.specs.declared.request.Verb.{Verb}
 use Rattle.geo_grammar.specs.declared.request.Verb.TheVariants.{Set, Add, Replace, Append, Prepend, Cas}
 use Rattle.geo_grammar.specs.declared.reply.Reply.TheVariants.{Stored, TooLarge}
 use Rattle.geo_memcache.specs.Entries.{Entry, expiry_at}
-use Rattle.geo_memcache.specs.Decisions.{Verdict, unless_long, keeps, makes, is_seen, stores, deletes, number_in, counted, counts_from, counts}
-use Rattle.geo_memcache.specs.declared.decision.Effect.TheVariants.{Nothing, Keep, Made}
+use Rattle.geo_memcache.specs.Decisions.{Verdict, unless_long, keeps, makes, is_seen, stores, deletes, touches, number_in, counted, counts_from, counts}
+use Rattle.geo_memcache.specs.declared.decision.Effect.TheVariants.{Nothing, Keep, Made, Renew, Tomb}
+use Rattle.geo_memcache.specs.declared.decision.Effect.{Effect}
 use Rattle.geo_site.specs.Entries.{is_done}
 use Rattle.geo_site.specs.Served.{values_in}
 use Rattle.geo_site.specs.Changes.{IsShort}
@@ -20,7 +21,7 @@ use Rattle.geo_site.specs.Changes.{IsShort}
 some_same : {A : Type 0} {x y : A} → Some x ≡ Some y → x ≡ y
 some_same h = cc
 
-none_some : {A : Type 0} {x : A} → None ≡ Some x → ⊥
+pub none_some : {A : Type 0} {x : A} → None ≡ Some x → ⊥
 none_some h = cc
 
 pub record Plain (v : Verdict) (bytes : List ℕ) : Type 0 where
@@ -61,6 +62,50 @@ stores_plain Cas flags exptime seen bytes now (Some e) = by (is_seen seen e.uniq
 pub deletes_plain : (present : Option Entry) → Plain (deletes present) []
 deletes_plain None = record { silent = refl; done = refl; short = tt }
 deletes_plain (Some e) = record { silent = refl; done = refl; short = tt }
+
+pub touches_plain : (exptime : ℤ) (now : ℕ) (present : Option Entry) → Plain (touches exptime now present) []
+touches_plain exptime now None = record { silent = refl; done = refl; short = tt }
+touches_plain exptime now (Some e) = record { silent = refl; done = refl; short = tt }
+
+-- no store and no count renews anything
+abbrev pub is_renewal : Effect → Bool
+is_renewal Nothing = false
+is_renewal (Keep flags expiry) = false
+is_renewal (Made made flags expiry) = false
+is_renewal (Renew expiry) = true
+is_renewal Tomb = false
+
+unless_long_fixed : (made : List ℕ) (v : Verdict) → is_renewal v.1 ≡ false → is_renewal (unless_long made v).1 ≡ false
+unless_long_fixed made v h = by (nat_lt longest_value (length made))
+  where
+    by : (t : Bool) → is_renewal (cond {A = Verdict} t (TooLarge, Nothing) v).1 ≡ false
+    by true = refl
+    by false = h
+
+pub stores_fixed : (verb : Verb) (flags : ℕ) (exptime : ℤ) (seen : Option ℕ) (bytes : List ℕ) (now : ℕ) (present : Option Entry) → is_renewal (stores verb flags exptime seen bytes now present).1 ≡ false
+stores_fixed Set flags exptime seen bytes now present = unless_long_fixed bytes (Stored, Keep flags (expiry_at exptime now)) refl
+stores_fixed Add flags exptime seen bytes now None = unless_long_fixed bytes (Stored, Keep flags (expiry_at exptime now)) refl
+stores_fixed Add flags exptime seen bytes now (Some e) = refl
+stores_fixed Replace flags exptime seen bytes now None = refl
+stores_fixed Replace flags exptime seen bytes now (Some e) = unless_long_fixed bytes (Stored, Keep flags (expiry_at exptime now)) refl
+stores_fixed Append flags exptime seen bytes now None = refl
+stores_fixed Append flags exptime seen bytes now (Some e) = let made = Rattle.std.specs.Prelude.◌++◌ e.bytes bytes in unless_long_fixed made (Stored, Made made e.flags e.expiry) refl
+stores_fixed Prepend flags exptime seen bytes now None = refl
+stores_fixed Prepend flags exptime seen bytes now (Some e) = let made = Rattle.std.specs.Prelude.◌++◌ bytes e.bytes in unless_long_fixed made (Stored, Made made e.flags e.expiry) refl
+stores_fixed Cas flags exptime seen bytes now None = refl
+stores_fixed Cas flags exptime seen bytes now (Some e) = by (is_seen seen e.unique)
+  where
+    by : (t : Bool) → is_renewal (cond {A = Verdict} t (keeps flags exptime bytes now) (Rattle.geo_grammar.specs.declared.reply.Reply.TheVariants.Exists, Nothing)).1 ≡ false
+    by true = unless_long_fixed bytes (Stored, Keep flags (expiry_at exptime now)) refl
+    by false = refl
+
+counts_from_fixed : (up : Bool) (by : ℕ) (e : Entry) (o : Option ℕ) → is_renewal (counts_from up by e o).1 ≡ false
+counts_from_fixed up by e None = refl
+counts_from_fixed up by e (Some n) = refl
+
+pub counts_fixed : (up : Bool) (by : ℕ) (present : Option Entry) → is_renewal (counts up by present).1 ≡ false
+counts_fixed up by None = refl
+counts_fixed up by (Some e) = counts_from_fixed up by e (number_in e.bytes)
 
 -- a number that is written is at most the greatest
 number_at_most : (most : ℕ) (word : List ℕ) (n : ℕ) → number_of most word ≡ Some n → n ≤ most

@@ -1,20 +1,21 @@
 -- What a request changes at one key, step by step: its stamp, its effect, and the reply.
-use Rattle.std.specs.Prelude.{◌≡◌, ◌⊎◌, ℕ, ◌+◌, ◌≤◌, ◌<◌, Bool, true, false, not, ◌&&◌, nat_le, List, [], length, Result, Ok, Err}
+use Rattle.std.specs.Prelude.{◌≡◌, ◌⊎◌, ℕ, ◌+◌, ◌≤◌, ◌<◌, Bool, true, false, not, ◌&&◌, nat_le, List, [], length, None, Result, Ok, Err}
+use Rattle.std.specs.List.{list_any}
 use Rattle.geo_stamp.specs.Stamps.{Moment, last_time}
 use Rattle.geo_versions.specs.Maps.{has_register}
 use Rattle.geo_grammar.specs.declared.reply.Reply.{Reply}
 use Rattle.geo_grammar.specs.declared.reply.Reply.TheVariants as reply
 use Rattle.geo_memcache.specs.declared.ask.Ask.{Ask}
-use Rattle.geo_memcache.specs.declared.ask.Ask.TheVariants.{Store, Fetch, Delete, Arith}
+use Rattle.geo_memcache.specs.declared.ask.Ask.TheVariants.{Store, Fetch, FetchTouch, Delete, Touch, Arith}
 use Rattle.geo_memcache.specs.declared.decision.Decision.{Decision}
 use Rattle.geo_memcache.specs.declared.decision.Answer.TheVariants as answer
 use Rattle.geo_memcache.specs.declared.decision.Effect.{Effect}
-use Rattle.geo_memcache.specs.declared.decision.Effect.TheVariants.{Nothing, Keep, Made, Tomb}
+use Rattle.geo_memcache.specs.declared.decision.Effect.TheVariants.{Nothing, Keep, Made, Renew, Tomb}
 use Rattle.geo_grammar.specs.Limits.{longest_value}
 use Rattle.geo_site.specs.declared.site.Site.{Site}
 use Rattle.geo_site.specs.declared.refusal.WriteError.{WriteError}
 use Rattle.geo_site.specs.declared.refusal.WriteError.TheVariants.{MapFull, ClockEnded, Memory}
-use Rattle.geo_site.specs.Entries.{acts_of, is_some_act}
+use Rattle.geo_site.specs.Entries.{acts_of, is_some_act, is_growth}
 use Rattle.geo_site.specs.Machine.{Same, clock_of}
 use Rattle.geo_site.specs.Sites.{state_in, most_records, record_count, HasIssued}
 
@@ -22,14 +23,18 @@ use Rattle.geo_site.specs.Sites.{state_in, most_records, record_count, HasIssued
 abbrev pub is_change : Ask → Bool
 is_change (Store verb flags exptime unique bytes) = true
 is_change (Fetch numbers) = false
+is_change (FetchTouch exptime numbers) = false
 is_change Delete = true
+is_change (Touch exptime) = true
 is_change (Arith up by) = true
 
 -- the bytes that are asked to be stored
 abbrev pub bytes_in : Ask → List ℕ
 bytes_in (Store verb flags exptime unique bytes) = bytes.now
 bytes_in (Fetch numbers) = []
+bytes_in (FetchTouch exptime numbers) = []
 bytes_in Delete = []
+bytes_in (Touch exptime) = []
 bytes_in (Arith up by) = []
 
 -- the next stamp of a site
@@ -59,12 +64,34 @@ abbrev pub IsShort : Effect → List ℕ → Type 0
 IsShort Nothing bytes = Unit {0}
 IsShort (Keep flags expiry) bytes = length bytes ≤ longest_value
 IsShort (Made made flags expiry) bytes = length made ≤ longest_value
+IsShort (Renew expiry) bytes = Unit {0}
 IsShort Tomb bytes = Unit {0}
+
+-- a key whose expiry is renewed has a record
+abbrev pub HasRecord : Site → List ℕ → Type 0
+HasRecord site key = (state_in site).map key ≡ (None, None) → ⊥
+
+-- and a key that is visible has a body there
+abbrev pub HasBody : Site → List ℕ → Type 0
+HasBody site key = ((state_in site).map key).0 ≡ None → ⊥
+
+abbrev pub IsThere : Site → List ℕ → Effect → Type 0
+IsThere site key Nothing = Unit {0}
+IsThere site key (Keep flags expiry) = Unit {0}
+IsThere site key (Made made flags expiry) = Unit {0}
+IsThere site key (Renew expiry) = HasRecord site key
+IsThere site key Tomb = Unit {0}
+
+-- memory is wanted to write and to delete alone
+abbrev pub is_memory : WriteError → Bool
+is_memory MapFull = false
+is_memory ClockEnded = false
+is_memory Memory = true
 
 -- what becomes of a site by an effect on a key, by its result
 abbrev pub EffectDoes : Site → Site → List ℕ → List ℕ → Effect → Result (Unit {0}) WriteError → Type 0
 EffectDoes old new key bytes effect (Ok done) = (is_some_act (acts_of key bytes effect) ≡ true → CanWrite old key) × HasIssued old new (acts_of key bytes effect)
-EffectDoes old new key bytes effect (Err why) = (is_some_act (acts_of key bytes effect) ≡ true) × WriteRefuses old key why × Same (state_in old) (state_in new)
+EffectDoes old new key bytes effect (Err why) = (is_some_act (acts_of key bytes effect) ≡ true) × (is_memory why ≡ true → list_any is_growth (acts_of key bytes effect) ≡ true) × WriteRefuses old key why × Same (state_in old) (state_in new)
 
 -- the reply is the decision's and its effect was carried out, or it was refused and changes nothing
 abbrev pub ChangeDoes : Site → Site → List ℕ → List ℕ → Decision → Reply → Type 0

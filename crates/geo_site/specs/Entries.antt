@@ -1,9 +1,10 @@
 -- Plain memcached (protocol.txt) over the keys that are visible: what it answers, and what it issues.
-use Rattle.std.specs.Prelude.{◌≡◌, ℕ, ◌+◌, ◌-◌, ◌*◌, min, not, Bool, true, false, cond, ◌==◌, ◌&&◌, ◌||◌, nat_lt, List, [], ◌∷◌, ◌++◌, length, Option, None, Some, ◌⊎◌, if◌then◌else◌}
+use Rattle.std.specs.Prelude.{◌≡◌, ℕ, ℤ, ◌+◌, ◌-◌, ◌*◌, min, not, Bool, true, false, cond, ◌==◌, ◌&&◌, ◌||◌, nat_lt, List, [], ◌∷◌, ◌++◌, length, Option, None, Some, ◌⊎◌, if◌then◌else◌, nat_le, map}
 use Rattle.std.specs.List.{list_any}
 use Rattle.std.specs.Str.{bytes_eq}
 use Rattle.sha2.specs.Sha256.{sha256}
 use Rattle.geo_stamp.specs.Stamps.{Moment, last_time}
+use Rattle.geo_versions.specs.Keys.{same_key}
 use Rattle.geo_versions.specs.Operations.{Act}
 use Rattle.geo_versions.specs.Operations.Act.{Write, Delete, Touch, Flush}
 use Rattle.geo_versions.specs.declared.version.Version.{Version}
@@ -14,10 +15,10 @@ use Rattle.geo_grammar.specs.declared.reply.Reply.{Reply}
 use Rattle.geo_grammar.specs.declared.reply.Reply.TheVariants as reply
 use Rattle.geo_grammar.specs.declared.reply.Found.{Found}
 use Rattle.geo_grammar.specs.declared.stats.Stats.{Stats}
-use Rattle.geo_memcache.specs.Entries.{Entry, is_live}
-use Rattle.geo_memcache.specs.Decisions.{stores, deletes, counts}
+use Rattle.geo_memcache.specs.Entries.{Entry, expiry_at, is_live}
+use Rattle.geo_memcache.specs.Decisions.{stores, deletes, touches, counts}
 use Rattle.geo_memcache.specs.declared.decision.Effect.{Effect}
-use Rattle.geo_memcache.specs.declared.decision.Effect.TheVariants.{Nothing, Keep, Made, Tomb}
+use Rattle.geo_memcache.specs.declared.decision.Effect.TheVariants.{Nothing, Keep, Made, Renew, Tomb}
 
 -- a version names the bytes of its SHA-256 and length
 abbrev pub names : Option Version → List ℕ → Bool
@@ -62,12 +63,46 @@ abbrev pub found_of : Bool → Visible → List (List ℕ) → List Found
 found_of numbers visible [] = []
 found_of numbers visible (key ∷ keys) = found_at numbers key (visible key) ++ found_of numbers visible keys
 
+-- what a touch leaves of an entry: it has another expiry, or is live no longer
+abbrev pub renewed : ℕ → ℕ → Option Entry → Option Entry
+renewed now expiry None = None
+renewed now expiry (Some e) = cond (is_live expiry now) (Some (record { bytes = e.bytes; flags = e.flags; expiry = expiry; unique = e.unique })) None
+
+-- what is visible of a key after touches of others
+abbrev pub after_touches : ℕ → ℕ → List (List ℕ) → List ℕ → Option Entry → Option Entry
+after_touches now expiry others key entry = cond (list_any (same_key key) others) (renewed now expiry entry) entry
+
+abbrev pub found_after : ℕ → ℕ → Bool → Visible → List (List ℕ) → List ℕ → List Found
+found_after now expiry numbers visible before key = found_at numbers key (after_touches now expiry before key (visible key))
+
+-- what a fetch that touches shows: one key after the other, each after the touches of those before it
+abbrev pub touched_after : ℕ → ℕ → Bool → Visible → List (List ℕ) → List (List ℕ) → List Found
+touched_after now expiry numbers visible before [] = []
+touched_after now expiry numbers visible before (key ∷ keys) = found_after now expiry numbers visible before key ++ touched_after now expiry numbers visible (before ++ key ∷ []) keys
+
+abbrev pub touched_of : ℕ → ℕ → Bool → Visible → List (List ℕ) → List Found
+touched_of now expiry numbers visible keys = touched_after now expiry numbers visible [] keys
+
+-- it touches each key that it shows
+abbrev pub touches_of : ℕ → List Found → List Act
+touches_of expiry found = map (λ (f : Found). Touch f.key expiry) found
+
+-- a flush_all whose moment has come already flushes at once
+abbrev pub flushes_now : ℤ → ℕ → Bool
+flushes_now delay now = nat_le (expiry_at delay now) now
+
+abbrev pub flush_acts : ℤ → ℕ → List Act
+flush_acts delay now = cond {A = List Act} (flushes_now delay now) (Flush ∷ []) []
+
 -- what plain memcached answers
 abbrev pub replied : ℕ → Visible → Stats → Request → Reply
 replied now visible stats (request.Store verb key flags exptime unique bytes noreply) = (stores verb flags exptime unique bytes now (visible key)).0
 replied now visible stats (request.Fetch keys numbers) = reply.Values (found_of numbers visible keys)
+replied now visible stats (request.FetchTouch exptime keys numbers) = reply.Values (touched_of now (expiry_at exptime now) numbers visible keys)
 replied now visible stats (request.Delete key noreply) = (deletes (visible key)).0
+replied now visible stats (request.Touch key exptime noreply) = (touches exptime now (visible key)).0
 replied now visible stats (request.Arith up key by noreply) = (counts up by (visible key)).0
+replied now visible stats (request.FlushAll delay noreply) = reply.Done
 replied now visible stats request.ShowVersion = reply.Version
 replied now visible stats (request.Verbosity noreply) = reply.Done
 replied now visible stats request.Stats = reply.Stats stats
@@ -78,18 +113,37 @@ abbrev pub acts_of : List ℕ → List ℕ → Effect → List Act
 acts_of key bytes Nothing = []
 acts_of key bytes (Keep flags expiry) = Write key bytes flags expiry ∷ []
 acts_of key bytes (Made made flags expiry) = Write key made flags expiry ∷ []
+acts_of key bytes (Renew expiry) = Touch key expiry ∷ []
 acts_of key bytes Tomb = Delete key ∷ []
 
 -- and what plain memcached issues
 abbrev pub issued : ℕ → Visible → Request → List Act
 issued now visible (request.Store verb key flags exptime unique bytes noreply) = acts_of key bytes (stores verb flags exptime unique bytes now (visible key)).1
 issued now visible (request.Fetch keys numbers) = []
+issued now visible (request.FetchTouch exptime keys numbers) = touches_of (expiry_at exptime now) (touched_of now (expiry_at exptime now) numbers visible keys)
 issued now visible (request.Delete key noreply) = acts_of key [] (deletes (visible key)).1
+issued now visible (request.Touch key exptime noreply) = acts_of key [] (touches exptime now (visible key)).1
 issued now visible (request.Arith up key by noreply) = acts_of key [] (counts up by (visible key)).1
+issued now visible (request.FlushAll delay noreply) = flush_acts delay now
 issued now visible request.ShowVersion = []
 issued now visible (request.Verbosity noreply) = []
 issued now visible request.Stats = []
 issued now visible request.Quit = []
+
+-- the moment of the flush that waits after a request: a later flush_all takes the place of the one that waited, and one that
+-- flushes at once leaves none
+abbrev pub waits_after : ℕ → Request → Option ℕ → Option ℕ
+waits_after now (request.Store verb key flags exptime unique bytes noreply) waiting = waiting
+waits_after now (request.Fetch keys numbers) waiting = waiting
+waits_after now (request.FetchTouch exptime keys numbers) waiting = waiting
+waits_after now (request.Delete key noreply) waiting = waiting
+waits_after now (request.Touch key exptime noreply) waiting = waiting
+waits_after now (request.Arith up key by noreply) waiting = waiting
+waits_after now (request.FlushAll delay noreply) waiting = cond (flushes_now delay now) None (Some (expiry_at delay now))
+waits_after now request.ShowVersion waiting = waiting
+waits_after now (request.Verbosity noreply) waiting = waiting
+waits_after now request.Stats waiting = waiting
+waits_after now request.Quit waiting = waiting
 
 -- how many keys were found, and how many were not; both stay at the greatest number that they can show
 pub record Counts : Type 0 where
@@ -102,12 +156,15 @@ none_counted = record { hits = 0; misses = 0 }
 abbrev pub counted_on : Counts → ℕ → ℕ → Counts
 counted_on c found missed = record { hits = min (c.hits + found) most_number; misses = min (c.misses + missed) most_number }
 
--- a fetch counts each of its keys, and no other request counts
+-- a fetch that does not touch counts each of its keys, and no other request counts
 abbrev pub counted : Visible → Request → Counts → Counts
 counted visible (request.Store verb key flags exptime unique bytes noreply) c = c
 counted visible (request.Fetch keys numbers) c = let found = length (found_of numbers visible keys) in counted_on c found (length keys - found)
+counted visible (request.FetchTouch exptime keys numbers) c = c
 counted visible (request.Delete key noreply) c = c
+counted visible (request.Touch key exptime noreply) c = c
 counted visible (request.Arith up key by noreply) c = c
+counted visible (request.FlushAll delay noreply) c = c
 counted visible request.ShowVersion c = c
 counted visible (request.Verbosity noreply) c = c
 counted visible request.Stats c = c
@@ -145,12 +202,15 @@ owed now basis request =
     else (if lacks basis.clock acts then reply.ClockEnded
     else replied now basis.visible basis.stats request)
 
--- memory is wanted by what issues something, and to show values
+-- memory is wanted to write and to delete, and to show values
 abbrev pub shows_values : Request → Bool
 shows_values (request.Store verb key flags exptime unique bytes noreply) = false
 shows_values (request.Fetch keys numbers) = true
+shows_values (request.FetchTouch exptime keys numbers) = true
 shows_values (request.Delete key noreply) = false
+shows_values (request.Touch key exptime noreply) = false
 shows_values (request.Arith up key by noreply) = false
+shows_values (request.FlushAll delay noreply) = false
 shows_values request.ShowVersion = false
 shows_values (request.Verbosity noreply) = false
 shows_values request.Stats = false
@@ -160,11 +220,17 @@ abbrev pub is_some_act : List Act → Bool
 is_some_act [] = false
 is_some_act (act ∷ acts) = true
 
+abbrev pub is_growth : Act → Bool
+is_growth (Write key bytes flags expiry) = true
+is_growth (Delete key) = true
+is_growth (Touch key expiry) = false
+is_growth Flush = false
+
 -- want of memory comes after every other refusal, and never where no memory is wanted
 abbrev pub may_want_memory : ℕ → Basis → Request → Bool
 may_want_memory now basis request =
     let acts = issued now basis.visible request in
-    (is_some_act acts || shows_values request) && not (is_crowded basis acts) && not (lacks basis.clock acts)
+    (list_any is_growth acts || shows_values request) && not (is_crowded basis acts) && not (lacks basis.clock acts)
 
 -- the reply is the one that is owed, or want of memory where it may be wanted
 abbrev pub Answers : ℕ → Basis → Request → Reply → Type 0
@@ -177,6 +243,7 @@ is_done reply.NotStored = true
 is_done reply.Exists = true
 is_done reply.NotFound = true
 is_done reply.Deleted = true
+is_done reply.Touched = true
 is_done reply.Done = true
 is_done (reply.Number n) = true
 is_done (reply.Values found) = true
@@ -188,3 +255,29 @@ is_done reply.TooLarge = true
 is_done reply.MapFull = false
 is_done reply.ClockEnded = false
 is_done reply.OutOfMemory = false
+
+-- a flush that waits is due from its moment on
+abbrev pub is_due : Option ℕ → ℕ → Bool
+is_due None now = false
+is_due (Some at) now = nat_le at now
+
+-- it is carried out where a stamp is left for it after the clock; else it stays waiting
+abbrev pub flushes_due : Option ℕ → ℕ → ℕ → Bool
+flushes_due waiting clock now = is_due waiting now && not (lacks clock (Flush ∷ []))
+
+abbrev pub is_stuck : Option ℕ → ℕ → ℕ → Bool
+is_stuck waiting clock now = is_due waiting now && lacks clock (Flush ∷ [])
+
+abbrev pub due_acts : Option ℕ → ℕ → ℕ → List Act
+due_acts waiting clock now = cond {A = List Act} (flushes_due waiting clock now) (Flush ∷ []) []
+
+abbrev pub waits_on : Option ℕ → ℕ → ℕ → Option ℕ
+waits_on waiting clock now = cond (flushes_due waiting clock now) None waiting
+
+-- a site's own write that ended longer ago than it is kept for, in seconds, is to be reaped
+abbrev pub is_reapable : ℕ → ℕ → ℕ → Option Version → Bool
+is_reapable number reap_after now None = false
+is_reapable number reap_after now (Some v) = (v.stamp.site == number) && not (v.expiry == 0) && nat_lt (v.expiry + reap_after) now
+
+abbrev pub reap_acts : ℕ → ℕ → ℕ → List ℕ → Option Version → List Act
+reap_acts number reap_after now key version = cond {A = List Act} (is_reapable number reap_after now version) (Delete key ∷ []) []

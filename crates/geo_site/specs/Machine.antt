@@ -1,6 +1,6 @@
 -- One site as a machine: what it knows of each site's clock, its floor, what it keeps of each key and what it holds. Each event
 -- is one step of it. (Joins of states and of deltas: Almeida et al. 2018; the clock: Lamport 1978.)
-use Rattle.std.specs.Prelude.{◌≡◌, ℕ, ◌+◌, ◌≤◌, Bool, true, false, cond, not, ◌||◌, nat_le, List, [], ◌∷◌, length, Option, None, Some, is_some}
+use Rattle.std.specs.Prelude.{◌≡◌, ◌≢◌, ◌==◌, min, ℕ, ◌+◌, ◌≤◌, Bool, true, false, cond, not, ◌||◌, nat_le, List, [], ◌∷◌, length, Option, None, Some, is_some}
 use Rattle.geo_stamp.specs.Stamps.{Moment, most_sites}
 use Rattle.geo_stamp.specs.Vectors.{zeros, entry_of, vector_joined, greatest_of, raised}
 use Rattle.geo_versions.specs.Keys.{same_key}
@@ -107,6 +107,14 @@ Covers v map = (key : List ℕ) → knows_record v (map key) ≡ true
 -- everything that is held is named by its version
 abbrev pub Settled : (List ℕ → Record) → Held → Type 0
 Settled map held = (key bytes : List ℕ) → held key ≡ Some bytes → names (version_in (map key)) bytes ≡ true
+
+-- no expiry that is kept is below this, but for 0
+abbrev pub EndsFrom : ℕ → (List ℕ → Record) → Type 0
+EndsFrom least map = (key : List ℕ) (s : Moment) (e : ℕ) → (map key).1 ≡ Some (s, e) → e ≢ 0 → least ≤ e
+
+-- the least of a moment and an expiry, where 0 is no end
+abbrev pub earlier_of : ℕ → ℕ → ℕ
+earlier_of least e = cond (e == 0) least (min least e)
 
 -- the site's number is that of one of its vector's entries
 abbrev pub Numbered : ℕ → List ℕ → Type 0

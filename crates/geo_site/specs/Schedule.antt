@@ -1,33 +1,38 @@
 -- Schedules: what each site knows and holds after the events, and what was known when each parcel was sent. (A state is the
 -- join of what was seen: Almeida et al. 2018.)
-use Rattle.std.specs.Prelude.{◌≡◌, ◌≢◌, ℕ, cond, if◌then◌else◌, ◌==◌, nat_le, List, [], ◌∷◌, ◌++◌, None, slice_index_or}
+use Rattle.std.specs.Prelude.{◌≡◌, ◌≢◌, ℕ, Bool, true, false, cond, if◌then◌else◌, ◌==◌, nat_le, List, [], ◌∷◌, ◌++◌, Option, None, slice_index_or}
 use Rattle.geo_versions.specs.Maps.{has_register}
 use Rattle.geo_versions.specs.Operations.{Operation, Act, latest, record_of, version_of}
 use Rattle.geo_grammar.specs.declared.request.Request.{Request}
 use Rattle.geo_grammar.specs.declared.reply.Reply.{Reply}
+use Rattle.geo_grammar.specs.declared.reply.Reply.TheVariants.{ClockEnded}
 use Rattle.geo_site.specs.declared.event.Event.{Event}
-use Rattle.geo_site.specs.declared.event.Event.TheVariants.{Command, Send, Take}
+use Rattle.geo_site.specs.declared.event.Event.TheVariants.{Command, Send, Take, Tick, Reap}
 use Rattle.geo_site.specs.declared.event.Trace.{Trace}
-use Rattle.geo_site.specs.declared.event.Trace.TheVariants.{Replied, Sent, SendRefused, Taken, TakeRefused}
+use Rattle.geo_site.specs.declared.event.Trace.TheVariants.{Replied, Sent, SendRefused, Taken, TakeRefused, Ticked, Reaped, ReapRefused}
+use Rattle.geo_site.specs.declared.setup.Limits.{Limits}
 use Rattle.geo_site.specs.declared.refusal.SendError.{SendError}
 use Rattle.geo_site.specs.declared.refusal.TakeError.{TakeError}
+use Rattle.geo_site.specs.declared.refusal.ReapError.{ReapError}
+use Rattle.geo_site.specs.declared.refusal.ReapError.TheVariants as reap
 use Rattle.geo_site.specs.declared.refusal.SendError.TheVariants as send
 use Rattle.geo_site.specs.declared.refusal.TakeError.TheVariants as take
-use Rattle.geo_site.specs.Entries.{Held, Visible, Basis, Counts, none_counted, counted, entry_in, named_by, issued, Answers, is_done}
+use Rattle.geo_site.specs.Entries.{Held, Visible, Basis, Counts, none_counted, counted, entry_in, named_by, issued, waits_after, flushes_due, is_stuck, due_acts, waits_on, is_reapable, reap_acts, lacks, Answers, is_done}
 use Rattle.geo_site.specs.Machine.{act_held, next_operation, IsRecordCount, IsHeldCount}
 
--- what each site knows and holds, how many keys it found and did not find, how many records it may have, and for whom and with
--- what each parcel was sent
+-- what each site knows and holds, how many keys it found and did not find, the moment of the flush that waits there, what it
+-- was told at its start, and for whom and with what each parcel was sent
 pub record Known : Type 0 where
   pub at : ℕ → List Operation
   pub held : ℕ → Held
   pub counts : ℕ → Counts
-  pub limit : ℕ → ℕ
+  pub waiting : ℕ → Option ℕ
+  pub limits : ℕ → Limits
   pub sent : List (ℕ × List Operation)
 
--- nothing is known, where each site may have so many records
-abbrev pub nothing_known : (ℕ → ℕ) → Known
-nothing_known limit = record { at = λ _. []; held = λ _ _. None; counts = λ _. none_counted; limit = limit; sent = [] }
+-- nothing is known, where this is what each site was told at its start
+abbrev pub nothing_known : (ℕ → Limits) → Known
+nothing_known limits = record { at = λ _. []; held = λ _ _. None; counts = λ _. none_counted; waiting = λ _. None; limits = limits; sent = [] }
 
 -- of what is held, what the versions of the operations name
 abbrev pub still_held : List Operation → Held → Held
@@ -35,7 +40,7 @@ still_held ops held key = named_by (version_of ops key) (held key)
 
 -- a site knows these operations now, and of what it holds keeps what its versions name
 abbrev pub settles : Known → ℕ → List Operation → Held → Known
-settles w site ops held = record { at = λ t. if t == site then ops else w.at t; held = λ t. if t == site then still_held ops held else w.held t; counts = w.counts; limit = w.limit; sent = w.sent }
+settles w site ops held = record { at = λ t. if t == site then ops else w.at t; held = λ t. if t == site then still_held ops held else w.held t; counts = w.counts; waiting = w.waiting; limits = w.limits; sent = w.sent }
 
 -- the next operation of a site, after the greatest time that it knows
 abbrev pub new_operation : Known → ℕ → Act → Operation
@@ -67,11 +72,25 @@ issues_on w site now request = issued now (visible w site now) request
 
 -- a site counts the keys of a request
 abbrev pub counts_keys : Known → ℕ → Counts → Known
-counts_keys w site counts = record { at = w.at; held = w.held; counts = λ t. if t == site then counts else w.counts t; limit = w.limit; sent = w.sent }
+counts_keys w site counts = record { at = w.at; held = w.held; counts = λ t. if t == site then counts else w.counts t; waiting = w.waiting; limits = w.limits; sent = w.sent }
+
+-- a flush waits at a site for its moment, or none does
+abbrev pub waits : Known → ℕ → Option ℕ → Known
+waits w site waiting = record { at = w.at; held = w.held; counts = w.counts; waiting = λ t. if t == site then waiting else w.waiting t; limits = w.limits; sent = w.sent }
+
+-- a site carries out a flush that is due
+abbrev pub flushed : Known → ℕ → ℕ → Known
+flushed w site now = waits (issues w site (due_acts (w.waiting site) (latest (w.at site)) now)) site (waits_on (w.waiting site) (latest (w.at site)) now)
 
 -- a site carries out a request
 abbrev pub carries_out : Known → ℕ → ℕ → Request → Known
-carries_out w site now request = counts_keys (issues w site (issues_on w site now request)) site (counted (visible w site now) request (w.counts site))
+carries_out w site now request =
+    waits (counts_keys (issues w site (issues_on w site now request)) site (counted (visible w site now) request (w.counts site)))
+    site (waits_after now request (w.waiting site))
+
+-- a site deletes a key that is to be reaped
+abbrev pub reaps_on : Known → ℕ → ℕ → List ℕ → List Act
+reaps_on w site now key = reap_acts site (w.limits site).reap_after now key (version_of (w.at site) key)
 
 -- what a site goes by when it answers, where so many keys have a record, and of so many bytes are held
 abbrev pub basis : Known → ℕ → ℕ → ℕ → ℕ → Basis
@@ -79,7 +98,7 @@ basis w site now records items = record {
   visible = visible w site now;
   clock = latest (w.at site);
   recorded = λ key. has_register (record_of (w.at site) key);
-  full = nat_le (w.limit site) records;
+  full = nat_le (w.limits site).max_records records;
   stats = record {
     curr_items = items;
     get_hits = (w.counts site).hits;
@@ -99,23 +118,21 @@ pub record RepliesTo (w : Known) (site now : ℕ) (request : Request) (reply : R
   pub held : IsHeldCount (w.held site) items
   pub answers : Answers now (basis w site now records items) request reply
 
--- what is known after an event; one that was refused adds nothing
+-- after a due flush the reply is what the site owes; where no stamp is left for that flush, all that it says is that its clock
+-- has ended
+abbrev pub RepliesBy : Bool → Known → ℕ → ℕ → Request → Reply → Type 0
+RepliesBy true w site now request reply = reply ≡ ClockEnded
+RepliesBy false w site now request reply = RepliesTo w site now request reply
+
+-- what is known after an event; one that was refused adds nothing but a due flush
 abbrev pub happens : Known → Event → Trace → Known
-happens w (Command site now request) (Replied reply) = cond (is_done reply) (carries_out w site now request) w
-happens w (Command site now request) Sent = w
-happens w (Command site now request) (SendRefused why) = w
-happens w (Command site now request) Taken = w
-happens w (Command site now request) (TakeRefused why) = w
-happens w (Send site to) (Replied reply) = w
-happens w (Send site to) Sent = record { at = w.at; held = w.held; counts = w.counts; limit = w.limit; sent = w.sent ++ (to, w.at site) ∷ [] }
-happens w (Send site to) (SendRefused why) = w
-happens w (Send site to) Taken = w
-happens w (Send site to) (TakeRefused why) = w
-happens w (Take site parcel) (Replied reply) = w
-happens w (Take site parcel) Sent = w
-happens w (Take site parcel) (SendRefused why) = w
+happens w (Command site now request) (Replied reply) = let v = flushed w site now in cond (is_done reply) (carries_out v site now request) v
+happens w (Send site to) Sent = record { at = w.at; held = w.held; counts = w.counts; waiting = w.waiting; limits = w.limits; sent = w.sent ++ (to, w.at site) ∷ [] }
 happens w (Take site parcel) Taken = learns w site (carried w parcel)
-happens w (Take site parcel) (TakeRefused why) = w
+happens w (Tick site now) (Ticked done) = flushed w site now
+happens w (Reap site now key) (Reaped done) = let v = flushed w site now in issues v site (reaps_on v site now key)
+happens w (Reap site now key) (ReapRefused why) = flushed w site now
+happens w event trace = w
 
 -- what is known after a schedule with its trace
 abbrev pub known : Known → List Event → List Trace → Known
@@ -135,23 +152,25 @@ TakeRefusedFor site to take.UnknownSite = ⊥
 TakeRefusedFor site to take.Gap = ⊥
 TakeRefusedFor site to take.Memory = to ≡ site
 
+-- a reap deletes exactly a key that is to be reaped, and is refused exactly where no stamp is left for that
+abbrev pub ReapsIn : Known → ℕ → ℕ → List ℕ → Bool → Type 0
+ReapsIn w site now key done = (done ≡ is_reapable site (w.limits site).reap_after now (version_of (w.at site) key)) × (lacks (latest (w.at site)) (reaps_on w site now key) ≡ false)
+
+abbrev pub ReapRefusedFor : Known → ℕ → ℕ → List ℕ → ReapError → Type 0
+ReapRefusedFor w site now key reap.ClockEnded = lacks (latest (w.at site)) (reaps_on w site now key) ≡ true
+ReapRefusedFor w site now key reap.Memory = ⊥
+
 -- the trace is one that the event can have
 abbrev pub Lawful : Known → Event → Trace → Type 0
-Lawful w (Command site now request) (Replied reply) = RepliesTo w site now request reply
-Lawful w (Command site now request) Sent = ⊥
-Lawful w (Command site now request) (SendRefused why) = ⊥
-Lawful w (Command site now request) Taken = ⊥
-Lawful w (Command site now request) (TakeRefused why) = ⊥
-Lawful w (Send site to) (Replied reply) = ⊥
+Lawful w (Command site now request) (Replied reply) = RepliesBy (is_stuck (w.waiting site) (latest (w.at site)) now) (flushed w site now) site now request reply
 Lawful w (Send site to) Sent = to ≢ site
 Lawful w (Send site to) (SendRefused why) = SendRefusedFor site to why
-Lawful w (Send site to) Taken = ⊥
-Lawful w (Send site to) (TakeRefused why) = ⊥
-Lawful w (Take site parcel) (Replied reply) = ⊥
-Lawful w (Take site parcel) Sent = ⊥
-Lawful w (Take site parcel) (SendRefused why) = ⊥
 Lawful w (Take site parcel) Taken = addressee w parcel ≡ site
 Lawful w (Take site parcel) (TakeRefused why) = TakeRefusedFor site (addressee w parcel) why
+Lawful w (Tick site now) (Ticked done) = done ≡ flushes_due (w.waiting site) (latest (w.at site)) now
+Lawful w (Reap site now key) (Reaped done) = ReapsIn (flushed w site now) site now key done
+Lawful w (Reap site now key) (ReapRefused why) = ReapRefusedFor (flushed w site now) site now key why
+Lawful w event trace = ⊥
 
 -- each of them is
 abbrev pub EachLawful : Known → List Event → List Trace → Type 0

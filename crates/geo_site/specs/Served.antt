@@ -11,7 +11,7 @@ use Rattle.geo_site.specs.declared.event.Event.{Event}
 use Rattle.geo_site.specs.declared.event.Event.TheVariants.{Command}
 use Rattle.geo_site.specs.declared.event.Trace.{Trace}
 use Rattle.geo_site.specs.declared.event.Trace.TheVariants.{Replied}
-use Rattle.geo_site.specs.Schedule.{Known, happens}
+use Rattle.geo_site.specs.Schedule.{Known, flushed, happens}
 
 -- somebody knows a write of the bytes
 pub record Writing (ops : List Operation) (bytes : List ℕ) : Type 0 where
@@ -50,12 +50,12 @@ abbrev pub values_in : Reply → List Found
 values_in (Values found) = found
 values_in reply = []
 
--- each value in a reply is what the named operation wrote
+-- each value in a reply is what the named operation wrote, by what is known after a due flush
 abbrev pub ReplyServes : Known → ℕ → Reply → Type 0
 ReplyServes w site reply = EachServed w (w.at site) (values_in reply)
 
 abbrev pub TraceServes : Known → Event → Trace → Type 0
-TraceServes w (Command site now request) (Replied reply) = ReplyServes w site reply
+TraceServes w (Command site now request) (Replied reply) = ReplyServes (flushed w site now) site reply
 TraceServes w event trace = Unit {0}
 
 abbrev pub AllServe : Known → List Event → List Trace → Type 0

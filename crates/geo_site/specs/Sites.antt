@@ -1,5 +1,5 @@
 -- What a site of the code is, as a state of the machine, and what a parcel of the code brings.
-use Rattle.std.specs.Prelude.{IsTrue, ◌↔◌, ◌≡◌, ◌≢◌, ◌⊎◌, ℕ, ◌+◌, ◌-◌, ◌≤◌, Bool, true, false, not, ◌&&◌, ◌==◌, nat_le, List, length, Result, Ok, Err}
+use Rattle.std.specs.Prelude.{IsTrue, ◌↔◌, ◌≡◌, ◌≢◌, ◌⊎◌, ℕ, ◌+◌, ◌-◌, ◌≤◌, Bool, true, false, cond, not, ◌&&◌, ◌==◌, nat_le, List, length, Option, None, Some, Result, Ok, Err}
 use Rattle.std.specs.List.{list_all}
 use Rattle.indexmap.specs.IndexMap.{get, index_map_len}
 use Rattle.geo_stamp.specs.Vectors.{zeros, vector_joined}
@@ -9,8 +9,8 @@ use Rattle.geo_versions.specs.Maps.{floor_in, record_in, count_in, has_register}
 use Rattle.geo_delta.specs.declared.parcel.Parcel.{Parcel}
 use Rattle.geo_grammar.specs.declared.request.Request.{Request}
 use Rattle.geo_grammar.specs.declared.stats.Stats.{Stats}
-use Rattle.geo_stamp.specs.Stamps.{most_sites}
-use Rattle.geo_versions.specs.Operations.{Act}
+use Rattle.geo_stamp.specs.Stamps.{Moment, most_sites}
+use Rattle.geo_versions.specs.Operations.{Act, version_in}
 use Rattle.geo_site.specs.declared.site.Site.{Site}
 use Rattle.geo_site.specs.declared.exchange.Taken.{Taken}
 use Rattle.geo_site.specs.declared.exchange.Refused.{Refused}
@@ -18,6 +18,9 @@ use Rattle.geo_site.specs.declared.refusal.SendError.{SendError}
 use Rattle.geo_site.specs.declared.refusal.SendError.TheVariants.{NoSuchSite}
 use Rattle.geo_site.specs.declared.refusal.SendError.TheVariants as sends
 use Rattle.geo_site.specs.declared.setup.Setup.{Setup}
+use Rattle.geo_site.specs.declared.setup.Limits.{Limits}
+use Rattle.geo_site.specs.declared.refusal.ReapError.{ReapError}
+use Rattle.geo_site.specs.declared.refusal.ReapError.TheVariants as reaps
 use Rattle.geo_site.specs.declared.refusal.SetupError.{SetupError}
 use Rattle.geo_site.specs.declared.refusal.SetupError.TheVariants.{Sites, SiteNumber, Records}
 use Rattle.geo_site.specs.declared.refusal.SetupError.TheVariants as setups
@@ -25,10 +28,10 @@ use Rattle.geo_site.specs.declared.refusal.TakeError.{TakeError}
 use Rattle.geo_site.specs.declared.refusal.TakeError.TheVariants.{NotForMe, UnknownSite, Gap}
 use Rattle.geo_site.specs.declared.refusal.TakeError.TheVariants as takes
 use Rattle.geo_grammar.specs.declared.reply.Reply.{Reply}
-use Rattle.geo_grammar.specs.declared.reply.Reply.TheVariants.{Values, OutOfMemory}
+use Rattle.geo_grammar.specs.declared.reply.Reply.TheVariants.{Values, ClockEnded, OutOfMemory}
 use Rattle.geo_grammar.specs.declared.reply.Found.{Found}
-use Rattle.geo_site.specs.Entries.{Basis, Counts, none_counted, counted_on, issued, found_of}
-use Rattle.geo_site.specs.Machine.{SiteState, Delta, Same, fresh, issue_all, take, clock_of, visible_in, knows_record, knows_floor}
+use Rattle.geo_site.specs.Entries.{Basis, Counts, none_counted, counted_on, counted, issued, found_of, touched_of, touches_of, waits_after, lacks, due_acts, waits_on, flushes_due, is_stuck, is_reapable, reap_acts, Answers, is_done}
+use Rattle.geo_site.specs.Machine.{SiteState, Delta, Same, fresh, issue_all, take, clock_of, visible_in, knows_record, knows_floor, IsRecordCount, IsHeldCount}
 
 -- a site as a state
 abbrev pub state_in : Site → SiteState
@@ -39,9 +42,24 @@ state_in site = record {
   held = λ key. get same_key site.held key;
 }
 
--- the most records that it may keep
+-- what it was told at its start, and how many records it may keep by that
+abbrev pub limits_of : Site → Limits
+limits_of site = site.limits
+
 abbrev pub most_records : Site → ℕ
-most_records site = site.max_records
+most_records site = site.limits.max_records
+
+-- the greatest time that it knows
+abbrev pub clock_in : Site → ℕ
+clock_in site = clock_of (state_in site)
+
+-- the moment of the flush that waits
+abbrev pub waiting_in : Site → Option ℕ
+waiting_in site = site.waiting
+
+-- the expiry in a record is not below this, but for 0
+abbrev pub EndFrom : ℕ → List ℕ × Rec → Type 0
+EndFrom least entry = (s : Moment) (e : ℕ) → (rec_means entry.1).1 ≡ Some (s, e) → e ≢ 0 → least ≤ e
 
 -- how many values it holds
 abbrev pub held_count : Site → ℕ
@@ -100,15 +118,95 @@ issued_in site now request = issued now (visible_in (state_in site) now) request
 abbrev pub HasIssued : Site → Site → List Act → Type 0
 HasIssued old new acts = Same (issue_all old.number acts (state_in old)) (state_in new)
 
+-- nothing that it was told at its start, and not its number, changes
+abbrev pub Stays : Site → Site → Type 0
+Stays old new = (new.number ≡ old.number) × (limits_of new ≡ limits_of old)
+
+-- nothing that it counts, and no flush that waits, changes
+abbrev pub Rests : Site → Site → Type 0
+Rests old new = (counts_in new ≡ counts_in old) × (waiting_in new ≡ waiting_in old)
+
 -- what a fetch does, by its reply: it shows what is found and counts it, or memory was wanted and nothing is counted
 abbrev pub fetched : Site → ℕ → List (List ℕ) → Bool → List Found
 fetched site now keys numbers = found_of numbers (visible_in (state_in site) now) keys
 
 abbrev pub FetchDoes : Site → Site → ℕ → List (List ℕ) → Bool → Reply → Type 0
 FetchDoes old new now keys numbers reply =
-    Same (state_in old) (state_in new) × (new.number ≡ old.number) × (most_records new ≡ most_records old)
+    Same (state_in old) (state_in new) × Stays old new × (waiting_in new ≡ waiting_in old)
     × (((reply ≡ Values (fetched old now keys numbers)) × (let found = length (fetched old now keys numbers) in counts_in new ≡ counted_on (counts_in old) found (length keys - found)))
     ⊎ ((reply ≡ OutOfMemory) × (counts_in new ≡ counts_in old)))
+
+-- what a fetch that touches does, by its reply: it shows what is found and touches each of that, or it is refused and changes
+-- nothing
+abbrev pub touched_in : Site → ℕ → ℕ → List (List ℕ) → Bool → List Found
+touched_in site now expiry keys numbers = touched_of now expiry numbers (visible_in (state_in site) now) keys
+
+-- acts are issued where stamps are left for them, and the reply is this; else the reply says that the clock has ended, and nothing
+-- is changed
+abbrev pub IssuesAs : Site → Site → List Act → Reply → Reply → Type 0
+IssuesAs old new acts answer reply =
+    ((reply ≡ answer) × (lacks (clock_in old) acts ≡ false) × HasIssued old new acts)
+    ⊎ ((reply ≡ ClockEnded) × (lacks (clock_in old) acts ≡ true) × Same (state_in old) (state_in new))
+
+abbrev pub FetchTouchDoes : Site → Site → ℕ → ℕ → List (List ℕ) → Bool → Reply → Type 0
+FetchTouchDoes old new now expiry keys numbers reply =
+    let found = touched_in old now expiry keys numbers in
+    IssuesAs old new (touches_of expiry found) (Values found) reply
+    ⊎ ((reply ≡ OutOfMemory) × (lacks (clock_in old) (touches_of expiry found) ≡ false) × Same (state_in old) (state_in new))
+
+-- what a due flush does: it is carried out where a stamp is left for it
+pub record FlushDoes (old new : Site) (now : ℕ) : Type 0 where
+  pub issued : HasIssued old new (due_acts (waiting_in old) (clock_in old) now)
+  pub waiting : waiting_in new ≡ waits_on (waiting_in old) (clock_in old) now
+  pub counts : counts_in new ≡ counts_in old
+  pub stays : Stays old new
+
+-- what a request does at a site where no flush is due
+pub record RequestDoes (old new : Site) (now : ℕ) (request : Request) (reply : Reply) : Type 0 where
+  pub answer : Answers now (basis_in old now) request reply
+  pub done : is_done reply ≡ true → HasIssued old new (issued_in old now request)
+  pub refused : is_done reply ≡ false → Same (state_in old) (state_in new)
+  pub counts : counts_in new ≡ cond (is_done reply) (counted (visible_in (state_in old) now) request (counts_in old)) (counts_in old)
+  pub waiting : waiting_in new ≡ cond (is_done reply) (waits_after now request (waiting_in old)) (waiting_in old)
+  pub stays : Stays old new
+
+-- after a due flush the request does what it does; where no stamp is left for that flush the reply says so, and nothing is
+-- changed
+abbrev pub RequestDoesBy : Bool → Site → Site → ℕ → Request → Reply → Type 0
+RequestDoesBy true old new now request reply = (reply ≡ ClockEnded) × Same (state_in old) (state_in new) × Rests old new × Stays old new
+RequestDoesBy false old new now request reply = RequestDoes old new now request reply
+
+pub record ActDoes (old new : Site) (now : ℕ) (request : Request) (reply : Reply) : Type 0 where
+  pub mid : Site
+  pub flush : FlushDoes old mid now
+  pub recorded : IsRecordCount (state_in mid).map (record_count mid)
+  pub held : IsHeldCount (state_in mid).held (held_count mid)
+  pub does : RequestDoesBy (is_stuck (waiting_in old) (clock_in old) now) mid new now request reply
+
+-- a tick is a due flush alone, and says whether there was one
+pub record TickDoes (old new : Site) (now : ℕ) (done : Bool) : Type 0 where
+  pub flush : FlushDoes old new now
+  pub said : done ≡ flushes_due (waiting_in old) (clock_in old) now
+
+-- what a reap issues at a site where no flush is due
+abbrev pub to_reap : Site → ℕ → List ℕ → Bool
+to_reap site now key = is_reapable site.number (limits_of site).reap_after now (version_in ((state_in site).map key))
+
+abbrev pub reaped_in : Site → ℕ → List ℕ → List Act
+reaped_in site now key = reap_acts site.number (limits_of site).reap_after now key (version_in ((state_in site).map key))
+
+-- what it does, by its result: it deletes exactly a key that is to be reaped, and is refused exactly where no stamp is left
+abbrev pub ReapResult : Site → Site → ℕ → List ℕ → Result Bool ReapError → Type 0
+ReapResult old new now key (Ok done) = (done ≡ to_reap old now key) × (lacks (clock_in old) (reaped_in old now key) ≡ false) × HasIssued old new (reaped_in old now key)
+ReapResult old new now key (Err reaps.ClockEnded) = (lacks (clock_in old) (reaped_in old now key) ≡ true) × Same (state_in old) (state_in new)
+ReapResult old new now key (Err reaps.Memory) = ⊥
+
+pub record ReapDoes (old new : Site) (now : ℕ) (key : List ℕ) (result : Result Bool ReapError) : Type 0 where
+  pub mid : Site
+  pub flush : FlushDoes old mid now
+  pub does : ReapResult mid new now key result
+  pub rests : Rests mid new
+  pub stays : Stays mid new
 
 -- a site takes a parcel that is for it, that another site of as many can have made, and whose base it knows
 abbrev pub Takes : Site → Parcel → Type 0
@@ -167,5 +265,5 @@ SetupRefuses setup setups.Memory = SitesInRange setup × NumberInRange setup × 
 
 -- what opening a site does, by its result
 abbrev pub OpenDoes : Setup → Result Site SetupError → Type 0
-OpenDoes setup (Ok site) = SitesInRange setup × NumberInRange setup × RecordsInRange setup × (site.number ≡ setup.site) × (most_records site ≡ setup.max_records) × (counts_in site ≡ none_counted) × Same (fresh setup.sites) (state_in site)
+OpenDoes setup (Ok site) = SitesInRange setup × NumberInRange setup × RecordsInRange setup × (site.number ≡ setup.site) × (limits_of site ≡ record { max_records = setup.max_records; reap_after = setup.reap_after }) × (counts_in site ≡ none_counted) × (waiting_in site ≡ None) × Same (fresh setup.sites) (state_in site)
 OpenDoes setup (Err why) = SetupRefuses setup why

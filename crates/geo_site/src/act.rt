@@ -3,29 +3,44 @@ ghost use Rattle.std.specs.Prelude.{◌≡◌, ◌≤◌, ◌^◌, true, false, 
 ghost use Rattle.std.specs.Option.{option_map};
 ghost use Rattle.geo_memcache.specs.Entries.{entry_of};
 ghost use Rattle.geo_memcache.specs.Decisions.{decided, is_made};
-ghost use Rattle.geo_site.specs.Entries.{Answers, counted, is_done};
+ghost use Rattle.geo_site.specs.Entries.{Answers, counted, waits_after, is_done};
 ghost use Rattle.geo_site.specs.Machine.{Same, visible_in};
-ghost use Rattle.geo_site.specs.Sites.{state_in, basis_in, issued_in, counts_in, stats_in, most_records, HasIssued};
+ghost use Rattle.geo_site.specs.Sites.{state_in, basis_in, issued_in, counts_in, waiting_in, stats_in, HasIssued, Rests, Stays, ActDoes};
 ghost use Rattle.geo_site.specs.Changes.{is_change, bytes_in, ChangeDoes};
 
 use crate::site::Site;
 use geo_grammar::{Reply, Request, Stats};
-use geo_memcache::{Answer, Ask, Decision, Entry, decide, live};
+use geo_memcache::{Answer, Ask, Decision, Entry, decide, expiry_of, live};
 use geo_versions::Key;
 use std::alloc::{AllocError, Global};
 
 impl Site {
-    /// Answers a request at a moment in seconds, 1 to 2^40, as plain memcached does over what is visible (protocol.txt). Its
-    /// refusals are replies, in this order: a value too large, a full map, no stamp left, want of memory. None of them changes
-    /// anything.
+    /// Answers a request at a moment in seconds, 1 to 2^40, as plain memcached does over what is visible (protocol.txt). A flush
+    /// that is due is carried out first; where no stamp is left for that, each reply is ClockEnded. Refusals are replies, in this
+    /// order: a value too large, a full map, no stamp left, want of memory. None of them changes anything but by a due flush.
     pub fn act(&mut self, alloc: Global, now: u64, request: &Request) -> Reply
+        requires moment { now ≤ 2 ^ 40 }
+        ensures does { ActDoes self.old self.new now request.now result }
+    {
+        self.tick(now);
+        // What the contract of a reply counts, though most replies don't show it.
+        let _records = self.records();
+        let _items = self.items();
+        if self.has_due_flush(now) {
+            return Reply::ClockEnded;
+        }
+        self.answer(alloc, now, request)
+    }
+
+    /// Answers a request where no flush is due.
+    fn answer(&mut self, alloc: Global, now: u64, request: &Request) -> Reply
         requires moment { now ≤ 2 ^ 40 }
         ensures answer { Answers now (basis_in self.old now) request.now result }
         ensures done { is_done result ≡ true → HasIssued self.old self.new (issued_in self.old now request.now) }
         ensures refused { is_done result ≡ false → Same (state_in self.old) (state_in self.new) }
         ensures counts { counts_in self.new ≡ cond (is_done result) (counted (visible_in (state_in self.old) now) request.now (counts_in self.old)) (counts_in self.old) }
-        ensures number { self.new.number ≡ self.old.number }
-        ensures limit { most_records self.new ≡ most_records self.old }
+        ensures waiting { waiting_in self.new ≡ cond (is_done result) (waits_after now request.now (waiting_in self.old)) (waiting_in self.old) }
+        ensures stays { Stays self.old self.new }
     {
         match request {
             Request::Store {
@@ -47,10 +62,22 @@ impl Site {
                 self.change(alloc, now, key, &ask)
             }
             Request::Fetch { keys, numbers } => self.fetch(alloc, now, keys.as_slice(), *numbers),
+            Request::FetchTouch {
+                exptime,
+                keys,
+                numbers,
+            } => {
+                let expiry = expiry_of(*exptime, now);
+                self.fetch_touch(alloc, now, expiry, keys.as_slice(), *numbers)
+            }
             Request::Delete { key, .. } => self.change(alloc, now, key, &Ask::Delete),
+            Request::Touch { key, exptime, .. } => {
+                self.change(alloc, now, key, &Ask::Touch { exptime: *exptime })
+            }
             Request::Arith { up, key, by, .. } => {
                 self.change(alloc, now, key, &Ask::Arith { up: *up, by: *by })
             }
+            Request::FlushAll { delay, .. } => self.flush_all(now, *delay),
             Request::ShowVersion => Reply::Version,
             Request::Verbosity { .. } => Reply::Done,
             Request::Stats => Reply::Stats(self.stats()),
@@ -111,9 +138,8 @@ impl Site {
         requires moment { now ≤ 2 ^ 40 }
         requires change { is_change ask.now ≡ true }
         ensures does { ChangeDoes self.old self.new key.now (bytes_in ask.now) (decided (visible_in (state_in self.old) now key.now) now ask.now) result }
-        ensures counts { counts_in self.new ≡ counts_in self.old }
-        ensures number { self.new.number ≡ self.old.number }
-        ensures limit { most_records self.new ≡ most_records self.old }
+        ensures rests { Rests self.old self.new }
+        ensures stays { Stays self.old self.new }
     {
         let Ok(Decision { answer, effect }) = self.decision(alloc, now, key, ask) else {
             return match self.next_stamp(key) {

@@ -1,15 +1,16 @@
 //! What a site writes and deletes.
-ghost use Rattle.std.specs.Prelude.{◌≡◌, ◌≤◌, ◌<◌, ◌+◌, ℕ, List, length, OnOk, OnErr, IfOk, IfErr, MatchResult, cond, Some, None, Option};
+ghost use Rattle.std.specs.Prelude.{◌≡◌, ◌≤◌, ◌<◌, ◌+◌, ℕ, List, length, OnOk, OnErr, IsOk, IfOk, IfErr, MatchResult, cond, Some, None, Option};
 ghost use Rattle.indexmap.specs.IndexMap.{get, spare};
 ghost use Rattle.geo_grammar.specs.Limits.{longest_value};
 ghost use Rattle.geo_versions.specs.Keys.{same_key};
 ghost use Rattle.geo_versions.specs.Operations.Act.{Write, Delete};
 ghost use Rattle.std.specs.Prelude.{[], ◌∷◌};
 ghost use Rattle.geo_site.specs.Machine.{Same};
-ghost use Rattle.geo_site.specs.Sites.{state_in, counts_in, most_records, HasIssued};
-ghost use Rattle.geo_site.specs.Changes.{bytes_in, next_stamp_of, CanWrite, WriteRefuses, EffectDoes, IsShort};
+ghost use Rattle.geo_site.specs.Sites.{state_in, Rests, Stays, HasIssued};
+ghost use Rattle.geo_site.specs.Changes.{bytes_in, next_stamp_of, CanWrite, WriteRefuses, HasRecord, EffectDoes, IsShort, IsThere};
 
 use crate::blob::Blob;
+use crate::reap::earlier;
 use crate::refusal::WriteError;
 use crate::site::Site;
 use geo_grammar::ValueBytes;
@@ -27,7 +28,11 @@ pub fn asked_bytes(alloc: Global, ask: &Ask<'_>) -> Result<ValueBytes, AllocErro
 {
     match ask {
         Ask::Store { bytes, .. } => Ok(bytes.twin(alloc)?),
-        Ask::Fetch { .. } | Ask::Delete | Ask::Arith { .. } => Ok(ValueBytes::of(Vec::new(alloc))),
+        Ask::Fetch { .. }
+        | Ask::FetchTouch { .. }
+        | Ask::Delete
+        | Ask::Touch { .. }
+        | Ask::Arith { .. } => Ok(ValueBytes::of(Vec::new(alloc))),
     }
 }
 
@@ -54,7 +59,9 @@ impl Site {
         ensures stamp { IfOk result (λ stamp. CanWrite self.now key.now × (stamp ≡ next_stamp_of self.now)) }
         ensures refused { IfErr result (λ why. WriteRefuses self.now key.now why × (why ≡ WriteError.Memory → ⊥)) }
     {
-        if self.versions.len() >= self.max_records as usize && self.versions.record(key).is_none() {
+        if self.versions.len() >= self.limits.max_records as usize
+            && self.versions.record(key).is_none()
+        {
             return Err(WriteError::MapFull);
         }
         let top = self.vector.greatest();
@@ -78,9 +85,8 @@ impl Site {
         requires short { length bytes ≤ longest_value }
         ensures written { OnOk result (HasIssued self.old self.new (Write key.now bytes flags expiry ∷ [])) }
         ensures err { OnErr result (Same (state_in self.old) (state_in self.new)) }
-        ensures counts { counts_in self.new ≡ counts_in self.old }
-        ensures number { self.new.number ≡ self.old.number }
-        ensures limit { most_records self.new ≡ most_records self.old }
+        ensures rests { Rests self.old self.new }
+        ensures stays { Stays self.old self.new }
     {
         let own_key = key.twin(alloc)?;
         self.held.reserve(1)?;
@@ -93,18 +99,19 @@ impl Site {
         };
         self.versions.write(alloc, key, stamp, body, expiry)?;
         self.vector.raise(self.number, stamp.time());
+        self.earliest = earlier(self.earliest, expiry);
         hold(&mut self.held, own_key, blob);
         Ok(())
     }
 
     /// Deletes a key: its record says so from now on, and its bytes are dropped. An Err changes nothing.
-    fn bury(&mut self, alloc: Global, stamp: Stamp, key: &Key) -> Result<(), AllocError>
+    pub(crate) fn bury(&mut self, alloc: Global, stamp: Stamp, key: &Key) -> Result<(), AllocError>
         requires next { stamp ≡ next_stamp_of self.old }
         ensures deleted { OnOk result (HasIssued self.old self.new (Delete key.now ∷ [])) }
         ensures err { OnErr result (Same (state_in self.old) (state_in self.new)) }
-        ensures counts { counts_in self.new ≡ counts_in self.old }
-        ensures number { self.new.number ≡ self.old.number }
-        ensures limit { most_records self.new ≡ most_records self.old }
+        ensures succeeds { HasRecord self.old key.now → IsOk result }
+        ensures rests { Rests self.old self.new }
+        ensures stays { Stays self.old self.new }
     {
         self.versions.write(alloc, key, stamp, Body::Gone, 0)?;
         self.vector.raise(self.number, stamp.time());
@@ -121,10 +128,10 @@ impl Site {
         ask: &Ask<'_>,
     ) -> Result<(), WriteError>
         requires short { IsShort effect (bytes_in ask.now) }
+        requires there { IsThere self.old key.now effect }
         ensures does { EffectDoes self.old self.new key.now (bytes_in ask.now) effect result }
-        ensures counts { counts_in self.new ≡ counts_in self.old }
-        ensures number { self.new.number ≡ self.old.number }
-        ensures limit { most_records self.new ≡ most_records self.old }
+        ensures rests { Rests self.old self.new }
+        ensures stays { Stays self.old self.new }
     {
         match effect {
             Effect::Nothing => Ok(()),
@@ -141,6 +148,11 @@ impl Site {
             } => {
                 let stamp = self.next_stamp(key)?;
                 self.write(alloc, stamp, key, flags, expiry, bytes)?;
+                Ok(())
+            }
+            Effect::Renew { expiry } => {
+                let stamp = self.next_stamp(key)?;
+                self.renew(stamp, key, expiry);
                 Ok(())
             }
             Effect::Tomb => {

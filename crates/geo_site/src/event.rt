@@ -1,6 +1,7 @@
 //! What can happen at a site, and what came of it.
-use crate::refusal::{SendError, TakeError};
+use crate::refusal::{ReapError, SendError, TakeError};
 use geo_grammar::{Reply, Request};
+use geo_versions::Key;
 
 /// What happens next: one atomic step of one site. Sites are numbered from 1, parcels from 0 by the sends that succeeded.
 #[derive(Drop)]
@@ -21,6 +22,17 @@ pub enum Event {
         site: u8,
         parcel: usize,
     },
+    /// The site carries out a flush that waits, where its moment, in seconds, has come.
+    Tick {
+        site: u8,
+        now: u64,
+    },
+    /// The site deletes a key, where a write of its own ended long enough before a moment in seconds.
+    Reap {
+        site: u8,
+        now: u64,
+        key: Key,
+    },
 }
 
 /// What came of an event.
@@ -36,4 +48,10 @@ pub enum Trace {
     Taken,
     /// The site is as it was.
     TakeRefused(TakeError),
+    /// Whether a flush was carried out.
+    Ticked(bool),
+    /// Whether the key was deleted.
+    Reaped(bool),
+    /// The key was not deleted.
+    ReapRefused(ReapError),
 }

@@ -8,9 +8,10 @@ ghost use Rattle.geo_versions.specs.Maps.{floor_in, record_in, HasRoomFor};
 ghost use Rattle.geo_site.specs.Entries.{names, named_by};
 ghost use Rattle.geo_site.specs.Machine.{Same, take, knows_record, knows_floor};
 ghost use Rattle.geo_stamp.specs.Vectors.{vector_joined};
-ghost use Rattle.geo_site.specs.Sites.{state_in, held_count, counts_in, most_records, is_sound, knows_all, Takes, RefusesFor, SendDoes, TakeDoes};
+ghost use Rattle.geo_site.specs.Sites.{state_in, held_count, Rests, Stays, is_sound, knows_all, Takes, RefusesFor, SendDoes, TakeDoes};
 
 use crate::blob::Blob;
+use crate::reap::earliest_in;
 use crate::refusal::{SendError, TakeError};
 use crate::site::Site;
 use geo_delta::{Parcel, cut};
@@ -82,7 +83,7 @@ fn is_named(version: Option<Version>, blob: &Blob) -> bool
 }
 
 /// Drops what the versions no longer name.
-fn keep_named(held: &mut IndexMap<Key, Blob, RandomState>, versions: &Versions)
+pub(crate) fn keep_named(held: &mut IndexMap<Key, Blob, RandomState>, versions: &Versions)
     ensures kept { (q : List ℕ) → get same_key held.new q ≡ named_by (version_in (record_in versions.now q)) (get same_key held.old q) }
     ensures no_more { index_map_len held.new ≤ index_map_len held.old }
 {
@@ -147,11 +148,11 @@ impl Site {
         ensures joined { Same (take self.old.number (record { upto = upto; floor = floor; map = listed_at records }) (state_in self.old)) (state_in self.new) }
         ensures rose { IsTrue result.rose ↔ (vector_joined self.old.vector upto ≢ self.old.vector) }
         ensures dropped { held_count self.new + result.dropped ≡ held_count self.old }
-        ensures counts { counts_in self.new ≡ counts_in self.old }
-        ensures number { self.new.number ≡ self.old.number }
-        ensures limit { most_records self.new ≡ most_records self.old }
+        ensures rests { Rests self.old self.new }
+        ensures stays { Stays self.old self.new }
     {
         let rose = !self.vector.covers(&upto);
+        self.earliest = earliest_in(self.earliest, records.as_slice());
         self.versions.join_records(floor, records.into_vec());
         self.vector.join(upto);
         let top = self.vector.greatest();
@@ -165,9 +166,8 @@ impl Site {
     /// Joins what a parcel tells. A refusal hands the parcel back whole and changes nothing.
     pub fn take(&mut self, alloc: Global, parcel: Parcel) -> Result<Taken, Refused>
         ensures does { TakeDoes self.old self.new parcel result }
-        ensures counts { counts_in self.new ≡ counts_in self.old }
-        ensures number { self.new.number ≡ self.old.number }
-        ensures limit { most_records self.new ≡ most_records self.old }
+        ensures rests { Rests self.old self.new }
+        ensures stays { Stays self.old self.new }
     {
         if let Some(why) = self.refusal(&parcel) {
             return Err(Refused { why, parcel });

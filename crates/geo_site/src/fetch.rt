@@ -2,7 +2,7 @@
 ghost use Rattle.std.specs.Prelude.{◌≡◌, ◌++◌, ℕ, List, length, IfOk, option_to_list, cond};
 ghost use Rattle.geo_site.specs.Entries.{found_at, found_of, is_done, counted_on};
 ghost use Rattle.geo_site.specs.Machine.{visible_in};
-ghost use Rattle.geo_site.specs.Sites.{state_in, counts_in, most_records, FetchDoes};
+ghost use Rattle.geo_site.specs.Sites.{state_in, counts_in, limits_of, waiting_in, FetchDoes};
 
 use crate::site::Site;
 use geo_grammar::{Found, Reply};
@@ -12,7 +12,7 @@ use std::alloc::{AllocError, Global};
 
 impl Site {
     /// What is visible of a key, with its number where it is asked for.
-    fn look(
+    pub(crate) fn look(
         &self,
         alloc: Global,
         now: u64,

@@ -12,16 +12,19 @@ pub mod change;
 pub mod event;
 pub mod exchange;
 pub mod fetch;
+pub mod flush;
+pub mod reap;
 pub mod refusal;
 pub mod setup;
 pub mod site;
+pub mod touch;
 
 pub use blob::Blob;
 pub use change::asked_bytes;
 pub use event::{Event, Trace};
 pub use exchange::{Refused, Taken};
-pub use refusal::{SendError, SetupError, TakeError, WriteError};
-pub use setup::Setup;
+pub use refusal::{ReapError, SendError, SetupError, TakeError, WriteError};
+pub use setup::{Limits, Setup};
 pub use site::Site;
 
 #[cfg(test)]

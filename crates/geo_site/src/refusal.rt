@@ -42,6 +42,15 @@ pub enum TakeError {
     Memory,
 }
 
+/// Why a key was not deleted at its end.
+#[derive(Clone, Copy, Debug, PartialEq, Eq)]
+pub enum ReapError {
+    /// No stamp is left.
+    ClockEnded,
+    /// Memory was wanted.
+    Memory,
+}
+
 /// Why a key is not written, tested in this order.
 #[derive(Clone, Copy, Debug, PartialEq, Eq)]
 pub enum WriteError {

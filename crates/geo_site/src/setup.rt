@@ -10,6 +10,17 @@ pub struct Setup {
     pub sites: u8,
     /// How many records its map may have before local operations on new keys are refused, 1 to 1,000,000.
     pub max_records: u32,
+    /// How many seconds after its end a write of its own is kept, until it is deleted for all sites.
+    pub reap_after: u32,
     /// How its maps hash their keys, which strangers choose.
     pub hasher: RandomState,
+}
+
+/// What a site goes by, as it was told at its start.
+#[derive(Clone, Copy, Debug, PartialEq, Eq)]
+pub struct Limits {
+    /// How many records its map may have before local operations on new keys are refused.
+    pub max_records: u32,
+    /// How many seconds after its end a write of its own is kept.
+    pub reap_after: u32,
 }

@@ -4,12 +4,12 @@ ghost use Rattle.indexmap.specs.IndexMap.{get};
 ghost use Rattle.geo_versions.specs.Keys.{same_key};
 ghost use Rattle.geo_versions.specs.Operations.{version_in};
 ghost use Rattle.geo_versions.specs.Maps.{floor_in, record_in};
-ghost use Rattle.geo_site.specs.Machine.{Numbered, Covers, Settled, knows_floor};
+ghost use Rattle.geo_site.specs.Machine.{Numbered, Covers, Settled, EndsFrom, knows_floor};
 
 use crate::blob::Blob;
 use crate::refusal::SetupError;
-use crate::setup::Setup;
-use geo_stamp::Vector;
+use crate::setup::{Limits, Setup};
+use geo_stamp::{Stamp, Vector};
 use geo_versions::{Key, Version, Versions};
 use indexmap::IndexMap;
 use std::alloc::{AllocError, Global};
@@ -20,15 +20,20 @@ use std::hash::RandomState;
 #[derive(Drop)]
 pub struct Site {
     pub(crate) number: u8,
-    pub(crate) max_records: u32,
+    pub(crate) limits: Limits,
     pub(crate) vector: Vector,
     pub(crate) versions: Versions,
     pub(crate) held: IndexMap<Key, Blob, RandomState>,
     pub(crate) hits: u64,
     pub(crate) misses: u64,
+    /// The moment of the flush that waits, in seconds.
+    pub(crate) waiting: Option<u64>,
+    /// No record has an expiry before this moment, but for 0.
+    pub(crate) earliest: u64,
     ghost numbered: { Numbered number vector },
     ghost floor_known: { knows_floor vector (floor_in versions) ≡ true },
     ghost covered: { Covers vector (record_in versions) },
+    ghost ends: { EndsFrom earliest (record_in versions) },
     ghost named: { Settled (record_in versions) (λ key. get same_key held key) },
 }
 
@@ -56,12 +61,17 @@ impl Site {
         };
         Ok(Site {
             number: setup.site,
-            max_records: setup.max_records,
+            limits: Limits {
+                max_records: setup.max_records,
+                reap_after: setup.reap_after,
+            },
             vector: Vector::new(setup.sites as usize),
             versions: Versions::new(alloc, setup.hasher),
             held: IndexMap::with_hasher(alloc, hasher),
             hits: 0,
             misses: 0,
+            waiting: None,
+            earliest: u64::MAX,
         })
     }
 
@@ -70,6 +80,13 @@ impl Site {
         ensures { result.now ≡ (state_in self.now).vector }
     {
         &self.vector
+    }
+
+    /// The greatest stamp of a flush that it knows.
+    pub fn floor(&self) -> Option<Stamp>
+        ensures { result ≡ (state_in self.now).floor }
+    {
+        self.versions.floor()
     }
 
     /// The version of a key.

@@ -1,9 +1,12 @@
 //! What no clause says: that the calls succeed where there is memory, and what clients read, worked out by hand. Here is what the
 //! tests are made of.
 mod clients;
+mod flushes;
+mod moments;
 mod open;
 mod pairs;
 mod parcels;
+mod reaping;
 mod stores;
 
 use crate::{Setup, Site, Taken};
@@ -15,11 +18,14 @@ use std::hash::RandomState;
 use std::process::Abort;
 use std::test::Fail;
 
-/// The moment of every request.
+/// The moment of every request that has no other.
 const NOW: u64 = 100;
 
 /// What a client says, and what it reads.
 type Row = (&'static str, &'static str);
+
+/// At which moment a client says what, and what it reads.
+type Moment = (u64, &'static str, &'static str);
 
 fn key(alloc: Global, bytes: &[u8]) -> Result<Key, Fail> {
     Ok(Key::new(alloc, bytes)?.ok_or("no key")?)
@@ -37,6 +43,7 @@ fn opened(
         site,
         sites,
         max_records,
+        reap_after: 60,
         hasher,
     };
     Ok(Site::new(alloc, setup).ok().ok_or("no site")?)
@@ -46,24 +53,25 @@ fn opened(
 fn answer(
     alloc: Global,
     site: &mut Site,
+    now: u64,
     item: &Item,
     out: &mut Vec<u8>,
 ) -> Result<(), AllocError> {
     match item {
         Item::Request(request) => {
-            let reply = site.act(alloc, NOW, request);
+            let reply = site.act(alloc, now, request);
             push_answer(out, request, &reply)
         }
         Item::Fault(fault) => out.extend_from_slice(fault_text(*fault)),
     }
 }
 
-/// What a client of a site reads, who says this.
-fn read(alloc: Global, site: &mut Site, text: &[u8]) -> Result<Vec<u8>, AllocError> {
+/// What a client of a site reads, who says this at a moment.
+fn read(alloc: Global, site: &mut Site, now: u64, text: &[u8]) -> Result<Vec<u8>, AllocError> {
     let items = Reader::new(alloc).feed(text)?;
     let mut out = Vec::new(alloc);
     for item in &items {
-        answer(alloc, site, item, &mut out)?;
+        answer(alloc, site, now, item, &mut out)?;
     }
     Ok(out)
 }
@@ -71,8 +79,22 @@ fn read(alloc: Global, site: &mut Site, text: &[u8]) -> Result<Vec<u8>, AllocErr
 /// A client of a site says one text after the other, and reads what stands beside each.
 fn says(rt: &impl Abort, alloc: Global, site: &mut Site, rows: &[Row]) -> Result<(), AllocError> {
     for (text, want) in rows {
-        let got = read(alloc, site, text.as_bytes())?;
+        let got = read(alloc, site, NOW, text.as_bytes())?;
         assert_eq!(rt; got.as_slice(), want.as_bytes(), "{text:?}");
+    }
+    Ok(())
+}
+
+/// A client of a site says texts at their moments, and reads what stands beside each.
+fn says_at(
+    rt: &impl Abort,
+    alloc: Global,
+    site: &mut Site,
+    rows: &[Moment],
+) -> Result<(), AllocError> {
+    for (now, text, want) in rows {
+        let got = read(alloc, site, *now, text.as_bytes())?;
+        assert_eq!(rt; got.as_slice(), want.as_bytes(), "{text:?} at {now}");
     }
     Ok(())
 }

@@ -19,6 +19,7 @@ fn refusal(
         site,
         sites,
         max_records,
+        reap_after: 60,
         hasher,
     };
     Site::new(alloc, setup).err()

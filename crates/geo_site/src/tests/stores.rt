@@ -29,7 +29,7 @@ fn stores(
 
 /// Whether `gets a` shows a mebibyte under the first number.
 fn shows_a_mebibyte(alloc: Global, site: &mut Site) -> Result<bool, AllocError> {
-    let text = read(alloc, site, b"gets a\r\n")?;
+    let text = read(alloc, site, NOW, b"gets a\r\n")?;
     Ok(text.starts_with(b"VALUE a 0 1048576 257\r\n"))
 }
 

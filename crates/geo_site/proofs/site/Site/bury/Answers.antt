@@ -11,6 +11,7 @@ use Rattle.geo_versions.specs.Maps.{floor_in, record_in}
 use Rattle.geo_site.specs.Entries.{Held}
 use Rattle.geo_site.specs.Machine.{knows_floor, knows_record}
 use Rattle.geo_site.proofs.Entries.{Within, length_raised}
+use Rattle.geo_site.proofs.Ending.{ends_gone}
 use Rattle.geo_site.proofs.Written.{delete_puts, write_floor, write_covers, write_named, write_same}
 use Rattle.geo_site.proofs.site.Site.bury.Goals as goal
 
@@ -38,6 +39,7 @@ invariant_of-self-2 c =
     record {
       numbered = (s.numbered.0, (let h = s.numbered.1 in omega (arith, many, h)), (let h = s.numbered.2 in omega (arith, many, h)));
       floor_known = ap (λ v. knows_floor v f') vec ∙ floor;
+      ends = ends_gone s.earliest (record { time = greatest_of v + 1; site = n }) f map map' key (Some (record { time = greatest_of v + 1; site = n }, Gone)) s.ends new;
       covered = λ q. ap (λ v. knows_record v (map' q)) vec ∙ covers q;
       named = write_named v f f' map map' held held' n 0 key (Delete key) Gone None (delete_puts key) s.floor_known s.covered s.named norm num c.in_ok-write.ensures.floor new new_held;
     }

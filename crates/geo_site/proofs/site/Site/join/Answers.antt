@@ -1,12 +1,15 @@
-use Rattle.std.proofs.Common.{◌≡◌, arith, ap, sym, ◌∙◌, length}
+use Rattle.std.proofs.Common.{◌≡◌, ℕ, List, subst, arith, ap, sym, ◌∙◌, length}
 use Rattle.indexmap.specs.IndexMap.{get}
 use Rattle.geo_stamp.specs.Vectors.{vector_joined, greatest_of, raised}
 use Rattle.geo_versions.specs.Keys.{same_key}
 use Rattle.geo_versions.specs.Operations.{above_both, record_joined, floor_joined, version_in}
-use Rattle.geo_versions.specs.Maps.{listed_at}
+use Rattle.geo_versions.specs.Maps.{Rec, listed_at}
 use Rattle.geo_versions.specs.Maps.{floor_in, record_in}
 use Rattle.geo_site.specs.Machine.{knows_record, knows_floor}
 use Rattle.geo_site.proofs.Entries.{Within, length_joined, length_raised}
+use Rattle.std.specs.List.{All}
+use Rattle.geo_site.specs.Sites.{EndFrom}
+use Rattle.geo_site.proofs.Ending.{ends_joined, listed_ends}
 use Rattle.geo_site.proofs.Sound.{named_some}
 use Rattle.geo_site.proofs.Writing.{knows_joined, knows_floors, knows_more, knows_floor_more}
 use Rattle.geo_site.proofs.Taking.{left_rises, right_rises, all_listed}
@@ -33,5 +36,8 @@ invariant_of-self c =
       covered = λ q. (λ i. knows_record (vec i) ((c.join_records.ensures.records q ∙ ap (λ h. above_both h (record_joined (record_in s.versions q) (listed_at c.into_vec.result.items q))) c.join_records.ensures.floor) i))
           ∙ ap (λ xs. knows_record new (above_both (floor_joined f g) (record_joined (record_in s.versions q) (listed_at xs q)))) c.into_vec.ensures
           ∙ knows_joined new (floor_joined f g) (record_in s.versions q) (listed_at c.args.records q) (knows_more v new up (record_in s.versions q) (s.covered q)) (knows_more c.args.upto new other (listed_at c.args.records q) (all_listed c.args.upto c.args.records q c.requires.records_known));
+      ends = ends_joined s.earliest c.earliest_in-self.result (floor_in c.join_records.new.self) (record_in s.versions) (listed_at c.args.records) (record_in c.join_records.new.self) s.ends c.earliest_in-self.ensures.least
+          (listed_ends c.earliest_in-self.result c.args.records (subst (λ (es : List (List ℕ × Rec)). All (EndFrom c.earliest_in-self.result) es) c.as_slice.ensures c.earliest_in-self.ensures.ends))
+          (λ q. c.join_records.ensures.records q ∙ ap (λ xs. above_both (floor_in c.join_records.new.self) (record_joined (record_in s.versions q) (listed_at xs q))) c.into_vec.ensures);
       named = λ q b h. (named_some (version_in (record_in c.join_records.new.self q)) (get same_key s.held q) b (sym (c.keep_named.ensures.kept q) ∙ h)).1;
     }

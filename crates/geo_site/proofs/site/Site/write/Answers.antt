@@ -1,4 +1,4 @@
-use Rattle.std.proofs.Common.{◌≡◌, ◌+◌, ℕ, List, arith, ap, ◌∙◌, length}
+use Rattle.std.proofs.Common.{sym, subst, ◌≤◌, ◌≡◌, ◌+◌, ℕ, List, arith, ap, ◌∙◌, length}
 use Rattle.std.specs.Prelude.{cond, Some}
 use Rattle.sha2.specs.Sha256.{sha256}
 use Rattle.indexmap.specs.IndexMap.{get}
@@ -13,6 +13,7 @@ use Rattle.std.specs.Map.{lookup}
 use Rattle.geo_site.specs.Machine.{knows_floor, knows_record}
 use Rattle.geo_site.proofs.Entries.{Within, length_raised}
 use Rattle.geo_versions.specs.Operations.Act.{Write}
+use Rattle.geo_site.proofs.Ending.{ends_put}
 use Rattle.geo_site.proofs.Written.{write_puts, write_floor, write_covers, write_named, write_same}
 use Rattle.geo_site.proofs.site.Site.write.Goals as goal
 
@@ -43,6 +44,7 @@ invariant_of-self-2 c =
     record {
       numbered = (s.numbered.0, (let h = s.numbered.1 in omega (arith, many, h)), (let h = s.numbered.2 in omega (arith, many, h)));
       floor_known = ap (λ v. knows_floor v f') vec ∙ floor;
+      ends = λ q st e h ne. subst (λ least. least ≤ e) (sym c.earlier-self.ensures) (ends_put s.earliest c.args.expiry (record { time = greatest_of v + 1; site = n }) f map map' key (Some (record { time = greatest_of v + 1; site = n }, Value (sha256 bytes) c.args.flags (length bytes))) s.ends new q st e h ne);
       covered = λ q. ap (λ v. knows_record v (map' q)) vec ∙ covers q;
       named = write_named v f f' map map' held held' n c.args.expiry key (Write key bytes c.args.flags c.args.expiry) (Value (sha256 bytes) c.args.flags (length bytes)) (Some bytes) (write_puts key bytes c.args.flags c.args.expiry) s.floor_known s.covered s.named norm num c.in_ok-write.ensures.floor new new_held;
     }

@@ -1,0 +1,35 @@
+use Rattle.std.proofs.Common.{◌≡◌, ℕ, ◌++◌, cond, take, [], ◌∷◌, ap, ◌∙◌, sym}
+use Rattle.std.proofs.lemmas.List.{append-nil}
+use Rattle.std.specs.Prelude.{option_to_list}
+use Rattle.geo_site.specs.Entries.{found_after, touched_of}
+use Rattle.geo_site.specs.Machine.{visible_in}
+use Rattle.geo_site.specs.Sites.{state_in}
+use Rattle.geo_site.proofs.Fetching.{touched_next, found_after_one, found_after_none}
+use Rattle.geo_site.proofs.site.Site.found_to_touch.Goals.{in-Some+in_ok-push, in_default}
+use Rattle.geo_site.proofs.site.Site.found_to_touch.Goals as goal
+
+pub loop-index-preserved : goal.loop-index-preserved
+loop-index-preserved c =
+    let seen = visible_in (state_in c.args.self.now) c.args.now in
+    let before = take c.loop-index.index c.args.keys.now in
+    let key = c.index-keys-index.result in
+    let after = found_after c.args.now c.args.expiry c.args.numbers seen before key in
+    let next = touched_next c.args.now c.args.expiry c.args.numbers seen c.args.keys.now c.loop-index.index key c.loop-index-test.true c.index-keys-index.is in
+    let is : after ≡ option_to_list c.in_ok-found.field-0 = found_after_one c.args.now c.args.expiry c.args.numbers seen before key (c.is_found.ensures c.args.numbers ∙ ap (λ t. cond {A = ℕ} t 1 0) c.if-not-is_found.false) ∙ sym c.in_ok-found.ensures in
+    elim c.match-branch-2.branch [
+      | in-Some+in_ok-push w ↦
+          let one : after ≡ w.in-Some.found ∷ [] = is ∙ ap option_to_list w.in-Some.is in
+          ap (λ x. x.items) w.all-is ∙ w.in_ok-push.ensures.items ∙ (λ i. c.loop-index.invariant i ++ sym one i) ∙ sym next
+      | in_default w ↦
+          let none : after ≡ [] = is ∙ ap option_to_list w.in_default.is in
+          ap (λ x. x.items) w.all-is ∙ c.loop-index.invariant ∙ sym (append-nil (touched_of c.args.now c.args.expiry c.args.numbers seen before)) ∙ (λ i. touched_of c.args.now c.args.expiry c.args.numbers seen before ++ sym none i) ∙ sym next
+    ]
+
+pub loop-index-preserved-then-not-is_found : goal.loop-index-preserved-then-not-is_found
+loop-index-preserved-then-not-is_found c =
+    let seen = visible_in (state_in c.args.self.now) c.args.now in
+    let before = take c.loop-index.index c.args.keys.now in
+    let key = c.index-keys-index.result in
+    let next = touched_next c.args.now c.args.expiry c.args.numbers seen c.args.keys.now c.loop-index.index key c.loop-index-test.true c.index-keys-index.is in
+    let none : found_after c.args.now c.args.expiry c.args.numbers seen before key ≡ [] = found_after_none c.args.now c.args.expiry c.args.numbers seen before key (c.is_found.ensures c.args.numbers ∙ ap (λ t. cond {A = ℕ} t 1 0) c.if-not-is_found.true) in
+    c.loop-index.invariant ∙ sym (append-nil (touched_of c.args.now c.args.expiry c.args.numbers seen before)) ∙ (λ i. touched_of c.args.now c.args.expiry c.args.numbers seen before ++ sym none i) ∙ sym next

@@ -1,0 +1,144 @@
+//! Touches: they give a key another expiry and leave all else as it is.
+ghost use Rattle.std.specs.Prelude.{◌≡◌, ◌≤◌, ◌+◌, ℕ, Bool, List, [], ◌∷◌, nat_le, cond, false, length, IfOk, take, slice_index};
+ghost use Rattle.std.specs.List.{list_any, All};
+ghost use Rattle.geo_stamp.specs.Stamps.{last_time};
+ghost use Rattle.geo_grammar.specs.declared.reply.Found.{Found as FoundOf};
+ghost use Rattle.geo_versions.specs.Keys.{same_key};
+ghost use Rattle.geo_versions.specs.Operations.Act.{Touch};
+ghost use Rattle.geo_site.specs.Entries.{touches_of, found_after};
+ghost use Rattle.geo_site.specs.Machine.{clock_of, visible_in};
+ghost use Rattle.geo_site.specs.Sites.{state_in, touched_in, HasIssued, Rests, Stays, FetchTouchDoes};
+ghost use Rattle.geo_site.specs.Changes.{next_stamp_of, HasRecord, HasBody};
+
+use crate::reap::earlier;
+use crate::site::Site;
+use geo_grammar::{Found, Reply};
+use geo_lattice::Items;
+use geo_memcache::live;
+use geo_stamp::{LAST_TIME, Stamp};
+use geo_versions::Key;
+use std::alloc::{AllocError, Global};
+
+/// Whether a key is one of these.
+fn is_among(keys: &[Key], key: &Key) -> bool
+    ensures { result ≡ list_any (same_key key.now) keys.now }
+{
+    keys.iter().any(|other| key == other)
+}
+
+impl Site {
+    /// Gives a key another expiry. It takes no memory.
+    pub(crate) fn renew(&mut self, stamp: Stamp, key: &Key, expiry: u64)
+        requires next { stamp ≡ next_stamp_of self.old }
+        requires there { HasRecord self.old key.now }
+        ensures issued { HasIssued self.old self.new (Touch key.now expiry ∷ []) }
+        ensures bodies { (q : List ℕ) → ((state_in self.new).map q).0 ≡ ((state_in self.old).map q).0 }
+        ensures rests { Rests self.old self.new }
+        ensures stays { Stays self.old self.new }
+    {
+        self.versions.touch(key, stamp, expiry);
+        self.vector.raise(self.number, stamp.time());
+        self.earliest = earlier(self.earliest, expiry);
+    }
+
+    /// Whether a touch with this expiry finds a key, after those of the keys before it: one that ended it leaves nothing to find.
+    fn is_found(&self, now: u64, expiry: u64, before: &[Key], key: &Key) -> bool
+        ensures { (numbers : Bool) → length (found_after now expiry numbers (visible_in (state_in self.now) now) before.now key.now) ≡ cond result 1 0 }
+    {
+        self.entry(now, key).is_some() && (live(expiry, now) || !is_among(before, key))
+    }
+
+    /// How many touches a fetch of these keys makes.
+    fn touch_count(&self, now: u64, expiry: u64, keys: &[Key]) -> usize
+        ensures { (numbers : Bool) → result ≡ length (touched_in self.now now expiry keys.now numbers) }
+    {
+        let mut count = 0;
+        for (index, key) in keys.iter().enumerate() {
+            if self.is_found(now, expiry, &keys[..index], key) {
+                count += 1;
+            }
+        }
+        count
+    }
+
+    /// What a fetch of these keys shows that touches them.
+    fn found_to_touch(
+        &self,
+        alloc: Global,
+        now: u64,
+        expiry: u64,
+        keys: &[Key],
+        numbers: bool,
+    ) -> Result<Vec<Found>, AllocError>
+        ensures { IfOk result (λ all. all.items ≡ touched_in self.now now expiry keys.now numbers) }
+    {
+        let mut all = Vec::new(alloc);
+        for (index, key) in keys.iter().enumerate() {
+            if !self.is_found(now, expiry, &keys[..index], key) {
+                continue;
+            }
+            if let Some(found) = self.look(alloc, now, key, numbers)? {
+                all.push(found)?;
+            }
+        }
+        Ok(all)
+    }
+
+    /// Whether stamps are left for so many operations.
+    fn has_stamps(&self, count: usize) -> bool
+        ensures left { result ≡ nat_le (clock_of (state_in self.now) + count) last_time }
+        ensures some { result ≡ false → 1 ≤ count }
+    {
+        count as u64 <= LAST_TIME - self.vector.greatest()
+    }
+
+    /// Whether stamps are left for the touches that a fetch of these keys makes.
+    fn can_touch(&self, now: u64, expiry: u64, keys: &[Key]) -> bool
+        ensures left { (numbers : Bool) → result ≡ nat_le (clock_of (state_in self.now) + length (touched_in self.now now expiry keys.now numbers)) last_time }
+        ensures some { (numbers : Bool) → result ≡ false → 1 ≤ length (touched_in self.now now expiry keys.now numbers) }
+    {
+        if self.has_stamps(keys.len()) {
+            return true;
+        }
+        self.has_stamps(self.touch_count(now, expiry, keys))
+    }
+
+    /// Touches what was found, one after the other.
+    fn renew_all(&mut self, expiry: u64, found: &[Found])
+        requires stamps { clock_of (state_in self.old) + length found.now ≤ last_time }
+        requires there { All (λ (f : FoundOf). HasBody self.old f.key) found.now }
+        ensures issued { HasIssued self.old self.new (touches_of expiry found.now) }
+        ensures rests { Rests self.old self.new }
+        ensures stays { Stays self.old self.new }
+    {
+        for entry in found {
+            if let Some(stamp) = self.stamp() {
+                self.renew(stamp, &entry.key, expiry);
+            }
+        }
+    }
+
+    /// Shows what is found of keys, one after the other, and touches each of it. ClockEnded where a stamp is wanting, then want
+    /// of memory; neither touches anything. It counts nothing.
+    pub(crate) fn fetch_touch(
+        &mut self,
+        alloc: Global,
+        now: u64,
+        expiry: u64,
+        keys: &[Key],
+        numbers: bool,
+    ) -> Reply
+        ensures does { FetchTouchDoes self.old self.new now expiry keys.now numbers result }
+        ensures rests { Rests self.old self.new }
+        ensures stays { Stays self.old self.new }
+    {
+        if !self.can_touch(now, expiry, keys) {
+            return Reply::ClockEnded;
+        }
+        let Ok(found) = self.found_to_touch(alloc, now, expiry, keys, numbers) else {
+            return Reply::OutOfMemory;
+        };
+        self.renew_all(expiry, &found);
+        Reply::Values(Items::of(found))
+    }
+}
