@@ -1,33 +1,54 @@
--- What a site does on a request where no memory is wanted.
-use Rattle.std.proofs.Common.{◌≡◌, ℕ, Bool, true, false, cond, inl, inr, List, length, refl, ap, ◌∙◌}
+-- What a site does on a request where no memory is wanted, and that it keeps its seat.
+use Rattle.std.proofs.Common.{◌≡◌, ℕ, Bool, true, false, inl, inr, List, length, refl, ap, ◌∙◌, Result, Ok, Err}
 use Rattle.geo_grammar.specs.declared.request.Request.{Request}
 use Rattle.geo_grammar.specs.declared.reply.Reply.{Reply}
 use Rattle.geo_grammar.specs.declared.reply.Reply.TheVariants.{OutOfMemory}
 use Rattle.geo_versions.specs.Operations.{Act}
-use Rattle.geo_site.specs.Entries as site
-use Rattle.geo_site.specs.Entries.{is_done, counted}
-use Rattle.geo_site.specs.Machine.{Same, visible_in}
-use Rattle.geo_site.specs.Sites.{state_in, basis_in, issued_in, counts_in, HasIssued}
+use Rattle.geo_site.specs.Entries.{is_done, due_acts}
+use Rattle.geo_site.specs.Machine.{Same}
+use Rattle.geo_site.specs.Sites.{state_in, issued_in, clock_in, waiting_in, reaped_in, HasIssued, FlushDoes, RequestDoesBy, ActDoes, ReapResult, ReapDoes}
+use Rattle.geo_site.specs.declared.refusal.ReapError.{ReapError}
+use Rattle.geo_site.specs.declared.refusal.ReapError.TheVariants.{ClockEnded, Memory}
 use Rattle.geo_site.specs.declared.site.Site.{Site}
-use Rattle.geo_cluster.specs.Answering.{owed_in, Does, KeepsSeat}
-use Rattle.geo_cluster.proofs.Seats.{length-issue_all}
+use Rattle.geo_cluster.specs.Answering.{sites_of, owed_by, stuck_in, Does, KeepsSeat}
+use Rattle.geo_cluster.proofs.Seats.{length-issue_all, kept_on}
+
+-- as many sites are known, whatever is issued
+pub issued_sites : (old new : Site) (acts : List Act) → HasIssued old new acts → sites_of new ≡ sites_of old
+issued_sites old new acts h = ap (λ (v : List ℕ). length v) h.vector ∙ length-issue_all old.number acts (state_in old)
+
+acted_sites : (old new : Site) (acts : List Act) (done : Bool) → (done ≡ true → HasIssued old new acts) → (done ≡ false → Same (state_in old) (state_in new)) → sites_of new ≡ sites_of old
+acted_sites old new acts true h k = issued_sites old new acts (h refl)
+acted_sites old new acts false h k = ap (λ (v : List ℕ). length v) (k refl).vector
+
+-- a due flush, a request behind it, and both
+flush_seat : (old new : Site) (now : ℕ) → FlushDoes old new now → KeepsSeat old new
+flush_seat old new now h = (h.stays.0, issued_sites old new (due_acts (waiting_in old) (clock_in old) now) h.issued, h.stays.1)
+
+request_seat : (stuck : Bool) (old new : Site) (now : ℕ) (request : Request) (said : Reply) → RequestDoesBy stuck old new now request said → KeepsSeat old new
+request_seat true old new now request said h = (h.3.0, ap (λ (v : List ℕ). length v) h.1.vector, h.3.1)
+request_seat false old new now request said h = (h.stays.0, acted_sites old new (issued_in old now request) (is_done said) h.done h.refused, h.stays.1)
+
+pub act_seat : (old new : Site) (now : ℕ) (request : Request) (said : Reply) → ActDoes old new now request said → KeepsSeat old new
+act_seat old new now request said h = kept_on old h.mid new (flush_seat old h.mid now h.flush) (request_seat (stuck_in old now) h.mid new now request said h.does)
 
 -- a reply that isn't want of memory is the one that is owed
-pub owed_said : (old : Site) (now : ℕ) (request : Request) (said : Reply) → site.Answers now (basis_in old now) request said → (said ≡ OutOfMemory → ⊥) → said ≡ owed_in old now request
-owed_said old now request said h other = elim h [ inl is ↦ is | inr memory ↦ absurd (other memory.0) ]
+owed_said : (stuck : Bool) (old new : Site) (now : ℕ) (request : Request) (said : Reply) → RequestDoesBy stuck old new now request said → (said ≡ OutOfMemory → ⊥) → said ≡ owed_by stuck old now request
+owed_said true old new now request said h other = h.0
+owed_said false old new now request said h other = elim h.answer [ inl is ↦ is | inr memory ↦ absurd (other memory.0) ]
 
--- what is done by the reply is done by what is owed
-pub does_owed : (old new : Site) (now : ℕ) (request : Request) (said : Reply) → said ≡ owed_in old now request
-    → (is_done said ≡ true → HasIssued old new (issued_in old now request)) → (is_done said ≡ false → Same (state_in old) (state_in new))
-    → counts_in new ≡ cond (is_done said) (counted (visible_in (state_in old) now) request (counts_in old)) (counts_in old) → KeepsSeat old new → Does old now request new
-does_owed old new now request said e done refused counts seat = record {
-  done = λ h. done (ap is_done e ∙ h);
-  refused = λ h. refused (ap is_done e ∙ h);
-  counts = counts ∙ ap (λ r. cond (is_done r) (counted (visible_in (state_in old) now) request (counts_in old)) (counts_in old)) e;
-  seat = seat;
+pub act_does : (old new : Site) (now : ℕ) (request : Request) (said : Reply) → ActDoes old new now request said → (said ≡ OutOfMemory → ⊥) → Does old now request said new
+act_does old new now request said h other = record {
+  act = h;
+  owed = owed_said (stuck_in old now) h.mid new now request said h.does other;
+  seat = act_seat old new now request said h;
 }
 
--- whether a request is done or refused, as many sites are known
-pub acted_sites : (old new : Site) (acts : List Act) (done : Bool) → (done ≡ true → HasIssued old new acts) → (done ≡ false → Same (state_in old) (state_in new)) → length new.vector ≡ length old.vector
-acted_sites old new acts true h k = ap (λ (v : List ℕ). length v) (h refl).vector ∙ length-issue_all old.number acts (state_in old)
-acted_sites old new acts false h k = ap (λ (v : List ℕ). length v) (k refl).vector
+-- a reap
+reaped_sites : (old new : Site) (now : ℕ) (key : List ℕ) (outcome : Result Bool ReapError) → ReapResult old new now key outcome → sites_of new ≡ sites_of old
+reaped_sites old new now key (Ok done) h = issued_sites old new (reaped_in old now key) h.2
+reaped_sites old new now key (Err ClockEnded) h = ap (λ (v : List ℕ). length v) h.1.vector
+reaped_sites old new now key (Err Memory) h = absurd h
+
+pub reap_seat : (old new : Site) (now : ℕ) (key : List ℕ) (outcome : Result Bool ReapError) → ReapDoes old new now key outcome → KeepsSeat old new
+reap_seat old new now key outcome h = kept_on old h.mid new (flush_seat old h.mid now h.flush) (h.stays.0, reaped_sites h.mid new now key outcome h.does, h.stays.1)

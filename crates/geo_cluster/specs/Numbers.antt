@@ -1,11 +1,11 @@
--- The numbers of a script that count something: decimal digits, with leading zeros as one likes and without a sign.
-use Rattle.std.specs.Prelude.{ℕ, ◌==◌, List, Option, Some, None, if◌then◌else◌}
+-- The numbers of a script: decimal digits, with leading zeros as one likes and without a sign.
+use Rattle.std.specs.Prelude.{ℕ, nat_lt, List, Option, Some, None, if◌then◌else◌}
 use Rattle.std.specs.Option.{option_and_then}
 use Rattle.geo_grammar.specs.Words.{number_of}
 
-abbrev pub nonzero : ℕ → Option ℕ
-nonzero n = if n == 0 then None else Some n
+abbrev pub at_least : ℕ → ℕ → Option ℕ
+at_least least n = if nat_lt n least then None else Some n
 
--- the number that a word of decimal digits writes, if it is at least 1 and at most `most`
-abbrev pub count_of : ℕ → List ℕ → Option ℕ
-count_of most word = option_and_then nonzero (number_of most word)
+-- the number that a word of decimal digits writes, if it is at least `least` and at most `most`
+abbrev pub ranged_of : ℕ → ℕ → List ℕ → Option ℕ
+ranged_of least most word = option_and_then (at_least least) (number_of most word)

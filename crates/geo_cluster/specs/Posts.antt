@@ -1,30 +1,38 @@
 -- The sites of a script, each with the reader of its one client's bytes, and what each call of one does.
-use Rattle.std.specs.Prelude.{◌≡◌, ◌⊎◌, ℕ, ◌+◌, ◌||◌, false, if◌then◌else◌, List, length, slice_get, Some}
+use Rattle.std.specs.Prelude.{◌≡◌, ◌⊎◌, ℕ, ◌+◌, ◌||◌, Bool, false, if◌then◌else◌, List, length, slice_get, None, Some, Result}
+use Rattle.std.specs.Map.{lookup}
 use Rattle.geo_grammar.specs.Places.{Place, start_place, items_from, place_after, is_ended}
 use Rattle.geo_delta.specs.declared.parcel.Parcel.{Parcel}
+use Rattle.geo_versions.specs.Keys.{same_key}
+use Rattle.geo_versions.specs.Maps.{Rising}
+use Rattle.geo_versions.specs.Operations.{version_in}
+use Rattle.geo_versions.specs.declared.version.Version.{Version}
 use Rattle.geo_site.specs.Entries.{none_counted}
 use Rattle.geo_site.specs.Machine.{Same, fresh, take}
-use Rattle.geo_site.specs.Sites.{state_in, counts_in, most_records, delta_of, Takes, RefusesFor}
+use Rattle.geo_site.specs.Sites.{state_in, counts_in, waiting_in, limits_of, delta_of, Takes, RefusesFor, Rests, TickDoes, ReapDoes}
 use Rattle.geo_site.specs.declared.refusal.TakeError.{TakeError}
-use Rattle.geo_cluster.specs.Prints.{taken_text}
-use Rattle.geo_cluster.specs.Answering.{number_of, sites_of, KeepsSeat, AnswersItems, has_quit, until_quit, IsRefusalText}
+use Rattle.geo_site.specs.declared.refusal.ReapError.{ReapError}
+use Rattle.geo_cluster.specs.Prints.{taken_text, tick_text, versions_text}
+use Rattle.geo_cluster.specs.Answering.{number_of, sites_of, KeepsSeat, AnswersItems, has_quit, until_quit, IsRefusalText, IsReapText}
 use Rattle.geo_cluster.specs.declared.script.post.Post.{Post}
 
 -- sites are numbered from 1, and each knows how many there are
 abbrev pub AreNumbered : List Post → Type 0
 AreNumbered posts = (k : ℕ) (post : Post) → slice_get posts k ≡ Some post → (number_of post.site ≡ k + 1) × (sites_of post.site ≡ length posts)
 
--- a new site knows nothing, may keep so many records and has counted nothing, and nothing came from its client
-pub record IsOpened (number sites most : ℕ) (post : Post) : Type 0 where
+-- a new site knows nothing, may keep so many records and its own writes for so many seconds behind their end, and has counted
+-- nothing; no flush waits there, and nothing came from its client
+pub record IsOpened (number sites most reap : ℕ) (post : Post) : Type 0 where
   pub number_is : number_of post.site ≡ number
   pub state : Same (fresh sites) (state_in post.site)
-  pub limit : most_records post.site ≡ most
+  pub limits : limits_of post.site ≡ record { max_records = most; reap_after = reap }
   pub counts : counts_in post.site ≡ none_counted
+  pub waiting : waiting_in post.site ≡ None
   pub reader : post.reader ≡ start_place
   pub ended : post.ended ≡ false
 
-abbrev pub AreOpened : ℕ → ℕ → List Post → Type 0
-AreOpened sites most posts = (k : ℕ) (post : Post) → slice_get posts k ≡ Some post → IsOpened (k + 1) sites most post
+abbrev pub AreOpened : ℕ → ℕ → ℕ → List Post → Type 0
+AreOpened sites most reap posts = (k : ℕ) (post : Post) → slice_get posts k ≡ Some post → IsOpened (k + 1) sites most reap post
 
 -- where the reader stands to which a client's next bytes come: where the last connection has ended they open a new one
 abbrev pub place_in : Post → Place
@@ -37,7 +45,8 @@ pub record AnswersBytes (old : Post) (now : ℕ) (bytes answer : List ℕ) (new 
   pub items : AnswersItems old.site now (until_quit (items_from (place_in old) bytes)) answer new.site
   pub ended : new.ended ≡ (has_quit (items_from (place_in old) bytes) || is_ended (place_after (place_in old) bytes))
 
--- a parcel is taken, or refused for a cause that holds and changes nothing; neither counts a hit or a miss
+-- a parcel is taken, or refused for a cause that holds and changes nothing; neither counts a hit or a miss, nor moves a flush
+-- that waits
 pub record TakesWell (old : Post) (parcel : Parcel) (text : List ℕ) (new : Post) : Type 0 where
   pub prints : text ≡ taken_text
   pub may : Takes old.site parcel
@@ -52,6 +61,29 @@ pub record Declines (old : Post) (parcel : Parcel) (text : List ℕ) (new : Post
 pub record TakesParcel (old : Post) (parcel : Parcel) (text : List ℕ) (new : Post) : Type 0 where
   pub outcome : TakesWell old parcel text new ⊎ Declines old parcel text new
   pub seat : KeepsSeat old.site new.site
-  pub counts : counts_in new.site ≡ counts_in old.site
+  pub rests : Rests old.site new.site
   pub reader : new.reader ≡ old.reader
   pub ended : new.ended ≡ old.ended
+
+-- a site carries out a due flush, or there is none
+pub record TicksAt (old : Post) (now : ℕ) (text : List ℕ) (new : Post) : Type 0 where
+  pub done : Bool
+  pub does : TickDoes old.site new.site now done
+  pub prints : text ≡ tick_text done
+  pub reader : new.reader ≡ old.reader
+  pub ended : new.ended ≡ old.ended
+
+-- a site deletes a key that is to be reaped, or there is nothing to reap
+pub record ReapsAt (old : Post) (now : ℕ) (key text : List ℕ) (new : Post) : Type 0 where
+  pub outcome : Result Bool ReapError
+  pub does : ReapDoes old.site new.site now key outcome
+  pub prints : IsReapText outcome text
+  pub reader : new.reader ≡ old.reader
+  pub ended : new.ended ≡ old.ended
+
+-- what a site knows is listed: its floor, and the version of each key by rising key
+pub record Lists (post : Post) (text : List ℕ) : Type 0 where
+  pub all : List (List ℕ × Version)
+  pub rising : Rising all
+  pub those : (key : List ℕ) → lookup (same_key key) all ≡ version_in ((state_in post.site).map key)
+  pub prints : text ≡ versions_text (state_in post.site).floor all

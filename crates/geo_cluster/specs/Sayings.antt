@@ -3,48 +3,75 @@ use Rattle.std.specs.Prelude.{ℕ, ◌==◌, Bool, true, List, [], ◌∷◌, Op
 use Rattle.std.specs.Option.{option_map, option_and_then}
 use Rattle.std.specs.Str.{bytes_eq}
 use Rattle.geo_grammar.specs.Words.{number_of}
-use Rattle.geo_cluster.specs.Numbers.{count_of}
+use Rattle.geo_versions.specs.Keys.{is_key}
+use Rattle.geo_cluster.specs.Numbers.{ranged_of}
 use Rattle.geo_cluster.specs.Escapes.{unescaped}
 use Rattle.geo_cluster.specs.Cuts.{cut_at}
 
 pub data Said : Type 0 where
-  SaysSites : (count most : ℕ) → Said
+  SaysSites : (count most reap : ℕ) → Said
   SaysAt : (moment : ℕ) → Said
   SaysClient : (site : ℕ) (text : List ℕ) → Said
   SaysSend : (from to : ℕ) → Said
   SaysTake : (site parcel : ℕ) → Said
+  SaysTick : (site : ℕ) → Said
+  SaysReap : (site : ℕ) (key : List ℕ) → Said
+  SaysVersions : (site : ℕ) → Said
 
 -- what stands before the first space, and what stands behind it
 abbrev pub cut_of : List ℕ → Option (List ℕ × List ℕ)
 cut_of line = cut_at 32 line
 
--- the numbers of sites are 1 to 16, records at most 1 to 1,000,000, moments 1 to 2^40, and parcels count from 0
+-- the numbers of sites are 1 to 16, moments 1 to 2^40, and parcels count from 0
 abbrev pub site_of : List ℕ → Option ℕ
-site_of word = count_of 16 word
-
-abbrev pub limit_of : List ℕ → Option ℕ
-limit_of word = count_of 1000000 word
+site_of word = ranged_of 1 16 word
 
 abbrev pub moment_of : List ℕ → Option ℕ
-moment_of word = count_of 1099511627776 word
+moment_of word = ranged_of 1 1099511627776 word
 
 abbrev pub parcel_of : List ℕ → Option ℕ
 parcel_of word = number_of 18446744073709551615 word
 
--- how many records a site may keep where the script doesn't say
-abbrev pub default_limit : ℕ
-default_limit = 100000
+-- a number at the front of a text, with what stands behind it, where anything does
+abbrev pub FrontNumber : Type 0
+FrontNumber = ℕ × Option (List ℕ)
 
--- behind the number of sites stands nothing, or `max` and how many records each may keep
-abbrev pub limit_in : List ℕ × List ℕ → Option ℕ
-limit_in option = if bytes_eq option.0 (codes "max") then limit_of option.1 else None
+abbrev pub front_cut : ℕ → ℕ → List ℕ → Option (List ℕ × List ℕ) → Option FrontNumber
+front_cut least most text None = option_map (λ n. (n, None)) (ranged_of least most text)
+front_cut least most text (Some cut) = option_map (λ n. (n, Some cut.1)) (ranged_of least most cut.0)
 
-abbrev pub sites_said_by : List ℕ → Option (List ℕ × List ℕ) → Option Said
-sites_said_by args None = option_map (λ n. SaysSites n default_limit) (site_of args)
-sites_said_by args (Some cut) = option_and_then (λ n. option_map (λ m. SaysSites n m) (option_and_then limit_in (cut_of cut.1))) (site_of cut.0)
+abbrev pub front_number : ℕ → ℕ → List ℕ → Option FrontNumber
+front_number least most text = front_cut least most text (cut_of text)
+
+-- an option that may stand at the front of a text: its number, or this one where the option isn't there
+abbrev pub option_cut : List ℕ → ℕ → ℕ → ℕ → List ℕ → Option (List ℕ × List ℕ) → Option FrontNumber
+option_cut name least most otherwise text None = Some (otherwise, Some text)
+option_cut name least most otherwise text (Some cut) = if bytes_eq cut.0 name then front_number least most cut.1 else Some (otherwise, Some text)
+
+abbrev pub option_number : List ℕ → ℕ → ℕ → ℕ → Option (List ℕ) → Option FrontNumber
+option_number name least most otherwise None = Some (otherwise, None)
+option_number name least most otherwise (Some text) = option_cut name least most otherwise text (cut_of text)
+
+-- how many records a site may keep, 1 to 1,000,000, and for how many seconds it keeps a write that has ended, 0 to 2^31 - 1
+abbrev pub max_number : Option (List ℕ) → Option FrontNumber
+max_number text = option_number (codes "max") 1 1000000 100000 text
+
+abbrev pub reap_number : Option (List ℕ) → Option FrontNumber
+reap_number text = option_number (codes "reap") 0 2147483647 60 text
+
+-- behind the number of sites stand the options that are there, in this order, and nothing else
+abbrev pub unless_more : Option (List ℕ) → Said → Option Said
+unless_more None line = Some line
+unless_more (Some text) line = None
+
+abbrev pub reap_said : ℕ → FrontNumber → Option Said
+reap_said n max = option_and_then (λ (reap : FrontNumber). unless_more reap.1 (SaysSites n max.0 reap.0)) (reap_number max.1)
+
+abbrev pub max_said : FrontNumber → Option Said
+max_said count = option_and_then (reap_said count.0) (max_number count.1)
 
 abbrev pub sites_said : List ℕ → Option Said
-sites_said args = sites_said_by args (cut_of args)
+sites_said args = option_and_then max_said (front_number 1 16 args)
 
 abbrev pub client_said : List ℕ × List ℕ → Option Said
 client_said args = option_and_then (λ s. option_map (λ t. SaysClient s t) (unescaped args.1)) (site_of args.0)
@@ -56,14 +83,27 @@ send_said args = option_and_then (λ s. option_and_then (λ t. if s == t then No
 abbrev pub take_said : List ℕ × List ℕ → Option Said
 take_said args = option_and_then (λ s. option_map (λ k. SaysTake s k) (parcel_of args.1)) (site_of args.0)
 
+-- a key is one by the command grammar, once its escapes are read
+abbrev pub as_key : List ℕ → Option (List ℕ)
+as_key bytes = if is_key bytes then Some bytes else None
+
+abbrev pub key_of : List ℕ → Option (List ℕ)
+key_of text = option_and_then as_key (unescaped text)
+
+abbrev pub key_said : List ℕ × List ℕ → Option Said
+key_said args = option_and_then (λ s. option_map (λ k. SaysReap s k) (key_of args.1)) (site_of args.0)
+
 abbrev pub said_by_name : List ℕ → List ℕ → Option Said
 said_by_name name args =
     if bytes_eq name (codes "client") then option_and_then client_said (cut_of args)
     else (if bytes_eq name (codes "send") then option_and_then send_said (cut_of args)
     else (if bytes_eq name (codes "take") then option_and_then take_said (cut_of args)
+    else (if bytes_eq name (codes "tick") then option_map (λ s. SaysTick s) (site_of args)
+    else (if bytes_eq name (codes "reap") then option_and_then key_said (cut_of args)
+    else (if bytes_eq name (codes "versions") then option_map (λ s. SaysVersions s) (site_of args)
     else (if bytes_eq name (codes "at") then option_map (λ n. SaysAt n) (moment_of args)
     else (if bytes_eq name (codes "sites") then sites_said args
-    else None))))
+    else None)))))))
 
 -- what a line says, if it says something
 abbrev pub said : List ℕ → Option Said

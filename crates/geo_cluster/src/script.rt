@@ -3,6 +3,7 @@ pub mod cut;
 pub mod escape;
 pub mod fault;
 pub mod line;
+pub mod listing;
 pub mod parse;
 pub mod post;
 pub mod run;

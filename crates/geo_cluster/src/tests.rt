@@ -2,7 +2,11 @@
 mod commands;
 mod connections;
 mod examples;
+mod expiries;
+mod flushes;
 mod limits;
+mod lists;
+mod options;
 mod sites;
 
 use crate::{Line, ScriptFault, escape, is_skipped, parse_line, run_script, unescape};
@@ -114,33 +118,6 @@ fn refuses_lines_that_say_nothing(rt: HostRuntime) -> Result<(), Fail> {
         bad(2, "an unknown escape", b"sites 1\nclient 1 \\t\n", b""),
         bad(2, "half an escape", b"sites 1\nclient 1 \\x4\n", b""),
         bad(2, "a backslash at the end", b"sites 1\nclient 1 a\\", b""),
-    ];
-    for case in &cases {
-        assert!(rt; is_met(&rt, case)?, "{}", case.name);
-    }
-    Ok(())
-}
-
-#[test]
-fn refuses_options_that_are_not_there(rt: HostRuntime) -> Result<(), Fail> {
-    let cases = [
-        bad(1, "pages", b"sites 1 pages 15\n", b""),
-        bad(1, "reap", b"sites 1 reap 60\n", b""),
-        bad(1, "another option behind", b"sites 1 max 5 reap 60\n", b""),
-        bad(1, "an option twice", b"sites 1 max 5 max 5\n", b""),
-        bad(1, "no number", b"sites 2 max\n", b""),
-        bad(1, "a space for a number", b"sites 2 max \n", b""),
-        bad(1, "an option alone", b"sites max 5\n", b""),
-        bad(1, "no name", b"sites 2 5\n", b""),
-        bad(1, "upper case", b"sites 2 MAX 5\n", b""),
-        bad(1, "a doubled space", b"sites 2 max  5\n", b""),
-        bad(1, "a space behind", b"sites 2 max 5 \n", b""),
-        bad(1, "a sign", b"sites 2 max +5\n", b""),
-        bad(1, "no records", b"sites 2 max 0\n", b""),
-        bad(1, "too many records", b"sites 2 max 1000001\n", b""),
-        bad(1, "too many sites", b"sites 17 max 5\n", b""),
-        good("the most records", b"sites 2 max 1000000\n", b""),
-        good("the fewest records", b"sites 2 max 1\n", b""),
     ];
     for case in &cases {
         assert!(rt; is_met(&rt, case)?, "{}", case.name);
@@ -327,7 +304,16 @@ fn reads_a_line(rt: HostRuntime) -> Result<(), Fail> {
         _ => panic!(rt; "another line was read"),
     }
     match parse_line(rt.alloc(), b"sites 2")? {
-        Some(Line::Sites { count, max }) => assert_eq!(rt; (count, max), (2, 100_000)),
+        Some(Line::Sites { count, max, reap }) => {
+            assert_eq!(rt; (count, max, reap), (2, 100_000, 60))
+        }
+        _ => panic!(rt; "another line was read"),
+    }
+    match parse_line(rt.alloc(), b"reap 3 \\x61\xff")? {
+        Some(Line::Reap { site, key }) => {
+            assert_eq!(rt; site, 3);
+            assert_eq!(rt; key.bytes(), b"a\xff".as_slice());
+        }
         _ => panic!(rt; "another line was read"),
     }
     Ok(())

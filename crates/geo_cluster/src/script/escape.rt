@@ -23,7 +23,7 @@ enum Turn {
 }
 
 /// The lower-case digit that writes a number below 16.
-fn hex_letter(n: u8) -> u8
+pub(crate) fn hex_letter(n: u8) -> u8
     requires { n < 16 }
     ensures { result ≡ hex_digit n }
 {

@@ -1,10 +1,12 @@
 //! What a line of a script asks for.
+use geo_versions::Key;
 
 /// What a line of a script asks for.
-#[derive(Debug, Drop)]
+#[derive(Drop)]
 pub enum Line {
-    /// So many sites are to be set up, 1 to 16, each of which may keep `max` records, 1 to 1,000,000.
-    Sites { count: u8, max: u32 },
+    /// So many sites are to be set up, 1 to 16. Each may keep `max` records, 1 to 1,000,000, and keeps its own writes for
+    /// `reap` seconds behind their end, 0 to 2^31 - 1.
+    Sites { count: u8, max: u32, reap: u32 },
     /// The moment from here on, in seconds, 1 to 2^40.
     At(u64),
     /// These bytes reach a site from its client.
@@ -13,4 +15,10 @@ pub enum Line {
     Send { from: u8, to: u8 },
     /// A site takes the parcel of this number, counted from 0.
     Take { site: u8, parcel: u64 },
+    /// A site carries out a flush that waits, where its moment has come.
+    Tick { site: u8 },
+    /// A site deletes a key, where a write of its own ended long enough ago.
+    Reap { site: u8, key: Key },
+    /// What a site knows is printed.
+    Versions { site: u8 },
 }

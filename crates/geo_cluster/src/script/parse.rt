@@ -1,8 +1,8 @@
 //! What a line of a script says.
-ghost use Rattle.std.specs.Prelude.{◌≡◌, ◌≤◌, None, Some, MatchOption, IfOk, IfSome};
+ghost use Rattle.std.specs.Prelude.{◌≡◌, ◌≤◌, None, Some, MatchOption, IfOk, IfSome, option_copied};
 ghost use Rattle.std.specs.Option.{option_map, option_and_then};
-ghost use Rattle.geo_cluster.specs.Numbers.{count_of};
-ghost use Rattle.geo_cluster.specs.Sayings.{cut_of, site_of, moment_of, parcel_of, client_said, send_said, sites_said, limit_in, take_said, said, skips, SaysAt};
+ghost use Rattle.geo_cluster.specs.Numbers.{ranged_of};
+ghost use Rattle.geo_cluster.specs.Sayings.{cut_of, site_of, moment_of, parcel_of, key_of, front_number, option_number, client_said, send_said, sites_said, take_said, key_said, said, skips, SaysAt, SaysTick, SaysVersions};
 ghost use Rattle.geo_cluster.specs.Reads.{said_by, IsInRange};
 
 use crate::script::cut::cut_at;
@@ -10,25 +10,32 @@ use crate::script::escape::unescape;
 use crate::script::line::Line;
 use geo_grammar::number;
 use geo_stamp::MOST_SITES;
+use geo_versions::Key;
 use std::alloc::{AllocError, Global};
 
 /// The latest moment of a script: 2^40 seconds.
 pub const LAST_MOMENT: u64 = 1 << 40;
 
 /// How many records each site may keep where the script doesn't say.
-const DEFAULT_LIMIT: u32 = 100_000;
+const DEFAULT_LIMIT: u64 = 100_000;
 
 /// The most records that a site may be allowed to keep.
 const GREATEST_LIMIT: u64 = 1_000_000;
 
-/// The number that a word of decimal digits writes, leading zeros allowed. None where it is none, 0, or above `most`.
-fn count(word: &[u8], most: u64) -> Option<u64>
-    ensures number { result ≡ count_of most word.now }
+/// For how many seconds behind its end a write is kept where the script doesn't say.
+const DEFAULT_REAP: u64 = 60;
+
+/// The greatest number of these seconds: 2^31 - 1.
+const GREATEST_REAP: u64 = 2_147_483_647;
+
+/// The number that a word of decimal digits writes, leading zeros allowed. None where it is none, or out of this range.
+fn ranged(word: &[u8], least: u64, most: u64) -> Option<u64>
+    ensures number { result ≡ ranged_of least most word.now }
     ensures most { IfSome result (λ n. n ≤ most) }
-    ensures least { IfSome result (λ n. 1 ≤ n) }
+    ensures least { IfSome result (λ n. least ≤ n) }
 {
     let n = number(word, most)?;
-    if n == 0 {
+    if n < least {
         return None;
     }
     Some(n)
@@ -39,7 +46,7 @@ fn site_number(word: &[u8]) -> Option<u8>
     ensures number { result ≡ site_of word.now }
     ensures range { IfSome result (λ n. (1 ≤ n) × (n ≤ 16)) }
 {
-    let n = count(word, MOST_SITES as u64)?;
+    let n = ranged(word, 1, MOST_SITES as u64)?;
     Some(n as u8)
 }
 
@@ -86,37 +93,100 @@ fn at_line(args: &[u8]) -> Option<Line>
     ensures said { option_map said_by result ≡ option_map (λ n. SaysAt n) (moment_of args.now) }
     ensures range { IfSome result (λ l. IsInRange l) }
 {
-    let moment = count(args, LAST_MOMENT)?;
+    let moment = ranged(args, 1, LAST_MOMENT)?;
     Some(Line::At(moment))
 }
 
-/// How many records each site may keep, by what stands behind the number of sites.
-fn limit_option(option: &[u8]) -> Option<u32>
-    ensures limit { result ≡ option_and_then limit_in (cut_of option.now) }
-    ensures range { IfSome result (λ n. (1 ≤ n) × (n ≤ 1000000)) }
+fn tick_line(args: &[u8]) -> Option<Line>
+    ensures said { option_map said_by result ≡ option_map (λ s. SaysTick s) (site_of args.now) }
+    ensures range { IfSome result (λ l. IsInRange l) }
 {
-    let (name, limit) = cut_at(b' ', option)?;
-    if name != b"max".as_slice() {
-        return None;
+    let site = site_number(args)?;
+    Some(Line::Tick { site })
+}
+
+fn versions_line(args: &[u8]) -> Option<Line>
+    ensures said { option_map said_by result ≡ option_map (λ s. SaysVersions s) (site_of args.now) }
+    ensures range { IfSome result (λ l. IsInRange l) }
+{
+    let site = site_number(args)?;
+    Some(Line::Versions { site })
+}
+
+/// The key that a text spells, None where it spells none.
+fn spelled_key(alloc: Global, text: &[u8]) -> Result<Option<Key>, AllocError>
+    ensures { IfOk result (λ o. o ≡ key_of text.now) }
+{
+    let Some(bytes) = unescape(alloc, text)? else {
+        return Ok(None);
+    };
+    Key::new(alloc, bytes.as_slice())
+}
+
+fn reap_line(alloc: Global, args: &[u8]) -> Result<Option<Line>, AllocError>
+    ensures said { IfOk result (λ o. option_map said_by o ≡ option_and_then key_said (cut_of args.now)) }
+    ensures range { IfOk result (λ o. IfSome o (λ l. IsInRange l)) }
+{
+    let Some((site, key)) = cut_at(b' ', args) else {
+        return Ok(None);
+    };
+    let Some(site) = site_number(site) else {
+        return Ok(None);
+    };
+    let Some(key) = spelled_key(alloc, key)? else {
+        return Ok(None);
+    };
+    Ok(Some(Line::Reap { site, key }))
+}
+
+/// A number at the front of a text, and what stands behind it.
+fn front_number(text: &[u8], least: u64, most: u64) -> Option<(u64, Option<&[u8]>)>
+    ensures number { MatchOption result (front_number least most text.now ≡ None) (λ p. front_number least most text.now ≡ Some (p.0, option_copied p.1)) }
+    ensures range { IfSome result (λ p. (least ≤ p.0) × (p.0 ≤ most)) }
+{
+    match cut_at(b' ', text) {
+        None => Some((ranged(text, least, most)?, None)),
+        Some((word, rest)) => Some((ranged(word, least, most)?, Some(rest))),
     }
-    let limit = count(limit, GREATEST_LIMIT)?;
-    Some(limit as u32)
+}
+
+/// The number of an option that may stand at the front of a text, and what stands behind it; `otherwise` where it isn't there.
+fn option_number<'a>(
+    name: &[u8],
+    least: u64,
+    most: u64,
+    otherwise: u64,
+    text: Option<&'a [u8]>,
+) -> Option<(u64, Option<&'a [u8]>)>
+    requires least { least ≤ otherwise }
+    requires most { otherwise ≤ most }
+    ensures number { MatchOption result (option_number name.now least most otherwise (option_copied text.entry) ≡ None) (λ p. option_number name.now least most otherwise (option_copied text.entry) ≡ Some (p.0, option_copied p.1)) }
+    ensures range { IfSome result (λ p. (least ≤ p.0) × (p.0 ≤ most)) }
+{
+    let Some(text) = text else {
+        return Some((otherwise, None));
+    };
+    match cut_at(b' ', text) {
+        Some((word, rest)) if word == name => front_number(rest, least, most),
+        _ => Some((otherwise, Some(text))),
+    }
 }
 
 fn sites_line(args: &[u8]) -> Option<Line>
     ensures said { option_map said_by result ≡ sites_said args.now }
     ensures range { IfSome result (λ l. IsInRange l) }
 {
-    let Some((count, option)) = cut_at(b' ', args) else {
-        let count = site_number(args)?;
-        return Some(Line::Sites {
-            count,
-            max: DEFAULT_LIMIT,
-        });
-    };
-    let count = site_number(count)?;
-    let max = limit_option(option)?;
-    Some(Line::Sites { count, max })
+    let (count, options) = front_number(args, 1, MOST_SITES as u64)?;
+    let (max, options) = option_number(b"max", 1, GREATEST_LIMIT, DEFAULT_LIMIT, options)?;
+    let (reap, options) = option_number(b"reap", 0, GREATEST_REAP, DEFAULT_REAP, options)?;
+    if options.is_some() {
+        return None;
+    }
+    Some(Line::Sites {
+        count: count as u8,
+        max: max as u32,
+        reap: reap as u32,
+    })
 }
 
 /// What a line says, without its line end: None where it is a bad line, whatever sites and parcels there are. Words are
@@ -136,6 +206,15 @@ pub fn parse_line(alloc: Global, line: &[u8]) -> Result<Option<Line>, AllocError
     }
     if name == b"take".as_slice() {
         return Ok(take_line(args));
+    }
+    if name == b"tick".as_slice() {
+        return Ok(tick_line(args));
+    }
+    if name == b"reap".as_slice() {
+        return reap_line(alloc, args);
+    }
+    if name == b"versions".as_slice() {
+        return Ok(versions_line(args));
     }
     if name == b"at".as_slice() {
         return Ok(at_line(args));

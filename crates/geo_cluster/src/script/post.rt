@@ -1,19 +1,20 @@
 //! A site with the connection of its one client.
 ghost use Rattle.std.specs.Prelude.{◌≡◌, ◌^◌, ◌≤◌, position, IfOk, OnOk};
-ghost use Rattle.geo_cluster.specs.Answering.{owed_in, Does, AnswersItem, KeepsSeat, is_quit, has_quit, until_quit};
+ghost use Rattle.geo_cluster.specs.Answering.{Does, AnswersItem, KeepsSeat, is_quit, has_quit, until_quit};
 
-use crate::script::texts::{refused_line, taken_line};
+use crate::script::listing::versions_lines;
+use crate::script::texts::{clock_ended_line, reap_line, refused_line, taken_line, tick_line};
 use geo_delta::Parcel;
 use geo_grammar::{Item, Reader, Reply, Request, fault_text, push_answer};
-use geo_site::{Refused, SendError, Setup, SetupError, Site, TakeError};
+use geo_site::{ReapError, Refused, SendError, Setup, SetupError, Site, TakeError};
+use geo_versions::Key;
 use std::alloc::{AllocError, Global};
 use std::hash::RandomState;
 
 /// The reply that a site owes to a request, once it has done it. Want of memory is an error, and never a reply.
 fn act_on(alloc: Global, site: &mut Site, now: u64, request: &Request) -> Result<Reply, AllocError>
     requires { now ≤ 2 ^ 40 }
-    ensures reply { IfOk result (λ reply. reply ≡ owed_in site.old now request.now) }
-    ensures does { OnOk result (Does site.old now request.now site.new) }
+    ensures does { IfOk result (λ reply. Does site.old now request.now reply site.new) }
     ensures seat { KeepsSeat site.old site.new }
 {
     match site.act(alloc, now, request) {
@@ -83,27 +84,30 @@ pub struct Post {
 
 impl Post {
     ghost use Rattle.geo_site.specs.Sites.{IsOther, IsSent};
-    ghost use Rattle.geo_cluster.specs.Posts.{IsOpened, AnswersBytes, TakesParcel};
+    ghost use Rattle.geo_cluster.specs.Posts.{IsOpened, AnswersBytes, TakesParcel, TicksAt, ReapsAt, Lists};
 
-    /// A site that knows nothing and may keep `max` records, and a connection on which nothing came.
+    /// A site that knows nothing, may keep `max` records, and keeps its own writes for `reap` seconds behind their end; and a
+    /// connection on which nothing came.
     pub fn open(
         alloc: Global,
         hasher: RandomState,
         site: u8,
         sites: u8,
         max: u32,
+        reap: u32,
     ) -> Result<Post, AllocError>
         requires least { 1 ≤ site }
         requires among { site ≤ sites }
         requires most { sites ≤ 16 }
         requires least_records { 1 ≤ max }
         requires most_records { max ≤ 1000000 }
-        ensures { IfOk result (λ post. IsOpened site sites max post) }
+        ensures { IfOk result (λ post. IsOpened site sites max reap post) }
     {
         let setup = Setup {
             site,
             sites,
             max_records: max,
+            reap_after: reap,
             hasher,
         };
         let site = match Site::new(alloc, setup) {
@@ -165,5 +169,34 @@ impl Post {
             TakeError::Gap => refused_line(alloc, 3),
             TakeError::Memory => Err(AllocError),
         }
+    }
+
+    /// Carries out a flush that is due at a moment, and says whether there was one.
+    pub fn tick(&mut self, alloc: Global, now: u64) -> Result<Vec<u8>, AllocError>
+        ensures ticks { IfOk result (λ text. TicksAt self.old now text.items self.new) }
+        ensures seat { KeepsSeat self.old.site self.new.site }
+    {
+        let done = self.site.tick(now);
+        tick_line(alloc, done)
+    }
+
+    /// Deletes a key where it is to be reaped at a moment, and says whether it was, or that no stamp was left for that.
+    pub fn reap(&mut self, alloc: Global, now: u64, key: &Key) -> Result<Vec<u8>, AllocError>
+        ensures reaps { IfOk result (λ text. ReapsAt self.old now key.now text.items self.new) }
+        ensures seat { KeepsSeat self.old.site self.new.site }
+    {
+        match self.site.reap(alloc, now, key) {
+            Ok(done) => reap_line(alloc, done),
+            Err(ReapError::ClockEnded) => clock_ended_line(alloc),
+            Err(ReapError::Memory) => Err(AllocError),
+        }
+    }
+
+    /// What the site knows, as it is printed.
+    pub fn versions(&self, alloc: Global) -> Result<Vec<u8>, AllocError>
+        ensures { IfOk result (λ text. Lists self.now text.items) }
+    {
+        let all = self.site.versions(alloc)?;
+        versions_lines(alloc, self.site.floor(), all.as_slice())
     }
 }

@@ -1,6 +1,6 @@
 //! What the lines of a script print.
 ghost use Rattle.std.specs.Prelude.{◌≡◌, IfOk};
-ghost use Rattle.geo_cluster.specs.Prints.{client_text, parcel_text, refused_text, taken_text};
+ghost use Rattle.geo_cluster.specs.Prints.{client_text, parcel_text, refused_text, taken_text, tick_text, reap_text, clock_ended_text};
 
 use crate::script::escape::escape;
 use itoa::Buffer;
@@ -46,4 +46,31 @@ pub fn refused_line(alloc: Global, cause: u8) -> Result<Vec<u8>, AllocError>
     text.extend_from_slice(buffer.format(cause).as_bytes())?;
     text.extend_from_slice(b"\n")?;
     Ok(text)
+}
+
+/// `flushed` where a flush was carried out, else `nothing`.
+pub fn tick_line(alloc: Global, done: bool) -> Result<Vec<u8>, AllocError>
+    ensures { IfOk result (λ text. text.items ≡ tick_text done) }
+{
+    if done {
+        return Vec::from_slice(alloc, b"flushed\n");
+    }
+    Vec::from_slice(alloc, b"nothing\n")
+}
+
+/// `reaped` where a key was deleted, else `nothing`.
+pub fn reap_line(alloc: Global, done: bool) -> Result<Vec<u8>, AllocError>
+    ensures { IfOk result (λ text. text.items ≡ reap_text done) }
+{
+    if done {
+        return Vec::from_slice(alloc, b"reaped\n");
+    }
+    Vec::from_slice(alloc, b"nothing\n")
+}
+
+/// `clock ended`, where no stamp was left.
+pub fn clock_ended_line(alloc: Global) -> Result<Vec<u8>, AllocError>
+    ensures { IfOk result (λ text. text.items ≡ clock_ended_text) }
+{
+    Vec::from_slice(alloc, b"clock ended\n")
 }

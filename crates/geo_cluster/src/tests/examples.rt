@@ -178,3 +178,64 @@ fn a_cas_fails_behind_a_change_from_elsewhere(rt: HostRuntime) -> Result<(), Fai
     assert!(rt; prints(&rt, &rows)?);
     Ok(())
 }
+
+/// `keys_that_end.script`
+#[test]
+fn a_key_ends_and_is_flushed(rt: HostRuntime) -> Result<(), Fail> {
+    let rows = [
+        (
+            "# A touch gives a another end, with a stamp of its own. See that a keeps its number, 257, and both stamps in the list.",
+            "",
+        ),
+        ("sites 2 reap 60", ""),
+        ("at 100", ""),
+        (r"client 1 set a 0 0 2\r\nhi\r\n", r"1> STORED\r\n"),
+        (r"client 1 touch a 50\r\n", r"1> TOUCHED\r\n"),
+        (
+            r"client 1 gets a\r\n",
+            r"1> VALUE a 0 2 257\r\nhi\r\nEND\r\n",
+        ),
+        (
+            "versions 1",
+            "floor none\na 1 1 0 2 8f434346648f6b96df89dda901c5176b10a6d83961dd3c1ac88b59b2dc327aa4 2 1 150\nend",
+        ),
+        ("send 1 2", "parcel 0"),
+        ("take 2 0", "taken"),
+        (
+            "# a ends at 150. See that the site that wrote it deletes it for both, once more than 60 seconds have gone by since then.",
+            "",
+        ),
+        ("at 210", ""),
+        ("reap 1 a", "nothing"),
+        ("at 211", ""),
+        ("reap 2 a", "nothing"),
+        ("reap 1 a", "reaped"),
+        ("versions 1", "floor none\nend"),
+        (
+            "versions 2",
+            "floor none\na 1 1 0 2 8f434346648f6b96df89dda901c5176b10a6d83961dd3c1ac88b59b2dc327aa4 2 1 150\nend",
+        ),
+        ("send 1 2", "parcel 1"),
+        ("take 2 1", "taken"),
+        ("versions 2", "floor none\nend"),
+        (
+            "# A flush waits for its moment, 221. See that b is there until then, and that the flush becomes the floor of both sites.",
+            "",
+        ),
+        (
+            r"client 2 set b 0 0 2\r\nyo\r\nflush_all 10\r\n",
+            r"2> STORED\r\nOK\r\n",
+        ),
+        ("at 220", ""),
+        ("tick 2", "nothing"),
+        (r"client 2 get b\r\n", r"2> VALUE b 0 2\r\nyo\r\nEND\r\n"),
+        ("at 221", ""),
+        ("tick 2", "flushed"),
+        (r"client 2 get b\r\n", r"2> END\r\n"),
+        ("send 2 1", "parcel 2"),
+        ("take 1 2", "taken"),
+        ("versions 1", "floor 5 2\nend"),
+    ];
+    assert!(rt; prints(&rt, &rows)?);
+    Ok(())
+}

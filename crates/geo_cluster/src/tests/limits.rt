@@ -1,5 +1,6 @@
 //! Values, keys, lines and maps as large as they may be, and larger.
 use super::{played, prints};
+use crate::ScriptFault;
 use std::alloc::{AllocError, Global};
 use std::test::Fail;
 
@@ -66,6 +67,17 @@ fn takes_keys_of_250_bytes(rt: HostRuntime) -> Result<(), Fail> {
         ),
     ];
     assert!(rt; writes(&rt, &script, &wanted)?);
+    Ok(())
+}
+
+#[test]
+fn reaps_keys_of_250_bytes(rt: HostRuntime) -> Result<(), Fail> {
+    let wanted = [("nothing\n", 0)];
+    assert!(rt; writes(&rt, &[("sites 1\nreap 1 ", 250)], &wanted)?);
+    let longer = spelled(rt.alloc(), &[("sites 1\nreap 1 ", 251)])?;
+    let (written, outcome) = played(&rt, longer.as_slice())?;
+    assert_eq!(rt; outcome, Err(ScriptFault::BadLine(2)));
+    assert!(rt; written.is_empty());
     Ok(())
 }
 
