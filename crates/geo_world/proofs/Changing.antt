@@ -1,23 +1,18 @@
 -- One site changes, and the others stay.
-use Rattle.std.proofs.Common.{◌≡◌, ◌≢◌, ℕ, zero, suc, ◌+◌, ◌≤◌, Bool, true, false, cond, nat_le, None, List, [], ◌∷◌, ◌++◌, length, Some, refl, sym, ap, ◌∙◌, subst, subst₂, ◌⊎◌, inl, inr, arith, slice_get, slice_set, slice_index_or}
+use Rattle.std.proofs.Common.{◌≡◌, ◌≢◌, ℕ, zero, suc, ◌+◌, ◌≤◌, ◌==◌, Bool, cond, Option, None, List, [], ◌∷◌, ◌++◌, length, Some, refl, sym, ap, ◌∙◌, subst, subst₂, ◌⊎◌, inl, inr, arith, slice_get, slice_set, slice_index_or}
 use Rattle.std.proofs.lemmas.List.{length-set}
-use Rattle.geo_versions.specs.Maps.{has_register}
-use Rattle.geo_versions.specs.Operations.{Operation, Act, Register, Record, winner, latest_expiry, record_of}
 use Rattle.std.proofs.lemmas.Bool.Decides.{eqb_tells}
-use Rattle.std.specs.Prelude.{is_some}
+use Rattle.geo_versions.specs.Operations.{Operation, Act, Register, Record, winner, latest_expiry, latest, record_of}
 use Rattle.geo_delta.specs.declared.parcel.Parcel.{Parcel}
-use Rattle.geo_grammar.specs.declared.request.Request.{Request}
-use Rattle.geo_grammar.specs.declared.reply.Reply.{Reply}
 use Rattle.geo_site.specs.declared.site.Site.{Site}
-use Rattle.geo_site.specs.declared.event.Event.TheVariants.{Command}
-use Rattle.geo_site.specs.declared.event.Trace.TheVariants.{Replied}
-use Rattle.geo_site.specs.Entries.{Held, Visible, Basis, Counts, entry_in, issued, counted, Answers, is_done}
-use Rattle.geo_site.specs.Machine.{SiteState, Same, visible_in, issue, issue_all, act_held, IsCount, IsRecordCount, IsHeldCount}
-use Rattle.geo_site.specs.Sites.{state_in, basis_in, counts_in, most_records, record_count, held_count, issued_in, HasIssued}
-use Rattle.geo_site.specs.Schedule.{Known, settles, new_operation, issues, issues_on, counts_keys, carries_out, visible, basis, happens, Lawful}
-use Rattle.geo_site.specs.Agreement.{Kept, Holds, NoTime, StateOf}
+use Rattle.geo_site.specs.declared.setup.Limits.{Limits}
+use Rattle.geo_site.specs.Entries.{Held, Counts, due_acts, waits_on}
+use Rattle.geo_site.specs.Machine.{SiteState, Same, issue, issue_all, act_held, IsCount}
+use Rattle.geo_site.specs.Sites.{state_in, counts_in, waiting_in, clock_in, HasIssued, Stays, Rests, FlushDoes}
+use Rattle.geo_site.specs.Schedule.{Known, settles, new_operation, issues, counts_keys, waits, flushed}
+use Rattle.geo_site.specs.Agreement.{Kept, Holds, StateOf}
 use Rattle.geo_site.proofs.Sound.{here, there, held_here, held_there}
-use Rattle.geo_site.proofs.Steps.{state_issues, state_same, state_version}
+use Rattle.geo_site.proofs.Steps.{state_issues, state_same}
 use Rattle.geo_world.specs.Agreement.{SiteKnown, about, Stands, Carries, Agrees}
 use Rattle.geo_world.proofs.Worlds.{some_same, some_none}
 
@@ -44,7 +39,7 @@ module _ (sites : List Site) (parcels : List Parcel) (w v : Known) (agrees : Agr
 
 -- a site settles, and what is known of the others stays
 pub settled_about : (w : Known) (s : ℕ) (ops : List Operation) (h : Held) (t : ℕ) → t ≢ s → about (settles w s ops h) t ≡ about w t
-settled_about w s ops h t ne = λ i. record { ops = there w s ops h t ne i; held = held_there w s ops h t ne i; counts = w.counts t; limit = w.limit t }
+settled_about w s ops h t ne = λ i. record { ops = there w s ops h t ne i; held = held_there w s ops h t ne i; counts = w.counts t; waiting = w.waiting t; limits = w.limits t }
 
 -- ---- operations that a site issues
 pub issues_others : (w : Known) (s : ℕ) (acts : List Act) (t : ℕ) → t ≢ s → about (issues w s acts) t ≡ about w t
@@ -57,9 +52,13 @@ pub issues_counts : (w : Known) (s : ℕ) (acts : List Act) → (issues w s acts
 issues_counts w s [] = refl
 issues_counts w s (act ∷ acts) = issues_counts (settles w s (w.at s ++ new_operation w s act ∷ []) (act_held act (w.held s))) s acts
 
-issues_limit : (w : Known) (s : ℕ) (acts : List Act) → (issues w s acts).limit ≡ w.limit
-issues_limit w s [] = refl
-issues_limit w s (act ∷ acts) = issues_limit (settles w s (w.at s ++ new_operation w s act ∷ []) (act_held act (w.held s))) s acts
+pub issues_waiting : (w : Known) (s : ℕ) (acts : List Act) → (issues w s acts).waiting ≡ w.waiting
+issues_waiting w s [] = refl
+issues_waiting w s (act ∷ acts) = issues_waiting (settles w s (w.at s ++ new_operation w s act ∷ []) (act_held act (w.held s))) s acts
+
+pub issues_limits : (w : Known) (s : ℕ) (acts : List Act) → (issues w s acts).limits ≡ w.limits
+issues_limits w s [] = refl
+issues_limits w s (act ∷ acts) = issues_limits (settles w s (w.at s ++ new_operation w s act ∷ []) (act_held act (w.held s))) s acts
 
 pub issues_sent : (w : Known) (s : ℕ) (acts : List Act) → (issues w s acts).sent ≡ w.sent
 issues_sent w s [] = refl
@@ -76,16 +75,82 @@ issues_state n s (act ∷ acts) w st lo hi ok =
     (subst₂ (λ (ops : List Operation) (h : Held). StateOf n s (issue s act st) ops h) (sym (here w s ops h)) (sym (held_here w s ops h))
     (state_issues n s st (w.at s) (w.held s) act ok (record { above = lo; below = omega (arith, many) })))
 
--- ---- keys that a site counts
+-- ---- keys that a site counts, and the flush that waits there
+put_here : {A : Type 0} (f : ℕ → A) (s : ℕ) (x : A) → cond (s == s) x (f s) ≡ x
+put_here f s x = elim (eqb_tells s s) [ inl p ↦ ap (λ b. cond b x (f s)) p.0 | inr p ↦ absurd (p.1 refl) ]
+
+put_there : {A : Type 0} (f : ℕ → A) (s : ℕ) (x : A) (t : ℕ) → t ≢ s → cond (t == s) x (f t) ≡ f t
+put_there f s x t ne = elim (eqb_tells t s) [ inl p ↦ absurd (ne p.1) | inr p ↦ ap (λ b. cond b x (f t)) p.0 ]
+
 pub counts_here : (w : Known) (s : ℕ) (c : Counts) → (counts_keys w s c).counts s ≡ c
-counts_here w s c = elim (eqb_tells s s) [ inl p ↦ ap (λ b. cond b c (w.counts s)) p.0 | inr p ↦ absurd (p.1 refl) ]
+counts_here w s c = put_here w.counts s c
 
 pub counts_there : (w : Known) (s : ℕ) (c : Counts) (t : ℕ) → t ≢ s → about (counts_keys w s c) t ≡ about w t
-counts_there w s c t ne = let other : (counts_keys w s c).counts t ≡ w.counts t = elim (eqb_tells t s) [ inl p ↦ absurd (ne p.1) | inr p ↦ ap (λ b. cond b c (w.counts t)) p.0 ] in
-    λ i. record { ops = w.at t; held = w.held t; counts = other i; limit = w.limit t }
+counts_there w s c t ne = let other = put_there w.counts s c t ne in
+    λ i. record { ops = w.at t; held = w.held t; counts = other i; waiting = w.waiting t; limits = w.limits t }
 
--- ---- a command
-exact : (P : ℕ → Type 0) (m : Record) (ops : List Operation) (key : List ℕ) → ((t : ℕ) → P t → ⊥) → Holds P m ops key → m ≡ record_of ops key
+pub waits_here : (w : Known) (s : ℕ) (x : Option ℕ) → (waits w s x).waiting s ≡ x
+waits_here w s x = put_here w.waiting s x
+
+pub waits_there : (w : Known) (s : ℕ) (x : Option ℕ) (t : ℕ) → t ≢ s → about (waits w s x) t ≡ about w t
+waits_there w s x t ne = let other = put_there w.waiting s x t ne in
+    λ i. record { ops = w.at t; held = w.held t; counts = w.counts t; waiting = other i; limits = w.limits t }
+
+-- ---- what a site does, of which all is known
+module _ (sites : List Site) (parcels : List Parcel) (w : Known) (agrees : Agrees sites parcels w) (k s : ℕ) (at_number : s ≡ k + 1) (hi : s ≤ length sites) (old new : Site) (got : slice_get sites k ≡ Some old) (stays : Stays old new) where
+  -- it issues operations, and counts and waits as is known then
+  pub agrees_issued : (acts : List Act) (v : Known) → HasIssued old new acts → v.at s ≡ (issues w s acts).at s → v.held s ≡ (issues w s acts).held s
+      → counts_in new ≡ v.counts s → waiting_in new ≡ v.waiting s → v.limits s ≡ w.limits s → ((t : ℕ) → t ≢ s → about v t ≡ about (issues w s acts) t) → v.sent ≡ (issues w s acts).sent
+      → Agrees (slice_set sites k new) parcels v
+  agrees_issued acts v issued ops held counts waiting limits others sent =
+      let st = agrees.each k s old at_number got in
+      let same : Same (issue_all s acts (state_in old)) (state_in new) = subst (λ (m : ℕ). Same (issue_all m acts (state_in old)) (state_in new)) st.own issued in
+      agrees_changed sites parcels w v agrees k s at_number new
+      (record {
+        own = stays.0 ∙ st.own;
+        state = subst₂ (λ (o : List Operation) (h : Held). StateOf (length sites) s (state_in new) o h) (sym ops) (sym held)
+            (state_same (length sites) s (issue_all s acts (state_in old)) (state_in new) ((issues w s acts).at s) ((issues w s acts).held s) (issues_state (length sites) s acts w (state_in old) (omega arith) hi st.state) same);
+        counts = counts;
+        waiting = waiting;
+        limits = stays.1 ∙ st.limits ∙ sym limits;
+      })
+      (λ t ne. others t ne ∙ issues_others w s acts t ne) (sent ∙ issues_sent w s acts)
+
+  -- it changes nothing
+  pub agrees_still : Same (state_in old) (state_in new) → Rests old new → Agrees (slice_set sites k new) parcels w
+  agrees_still same rests =
+      let st = agrees.each k s old at_number got in
+      agrees_issued [] w same refl refl (rests.0 ∙ st.counts) (rests.1 ∙ st.waiting) refl (λ t ne. refl) refl
+
+  -- it issues operations, and a flush waits there after them as before or otherwise
+  pub agrees_waits : (acts : List Act) (x : Option ℕ) → HasIssued old new acts → counts_in new ≡ counts_in old → waiting_in new ≡ x → Agrees (slice_set sites k new) parcels (waits (issues w s acts) s x)
+  agrees_waits acts x issued counts waiting =
+      let st = agrees.each k s old at_number got in
+      let i = issues w s acts in
+      agrees_issued acts (waits i s x) issued refl refl (counts ∙ st.counts ∙ ap (λ (f : ℕ → Counts). f s) (sym (issues_counts w s acts))) (waiting ∙ sym (waits_here i s x)) (ap (λ (f : ℕ → Limits). f s) (issues_limits w s acts)) (λ t ne. waits_there i s x t ne) refl
+
+  pub agrees_acts : (acts : List Act) → HasIssued old new acts → Rests old new → Agrees (slice_set sites k new) parcels (issues w s acts)
+  agrees_acts acts issued rests =
+      let st = agrees.each k s old at_number got in
+      agrees_issued acts (issues w s acts) issued refl refl (rests.0 ∙ st.counts ∙ ap (λ (f : ℕ → Counts). f s) (sym (issues_counts w s acts))) (rests.1 ∙ st.waiting ∙ ap (λ (f : ℕ → Option ℕ). f s) (sym (issues_waiting w s acts))) (ap (λ (f : ℕ → Limits). f s) (issues_limits w s acts)) (λ t ne. refl) refl
+
+  pub agrees_carried : (acts : List Act) (c : Counts) (x : Option ℕ) → HasIssued old new acts → counts_in new ≡ c → waiting_in new ≡ x → Agrees (slice_set sites k new) parcels (waits (counts_keys (issues w s acts) s c) s x)
+  agrees_carried acts c x issued counts waiting =
+      let i = issues w s acts in
+      let v = counts_keys i s c in
+      agrees_issued acts (waits v s x) issued refl refl (counts ∙ sym (counts_here i s c)) (waiting ∙ sym (waits_here v s x)) (ap (λ (f : ℕ → Limits). f s) (issues_limits w s acts)) (λ t ne. waits_there v s x t ne ∙ counts_there i s c t ne) refl
+
+  -- a due flush
+  pub agrees_flushed : (now : ℕ) → FlushDoes old new now → Agrees (slice_set sites k new) parcels (flushed w s now)
+  agrees_flushed now does =
+      let st = agrees.each k s old at_number got in
+      let clock = st.state.tells.clock in
+      let due : due_acts (waiting_in old) (clock_in old) now ≡ due_acts (w.waiting s) (latest (w.at s)) now = λ i. due_acts (st.waiting i) (clock i) now in
+      agrees_waits (due_acts (w.waiting s) (latest (w.at s)) now) (waits_on (w.waiting s) (latest (w.at s)) now)
+      (subst (HasIssued old new) due does.issued) does.counts (does.waiting ∙ (λ i. waits_on (st.waiting i) (clock i) now))
+
+-- ---- what is kept, and how much of it
+pub exact : (P : ℕ → Type 0) (m : Record) (ops : List Operation) (key : List ℕ) → ((t : ℕ) → P t → ⊥) → Holds P m ops key → m ≡ record_of ops key
 exact P m ops key never h = λ i. (same m.0 (winner ops key) h.body i, same m.1 (latest_expiry ops key) h.expiry i)
   where
     same : {A : Type 0} (x r : Register A) → Kept P x r → x ≡ r
@@ -93,71 +158,5 @@ exact P m ops key never h = λ i. (same m.0 (winner ops key) h.body i, same m.1 
     same x None (inr e) = absurd e.1
     same x (Some y) (inr e) = absurd (never y.0.time e.1)
 
-count_same : (a b : List ℕ → Bool) (n : ℕ) → ((key : List ℕ) → a key ≡ b key) → IsCount a n → IsCount b n
+pub count_same : (a b : List ℕ → Bool) (n : ℕ) → ((key : List ℕ) → a key ≡ b key) → IsCount a n → IsCount b n
 count_same a b n same h = record { keys = h.keys; many = h.many; apart = h.apart; those = λ key. h.those key ∙ same key }
-
-module _ (sites : List Site) (parcels : List Parcel) (w : Known) (agrees : Agrees sites parcels w) (k s now : ℕ) (request : Request) (reply : Reply) (at_number : s ≡ k + 1) (hi : s ≤ length sites) (old new : Site) (got : slice_get sites k ≡ Some old)
-    (recorded : IsRecordCount (state_in old).map (record_count old)) (held : IsHeldCount (state_in old).held (held_count old))
-    (answer : Answers now (basis_in old now) request reply)
-    (done : is_done reply ≡ true → HasIssued old new (issued_in old now request))
-    (refused : is_done reply ≡ false → Same (state_in old) (state_in new))
-    (counts : counts_in new ≡ cond (is_done reply) (counted (visible_in (state_in old) now) request (counts_in old)) (counts_in old))
-    (number : new.number ≡ old.number) (limit : most_records new ≡ most_records old) where
-  st : Stands (length sites) s old (about w s)
-  st = agrees.each k s old at_number got
-
-  seen : visible_in (state_in old) now ≡ visible w s now
-  seen = λ i key. entry_in now (state_version (length sites) s (state_in old) (w.at s) (w.held s) key (agrees.each k s old at_number got).state i) ((agrees.each k s old at_number got).state.same_held key i)
-
-  kept : (key : List ℕ) → (state_in old).map key ≡ record_of (w.at s) key
-  kept key = exact NoTime ((state_in old).map key) (w.at s) key (λ t h. h) ((agrees.each k s old at_number got).state.holds key)
-
-  basis_same : basis_in old now ≡ basis w s now (record_count old) (held_count old)
-  basis_same =
-      let known = agrees.each k s old at_number got in
-      let clock = known.state.tells.clock in
-      λ i. record {
-        visible = seen i;
-        clock = clock i;
-        recorded = λ key. has_register (kept key i);
-        full = nat_le (known.limit i) (record_count old);
-        stats = record { curr_items = held_count old; get_hits = (known.counts i).hits; get_misses = (known.counts i).misses; evictions = 0; site = known.own i; clock = clock i; records = record_count old };
-      }
-
-  pub command_lawful : Lawful w (Command s now request) (Replied reply)
-  command_lawful = record {
-    records = record_count old;
-    items = held_count old;
-    recorded = count_same (λ key. has_register ((state_in old).map key)) (λ key. has_register (record_of (w.at s) key)) (record_count old) (λ key. ap has_register (kept key)) recorded;
-    held = count_same (λ key. is_some ((state_in old).held key)) (λ key. is_some (w.held s key)) (held_count old) (λ key. ap is_some ((agrees.each k s old at_number got).state.same_held key)) held;
-    answers = subst (λ (b : Basis). Answers now b request reply) basis_same answer;
-  }
-
-  pub command_agrees : Agrees (slice_set sites k new) parcels (happens w (Command s now request) (Replied reply))
-  command_agrees = by (is_done reply) refl
-    where
-      by : (t : Bool) → is_done reply ≡ t → Agrees (slice_set sites k new) parcels (cond t (carries_out w s now request) w)
-      by true e =
-          let old_st = agrees.each k s old at_number got in
-          let acts = issues_on w s now request in
-          let v = issues w s acts in
-          let c = counted (visible w s now) request (w.counts s) in
-          let same : Same (issue_all s acts (state_in old)) (state_in new) = subst₂ (λ (m : ℕ) (seen : Visible). Same (issue_all m (issued now seen request) (state_in old)) (state_in new)) old_st.own seen (done e) in
-          agrees_changed sites parcels w (carries_out w s now request) agrees k s at_number new
-          (record {
-            own = number ∙ old_st.own;
-            state = state_same (length sites) s (issue_all s acts (state_in old)) (state_in new) (v.at s) (v.held s) (issues_state (length sites) s acts w (state_in old) (omega arith) hi old_st.state) same;
-            counts = counts ∙ ap (λ t. cond t (counted (visible_in (state_in old) now) request (counts_in old)) (counts_in old)) e ∙ (λ i. counted (seen i) request (old_st.counts i)) ∙ sym (counts_here v s c);
-            limit = limit ∙ old_st.limit ∙ ap (λ (f : ℕ → ℕ). f s) (sym (issues_limit w s acts));
-          })
-          (λ t ne. counts_there v s c t ne ∙ issues_others w s acts t ne) (issues_sent w s acts)
-      by false e =
-          let old_st = agrees.each k s old at_number got in
-          agrees_changed sites parcels w w agrees k s at_number new
-          (record {
-            own = number ∙ old_st.own;
-            state = state_same (length sites) s (state_in old) (state_in new) (w.at s) (w.held s) old_st.state (refused e);
-            counts = counts ∙ ap (λ t. cond t (counted (visible_in (state_in old) now) request (counts_in old)) (counts_in old)) e ∙ old_st.counts;
-            limit = limit ∙ old_st.limit;
-          })
-          (λ t ne. refl) refl

@@ -27,7 +27,7 @@ use Rattle.geo_site.specs.declared.refusal.TakeError.TheVariants.{NotForMe, Unkn
 use Rattle.geo_site.specs.declared.refusal.TakeError.TheVariants as takes
 use Rattle.geo_site.specs.Entries.{Held}
 use Rattle.geo_site.specs.Machine.{SiteState, Same, take, knows_record, knows_floor}
-use Rattle.geo_site.specs.Sites.{state_in, counts_in, most_records, delta_of, knows_all, is_sound, Takes, RefusesFor, IsSent, SendRefuses}
+use Rattle.geo_site.specs.Sites.{state_in, delta_of, knows_all, is_sound, Rests, Stays, Takes, RefusesFor, IsSent, SendRefuses}
 use Rattle.geo_site.specs.Schedule.{Known, settles, still_held, carried, addressee, happens, Lawful, TakeRefusedFor, SendRefusedFor}
 use Rattle.geo_site.specs.Agreement.{Kept, Holds, NoTime, Tells, StateOf}
 use Rattle.std.specs.Cmp.Lexicographic.{nat_list_eq_equiv}
@@ -36,7 +36,7 @@ use Rattle.geo_site.proofs.Sound.{here, held_here}
 use Rattle.geo_site.proofs.Steps.{state_takes, state_same, zeros_length, told_positive_body, told_positive_expiry}
 use Rattle.geo_world.specs.Agreement.{SiteKnown, about, Stands, Carries, Agrees}
 use Rattle.geo_world.proofs.Worlds.{some_same, some_none, get_appended}
-use Rattle.geo_world.proofs.Changing.{agrees_changed, settled_about}
+use Rattle.geo_world.proofs.Changing.{agrees_changed, agrees_still, settled_about}
 
 -- ---- lists of records by rising key
 less_other : (a b : List ℕ) → slice_cmp nat_cmp a b ≡ Less → same_key b a ≡ false
@@ -161,7 +161,7 @@ carries_sent n s to site parcel known_of st lo hi ne sent =
       };
     }
 
-pub agrees_sent : (sites : List Site) (parcels : List Parcel) (w : Known) (s to : ℕ) (parcel : Parcel) → Agrees sites parcels w → Carries (length sites) parcel (to, w.at s) → Agrees sites (parcels ++ parcel ∷ []) (record { at = w.at; held = w.held; counts = w.counts; limit = w.limit; sent = w.sent ++ (to, w.at s) ∷ [] })
+pub agrees_sent : (sites : List Site) (parcels : List Parcel) (w : Known) (s to : ℕ) (parcel : Parcel) → Agrees sites parcels w → Carries (length sites) parcel (to, w.at s) → Agrees sites (parcels ++ parcel ∷ []) (record { at = w.at; held = w.held; counts = w.counts; waiting = w.waiting; limits = w.limits; sent = w.sent ++ (to, w.at s) ∷ [] })
 agrees_sent sites parcels w s to parcel agrees c =
     let d : ℕ × List Operation = (0, []) in
     let x0 : ℕ × List Operation = (to, w.at s) in
@@ -205,7 +205,7 @@ sound_parcel n number parcel sent c to =
     c.floor_known c.records_known
 
 module _ (sites : List Site) (parcels : List Parcel) (w : Known) (agrees : Agrees sites parcels w) (k s p : ℕ) (at_number : s ≡ k + 1) (hi : s ≤ length sites) (old new : Site) (got : slice_get sites k ≡ Some old)
-    (parcel : Parcel) (got_parcel : slice_get parcels p ≡ Some parcel) (number : new.number ≡ old.number) (counts : counts_in new ≡ counts_in old) (limit : most_records new ≡ most_records old) where
+    (parcel : Parcel) (got_parcel : slice_get parcels p ≡ Some parcel) (rests : Rests old new) (stays : Stays old new) where
   carries : Carries (length sites) parcel (slice_index_or w.sent p (0, []))
   carries = agrees.each_sent p parcel got_parcel
 
@@ -227,11 +227,12 @@ module _ (sites : List Site) (parcels : List Parcel) (w : Known) (agrees : Agree
       let takes_it = state_takes n s parcel.from (state_in old) (delta_of parcel) (w.at s) (carried w p) (w.held s) st.state c.delta (record { above = omega arith; below = omega (arith, many) }) in
       agrees_changed sites parcels w v agrees k s at_number new
       (record {
-        own = number ∙ st.own;
+        own = stays.0 ∙ st.own;
         state = subst₂ (λ (ops : List Operation) (h : Held). StateOf n s (state_in new) ops h) (sym (here w s ops (w.held s))) (sym (held_here w s ops (w.held s)))
             (state_same n s (take s (delta_of parcel) (state_in old)) (state_in new) ops (still_held ops (w.held s)) takes_it same2);
-        counts = counts ∙ st.counts;
-        limit = limit ∙ st.limit;
+        counts = rests.0 ∙ st.counts;
+        waiting = rests.1 ∙ st.waiting;
+        limits = stays.1 ∙ st.limits;
       })
       (λ t ne. settled_about w s ops (w.held s) t ne) refl
 
@@ -249,10 +250,7 @@ module _ (sites : List Site) (parcels : List Parcel) (w : Known) (agrees : Agree
 
   pub refused_agrees : (why : TakeError) → Same (state_in old) (state_in new) → Agrees (slice_set sites k new) parcels (happens w (Take s p) (TakeRefused why))
   refused_agrees why same =
-      let st = agrees.each k s old at_number got in
-      agrees_changed sites parcels w w agrees k s at_number new
-      (record { own = number ∙ st.own; state = state_same (length sites) s (state_in old) (state_in new) (w.at s) (w.held s) st.state same; counts = counts ∙ st.counts; limit = limit ∙ st.limit })
-      (λ t ne. refl) refl
+      agrees_still sites parcels w agrees k s at_number hi old new got stays same rests
 
 pub send_refused : (n s to : ℕ) (site : Site) (known_of : SiteKnown) → Stands n s site known_of → 1 ≤ to → to ≤ n → (why : SendError) → SendRefuses site to why → SendRefusedFor s to why
 send_refused n s to site known_of st lo hi NoSuchSite r = elim (cases_eq to s) [

@@ -1,7 +1,10 @@
 pub mod Worlds
 pub mod Changing
+pub mod Answering
 pub mod Exchanging
 pub mod Running
 pub mod Knowing
 pub mod Meeting
 pub mod Requesting
+pub mod Touching
+pub mod Happening

@@ -1,107 +1,136 @@
 -- The plain program's sites and parcels are what is known, event by event.
-use Rattle.std.proofs.Common.{◌≡◌, ◌≢◌, ℕ, zero, suc, ◌+◌, Bool, true, false, cond, List, [], ◌∷◌, ◌++◌, length, None, Some, refl, sym, ap, ◌∙◌, subst, subst₂, inl, inr, arith, true≢false, map, slice_get, slice_set, slice_index_or}
+use Rattle.std.proofs.Common.{◌≡◌, ◌≢◌, ℕ, zero, suc, ◌+◌, ◌==◌, Bool, true, false, cond, Option, List, [], ◌∷◌, ◌++◌, length, None, Some, refl, sym, ap, ◌∙◌, subst, subst₂, inl, inr, arith, true≢false, map, slice_get, slice_set, slice_index_or}
 use Rattle.std.proofs.lemmas.Bool.Decides.{eqb_tells}
 use Rattle.std.proofs.lemmas.List.{map-append, length-append}
 use Rattle.geo_stamp.specs.Stamps.{Moment}
 use Rattle.geo_versions.specs.Operations as spec
 use Rattle.geo_versions.specs.Operations.{latest}
+use Rattle.geo_versions.specs.Operations.Act.{Flush}
 use Rattle.geo_grammar.specs.declared.request.Request.{Request}
 use Rattle.geo_grammar.specs.declared.reply.Reply.{Reply}
 use Rattle.geo_grammar.specs.declared.reply.Reply.TheVariants.{MapFull, ClockEnded}
-use Rattle.geo_site.specs.Entries.{Held, Counts, none_counted, replied, is_crowded, lacks, is_done}
+use Rattle.geo_site.specs.declared.setup.Limits.{Limits}
+use Rattle.geo_site.specs.Entries.{Held, Counts, none_counted, replied, is_crowded, lacks, is_done, flushes_due}
 use Rattle.geo_site.specs.Machine.{act_held}
-use Rattle.geo_site.specs.Schedule.{Known, nothing_known, settles, still_held, new_operation, issues, issues_on, counts_keys, visible, basis, RepliesTo, learns, carried}
-use Rattle.geo_site.proofs.Sound.{here, there, held_here, held_there}
+use Rattle.geo_site.specs.Schedule.{Known, nothing_known, settles, still_held, new_operation, issues, issues_on, counts_keys, waits, flushed, visible, basis, RepliesTo, RepliesBy, learns, carried}
+use Rattle.geo_site.proofs.Sound.{here, held_here}
 use Rattle.geo_world.specs.declared.plain.operation.Operation.{Operation}
 use Rattle.geo_world.specs.declared.plain.knowledge.Knowledge.{Knowledge}
-use Rattle.geo_world.specs.Agreement.{SiteKnown}
-use Rattle.geo_world.specs.Plain.{operations_of, held_after, sent_of, Knows, counts_of, shown, Meets}
+use Rattle.geo_world.specs.Agreement.{SiteKnown, about}
+use Rattle.geo_world.specs.Plain.{operations_of, stamped, held_after, sent_of, Knows, Rests, counts_of, shown, Meets}
 use Rattle.geo_world.proofs.Knowing.{shown_is}
 use Rattle.geo_world.proofs.Worlds.{some_same, some_none, get_appended}
-use Rattle.geo_world.proofs.Changing.{get_written, counts_here, counts_there}
+use Rattle.geo_world.proofs.Changing.{get_written, settled_about, counts_here, counts_there, waits_here, waits_there}
 
-module _ (sites : List Knowledge) (sent : List (ℕ × List Operation)) (w : Known) (meets : Meets sites sent w) (k s : ℕ) (at_number : s ≡ k + 1) where
-  -- a site settles, and the others stay
-  pub meets_settled : (new : Knowledge) (ops : List spec.Operation) (held : Held) → counts_of new ≡ w.counts s → Knows new ops (still_held ops held) → Meets (slice_set sites k new) sent (settles w s ops held)
-  meets_settled new ops held counts knows = record {
-    each = λ j number site e got. elim (get_written sites k new j site got) [
-      | inl p ↦ let m : s ≡ number = let q = p.0 in omega arith in
-          subst₂ (λ (t : ℕ) (x : Knowledge). Knows x ((settles w s ops held).at t) ((settles w s ops held).held t)) m (sym p.1)
-          (subst₂ (Knows new) (sym (here w s ops held)) (sym (held_here w s ops held)) knows)
-      | inr p ↦ let ne : number ≢ s = let q = p.0 in omega arith in
-          subst₂ (Knows site) (sym (there w s ops held number ne)) (sym (held_there w s ops held number ne)) (meets.each j number site e p.1)
-    ];
-    counted = λ j number site e got. elim (get_written sites k new j site got) [
-      | inl p ↦ let m : s ≡ number = let q = p.0 in omega arith in subst₂ (λ (t : ℕ) (x : Knowledge). counts_of x ≡ w.counts t) m (sym p.1) counts
-      | inr p ↦ meets.counted j number site e p.1
-    ];
-    sent_is = meets.sent_is;
+module _ (sites : List Knowledge) (sent : List (ℕ × List Operation)) (w : Known) (meets : Meets sites sent w) where
+  -- all sites are as they were
+  pub meets_about : (v : Known) → ((t : ℕ) → about v t ≡ about w t) → v.sent ≡ w.sent → Meets sites sent v
+  meets_about v same sent_same = record {
+    each = λ j number site e got. subst (λ (x : SiteKnown). Knows site x.ops x.held) (sym (same number)) (meets.each j number site e got);
+    counted = λ j number site e got. meets.counted j number site e got ∙ ap (λ (x : SiteKnown). x.counts) (sym (same number));
+    waits = λ j number site e got. meets.waits j number site e got ∙ ap (λ (x : SiteKnown). x.waiting) (sym (same number));
+    reaps = λ j number site e got. meets.reaps j number site e got ∙ ap (λ (x : SiteKnown). x.limits.reap_after) (sym (same number));
+    sent_is = meets.sent_is ∙ sym sent_same;
   }
 
-  module _ (old : Knowledge) (got : slice_get sites k ≡ Some old) where
-    -- it learns operations
-    pub meets_learned : (new : Knowledge) (parcel : ℕ) (x : ℕ × List Operation) (ops : List Operation) → slice_get sent parcel ≡ Some x → ops ≡ x.1 → counts_of new ≡ counts_of old
-        → ((known : List spec.Operation) (held : Held) → Knows old known held → Knows new (known ++ operations_of ops) (still_held (known ++ operations_of ops) held))
-        → Meets (slice_set sites k new) sent (learns w s (carried w parcel))
-    meets_learned new parcel x ops there same counts does =
-        let told : operations_of ops ≡ carried w parcel = ap operations_of same ∙ ap (λ (p : ℕ × List spec.Operation). p.1) (sym (index_mapped sent parcel x there) ∙ ap (λ all. slice_index_or all parcel (0, [])) meets.sent_is) in
-        meets_settled new (w.at s ++ carried w parcel) (w.held s) (counts ∙ meets.counted k s old at_number got)
-        (subst (λ o. Knows new (w.at s ++ o) (still_held (w.at s ++ o) (w.held s))) told (does (w.at s) (w.held s) (meets.each k s old at_number got)))
-      where
-        index_mapped : (all : List (ℕ × List Operation)) (p : ℕ) (x : ℕ × List Operation) → slice_get all p ≡ Some x → slice_index_or (map sent_of all) p (0, []) ≡ sent_of x
-        index_mapped [] p x h = absurd (some_none (sym h))
-        index_mapped (y ∷ ys) zero x h = ap sent_of (some_same h)
-        index_mapped (y ∷ ys) (suc p) x h = index_mapped ys p x h
-
-    latest_is : latest (w.at s) ≡ latest (operations_of old.ops.items)
-    latest_is = ap latest (sym (meets.each k s old at_number got).operations)
-
-    -- what it shows is what is visible
-    pub shows_visible : (now : ℕ) → shown old now ≡ visible w s now
-    shows_visible now = shown_is old (w.at s) (w.held s) now (meets.each k s old at_number got)
-
-    -- it issues an operation
-    pub meets_issued : (new : Knowledge) (act : spec.Act) (stamp : Moment) → stamp ≡ record { time = latest (w.at s) + 1; site = s } → counts_of new ≡ counts_of old
-        → ((ops : List spec.Operation) (held : Held) → Knows old ops held → Knows new (ops ++ record { stamp = stamp; act = act } ∷ []) (still_held (ops ++ record { stamp = stamp; act = act } ∷ []) (act_held act held)))
-        → Meets (slice_set sites k new) sent (issues w s (act ∷ []))
-    meets_issued new act stamp is counts does =
-        meets_settled new (w.at s ++ new_operation w s act ∷ []) (act_held act (w.held s)) (counts ∙ meets.counted k s old at_number got)
-        (subst (λ (m : Moment). Knows new (w.at s ++ record { stamp = m; act = act } ∷ []) (still_held (w.at s ++ record { stamp = m; act = act } ∷ []) (act_held act (w.held s)))) is (does (w.at s) (w.held s) (meets.each k s old at_number got)))
-
-    -- it counts keys
-    pub meets_counted : (new : Knowledge) (counts : Counts) → new.ops ≡ old.ops → new.changes ≡ old.changes → counts_of new ≡ counts → Meets (slice_set sites k new) sent (counts_keys w s counts)
-    meets_counted new counts ops changes is = record {
-      each = λ j number site e at. elim (get_written sites k new j site at) [
-        | inl p ↦ let m : s ≡ number = let q = p.0 in omega arith in
-            subst₂ (λ (t : ℕ) (x : Knowledge). Knows x (w.at t) (w.held t)) m (sym p.1)
-            (let known = meets.each k s old at_number got in
-            record { operations = ap (λ v. operations_of v.items) ops ∙ known.operations; holds = λ key. ap (λ c. held_after key None c.items) changes ∙ known.holds key })
-        | inr p ↦ meets.each j number site e p.1
+  module _ (k s : ℕ) (at_number : s ≡ k + 1) where
+    -- a site changes, and the others stay
+    pub meets_changed : (new : Knowledge) (v : Known) → Knows new (v.at s) (v.held s) → counts_of new ≡ v.counts s → new.waiting ≡ v.waiting s → new.reap_after ≡ (v.limits s).reap_after
+        → ((t : ℕ) → t ≢ s → about v t ≡ about w t) → v.sent ≡ w.sent → Meets (slice_set sites k new) sent v
+    meets_changed new v knows counts waiting reap_after others sent_same = record {
+      each = λ j number site e got. elim (get_written sites k new j site got) [
+        | inl p ↦ let m : s ≡ number = let q = p.0 in omega arith in subst₂ (λ (t : ℕ) (x : Knowledge). Knows x (v.at t) (v.held t)) m (sym p.1) knows
+        | inr p ↦ let ne : number ≢ s = let q = p.0 in omega arith in subst (λ (x : SiteKnown). Knows site x.ops x.held) (sym (others number ne)) (meets.each j number site e p.1)
       ];
-      counted = λ j number site e at. elim (get_written sites k new j site at) [
-        | inl p ↦ let m : s ≡ number = let q = p.0 in omega arith in
-            subst₂ (λ (t : ℕ) (x : Knowledge). counts_of x ≡ (counts_keys w s counts).counts t) m (sym p.1) (is ∙ sym (counts_here w s counts))
-        | inr p ↦ let ne : number ≢ s = let q = p.0 in omega arith in meets.counted j number site e p.1 ∙ sym (ap (λ (x : SiteKnown). x.counts) (counts_there w s counts number ne))
+      counted = λ j number site e got. elim (get_written sites k new j site got) [
+        | inl p ↦ let m : s ≡ number = let q = p.0 in omega arith in subst₂ (λ (t : ℕ) (x : Knowledge). counts_of x ≡ v.counts t) m (sym p.1) counts
+        | inr p ↦ let ne : number ≢ s = let q = p.0 in omega arith in meets.counted j number site e p.1 ∙ ap (λ (x : SiteKnown). x.counts) (sym (others number ne))
       ];
-      sent_is = meets.sent_is;
+      waits = λ j number site e got. elim (get_written sites k new j site got) [
+        | inl p ↦ let m : s ≡ number = let q = p.0 in omega arith in subst₂ (λ (t : ℕ) (x : Knowledge). x.waiting ≡ v.waiting t) m (sym p.1) waiting
+        | inr p ↦ let ne : number ≢ s = let q = p.0 in omega arith in meets.waits j number site e p.1 ∙ ap (λ (x : SiteKnown). x.waiting) (sym (others number ne))
+      ];
+      reaps = λ j number site e got. elim (get_written sites k new j site got) [
+        | inl p ↦ let m : s ≡ number = let q = p.0 in omega arith in subst₂ (λ (t : ℕ) (x : Knowledge). x.reap_after ≡ (v.limits t).reap_after) m (sym p.1) reap_after
+        | inr p ↦ let ne : number ≢ s = let q = p.0 in omega arith in meets.reaps j number site e p.1 ∙ ap (λ (x : SiteKnown). x.limits.reap_after) (sym (others number ne))
+      ];
+      sent_is = meets.sent_is ∙ sym sent_same;
     }
 
-    -- what it knows goes into a parcel
-    pub meets_sent : (to : ℕ) (known : List Operation) → known ≡ old.ops.items → Meets sites (sent ++ (to, known) ∷ []) (record { at = w.at; held = w.held; counts = w.counts; limit = w.limit; sent = w.sent ++ (to, w.at s) ∷ [] })
-    meets_sent to known is =
-        let told : operations_of known ≡ w.at s = ap operations_of is ∙ (meets.each k s old at_number got).operations in
-        record {
-          each = meets.each;
-          counted = meets.counted;
-          sent_is = map-append sent_of sent ((to, known) ∷ []) ∙ (λ i. meets.sent_is i ++ (to, told i) ∷ []);
-        }
+    module _ (old : Knowledge) (got : slice_get sites k ≡ Some old) where
+      -- a site settles
+      meets_settled : (new : Knowledge) (ops : List spec.Operation) (held : Held) → Rests old new → Knows new ops (still_held ops held) → Meets (slice_set sites k new) sent (settles w s ops held)
+      meets_settled new ops held rests knows =
+          meets_changed new (settles w s ops held) (subst₂ (Knows new) (sym (here w s ops held)) (sym (held_here w s ops held)) knows)
+          (rests.counts ∙ meets.counted k s old at_number got) (rests.waiting ∙ meets.waits k s old at_number got) (rests.reap_after ∙ meets.reaps k s old at_number got)
+          (λ t ne. settled_about w s ops held t ne) refl
+
+      -- it learns operations
+      pub meets_learned : (new : Knowledge) (parcel : ℕ) (x : ℕ × List Operation) (ops : List Operation) → slice_get sent parcel ≡ Some x → ops ≡ x.1 → Rests old new
+          → ((known : List spec.Operation) (held : Held) → Knows old known held → Knows new (known ++ operations_of ops) (still_held (known ++ operations_of ops) held))
+          → Meets (slice_set sites k new) sent (learns w s (carried w parcel))
+      meets_learned new parcel x ops there same rests does =
+          let told : operations_of ops ≡ carried w parcel = ap operations_of same ∙ ap (λ (p : ℕ × List spec.Operation). p.1) (sym (index_mapped sent parcel x there) ∙ ap (λ all. slice_index_or all parcel (0, [])) meets.sent_is) in
+          meets_settled new (w.at s ++ carried w parcel) (w.held s) rests
+          (subst (λ o. Knows new (w.at s ++ o) (still_held (w.at s ++ o) (w.held s))) told (does (w.at s) (w.held s) (meets.each k s old at_number got)))
+        where
+          index_mapped : (all : List (ℕ × List Operation)) (p : ℕ) (x : ℕ × List Operation) → slice_get all p ≡ Some x → slice_index_or (map sent_of all) p (0, []) ≡ sent_of x
+          index_mapped [] p x h = absurd (some_none (sym h))
+          index_mapped (y ∷ ys) zero x h = ap sent_of (some_same h)
+          index_mapped (y ∷ ys) (suc p) x h = index_mapped ys p x h
+
+      pub latest_is : latest (w.at s) ≡ latest (operations_of old.ops.items)
+      latest_is = ap latest (sym (meets.each k s old at_number got).operations)
+
+      -- what it shows is what is visible
+      pub shows_visible : (now : ℕ) → shown old now ≡ visible w s now
+      shows_visible now = shown_is old (w.at s) (w.held s) now (meets.each k s old at_number got)
+
+      -- it issues an operation
+      pub meets_issued : (new : Knowledge) (act : spec.Act) (stamp : Moment) → stamp ≡ record { time = latest (w.at s) + 1; site = s } → Rests old new
+          → ((ops : List spec.Operation) (held : Held) → Knows old ops held → Knows new (ops ++ stamped stamp act ∷ []) (still_held (ops ++ stamped stamp act ∷ []) (act_held act held)))
+          → Meets (slice_set sites k new) sent (issues w s (act ∷ []))
+      meets_issued new act stamp is rests does =
+          meets_settled new (w.at s ++ new_operation w s act ∷ []) (act_held act (w.held s)) rests
+          (subst (λ (m : Moment). Knows new (w.at s ++ stamped m act ∷ []) (still_held (w.at s ++ stamped m act ∷ []) (act_held act (w.held s)))) is (does (w.at s) (w.held s) (meets.each k s old at_number got)))
+
+      knows_still : (new : Knowledge) → new.ops ≡ old.ops → new.changes ≡ old.changes → Knows new (w.at s) (w.held s)
+      knows_still new ops changes = let known = meets.each k s old at_number got in record {
+        operations = ap (λ v. operations_of v.items) ops ∙ known.operations;
+        holds = λ key. ap (λ c. held_after key None c.items) changes ∙ known.holds key;
+      }
+
+      -- it counts keys
+      pub meets_counted : (new : Knowledge) (counts : Counts) → new.ops ≡ old.ops → new.changes ≡ old.changes → new.waiting ≡ old.waiting → new.reap_after ≡ old.reap_after → counts_of new ≡ counts → Meets (slice_set sites k new) sent (counts_keys w s counts)
+      meets_counted new counts ops changes waiting reap_after is =
+          meets_changed new (counts_keys w s counts) (knows_still new ops changes) (is ∙ sym (counts_here w s counts)) (waiting ∙ meets.waits k s old at_number got) (reap_after ∙ meets.reaps k s old at_number got)
+          (λ t ne. counts_there w s counts t ne) refl
+
+      -- a flush waits there from now on, or none does
+      pub meets_waits : (new : Knowledge) (waiting : Option ℕ) → new.ops ≡ old.ops → new.changes ≡ old.changes → counts_of new ≡ counts_of old → new.reap_after ≡ old.reap_after → new.waiting ≡ waiting → Meets (slice_set sites k new) sent (waits w s waiting)
+      meets_waits new waiting ops changes counts reap_after is =
+          meets_changed new (waits w s waiting) (knows_still new ops changes) (counts ∙ meets.counted k s old at_number got) (is ∙ sym (waits_here w s waiting)) (reap_after ∙ meets.reaps k s old at_number got)
+          (λ t ne. waits_there w s waiting t ne) refl
+
+      -- what it knows goes into a parcel
+      pub meets_sent : (to : ℕ) (known : List Operation) → known ≡ old.ops.items → Meets sites (sent ++ (to, known) ∷ []) (record { at = w.at; held = w.held; counts = w.counts; waiting = w.waiting; limits = w.limits; sent = w.sent ++ (to, w.at s) ∷ [] })
+      meets_sent to known is =
+          let told : operations_of known ≡ w.at s = ap operations_of is ∙ (meets.each k s old at_number got).operations in
+          record {
+            each = meets.each;
+            counted = meets.counted;
+            waits = meets.waits;
+            reaps = meets.reaps;
+            sent_is = map-append sent_of sent ((to, known) ∷ []) ∙ (λ i. meets.sent_is i ++ (to, told i) ∷ []);
+          }
 
 -- one site more, that knows nothing
 pub counts_more : {A : Type 0} (xs ys : List A) (x : A) (n : ℕ) → ys ≡ xs ++ x ∷ [] → length xs ≡ n → length ys ≡ n + 1
 counts_more xs ys x n more many = ap length more ∙ length-append xs (x ∷ []) ∙ ap (λ m. m + 1) many
 
-pub meets_more : (limit : ℕ → ℕ) (sites more : List Knowledge) (new : Knowledge) → more ≡ sites ++ new ∷ [] → new.ops.items ≡ [] → new.changes.items ≡ [] → counts_of new ≡ none_counted → Meets sites [] (nothing_known limit) → Meets more [] (nothing_known limit)
-meets_more limit sites more new is ops changes counts meets = record {
+pub meets_more : (limits : ℕ → Limits) (sites more : List Knowledge) (new : Knowledge) (n : ℕ) → length sites ≡ n → more ≡ sites ++ new ∷ [] → new.ops.items ≡ [] → new.changes.items ≡ [] → counts_of new ≡ none_counted → new.waiting ≡ None → new.reap_after ≡ (limits (n + 1)).reap_after
+    → Meets sites [] (nothing_known limits) → Meets more [] (nothing_known limits)
+meets_more limits sites more new n many is ops changes counts waiting reap_after meets = record {
   each = λ k number site e got. elim (get_appended sites new k site (ap (λ all. slice_get all k) (sym is) ∙ got)) [
     | inl old ↦ meets.each k number site e old
     | inr p ↦ subst (λ (s : Knowledge). Knows s [] (λ _. None)) (sym p.1) (record { operations = ap operations_of ops; holds = λ key. ap (held_after key None) changes })
@@ -110,19 +139,40 @@ meets_more limit sites more new is ops changes counts meets = record {
     | inl old ↦ meets.counted k number site e old
     | inr p ↦ subst (λ (s : Knowledge). counts_of s ≡ none_counted) (sym p.1) counts
   ];
+  waits = λ k number site e got. elim (get_appended sites new k site (ap (λ all. slice_get all k) (sym is) ∙ got)) [
+    | inl old ↦ meets.waits k number site e old
+    | inr p ↦ subst (λ (s : Knowledge). s.waiting ≡ None) (sym p.1) waiting
+  ];
+  reaps = λ k number site e got. elim (get_appended sites new k site (ap (λ all. slice_get all k) (sym is) ∙ got)) [
+    | inl old ↦ meets.reaps k number site e old
+    | inr p ↦ let m : n + 1 ≡ number = let q = p.0 in omega arith in subst₂ (λ (t : ℕ) (s : Knowledge). s.reap_after ≡ (limits t).reap_after) m (sym p.1) reap_after
+  ];
   sent_is = refl;
 }
 
--- a site that counts what it had counted is as it was
-pub meets_same : (sites : List Knowledge) (sent : List (ℕ × List Operation)) (w : Known) (s : ℕ) → Meets sites sent w → Meets sites sent (counts_keys w s (w.counts s))
-meets_same sites sent w s meets = record {
-  each = meets.each;
-  counted = λ k number site e got. meets.counted k number site e got ∙ sym (counted_same number);
-  sent_is = meets.sent_is;
-}
-  where
-    counted_same : (t : ℕ) → (counts_keys w s (w.counts s)).counts t ≡ w.counts t
-    counted_same t = elim (eqb_tells t s) [ inl p ↦ ap (λ b. cond b (w.counts s) (w.counts t)) p.0 ∙ ap w.counts (sym p.1) | inr p ↦ ap (λ b. cond b (w.counts s) (w.counts t)) p.0 ]
+pub meets_none : (limits : ℕ → Limits) (sites : List Knowledge) → sites ≡ [] → Meets sites [] (nothing_known limits)
+meets_none limits sites none = subst (λ (all : List Knowledge). Meets all [] (nothing_known limits)) (sym none) (record {
+  each = λ k number site e got. absurd (some_none (sym got));
+  counted = λ k number site e got. absurd (some_none (sym got));
+  waits = λ k number site e got. absurd (some_none (sym got));
+  reaps = λ k number site e got. absurd (some_none (sym got));
+  sent_is = refl;
+})
+
+-- ---- a site that counts what it had counted, or waits as it waited, is as it was
+put_same : {A : Type 0} (f : ℕ → A) (s : ℕ) (x : A) → x ≡ f s → (t : ℕ) → cond (t == s) x (f t) ≡ f t
+put_same f s x e t = elim (eqb_tells t s) [ inl p ↦ ap (λ b. cond b x (f t)) p.0 ∙ e ∙ ap f (sym p.1) | inr p ↦ ap (λ b. cond b x (f t)) p.0 ]
+
+module _ (sites : List Knowledge) (sent : List (ℕ × List Operation)) (w : Known) (s : ℕ) where
+  pub still_waits : (x : Option ℕ) → x ≡ w.waiting s → Meets sites sent w → Meets sites sent (waits w s x)
+  still_waits x e meets = meets_about sites sent w meets (waits w s x) (λ t. let ws = put_same w.waiting s x e t in λ i. record { ops = w.at t; held = w.held t; counts = w.counts t; waiting = ws i; limits = w.limits t }) refl
+
+  pub still_counts : (c : Counts) (x : Option ℕ) → c ≡ w.counts s → Meets sites sent (waits w s x) → Meets sites sent (waits (counts_keys w s c) s x)
+  still_counts c x e meets = meets_about sites sent (waits w s x) meets (waits (counts_keys w s c) s x) (λ t. let cs = put_same w.counts s c e t in λ i. record { ops = w.at t; held = w.held t; counts = cs i; waiting = (waits w s x).waiting t; limits = w.limits t }) refl
+
+  -- a due flush, by whether there is one
+  pub flushed_kept : (now : ℕ) (b : Bool) → flushes_due (w.waiting s) (latest (w.at s)) now ≡ b → Meets sites sent (waits (issues w s (cond {A = List spec.Act} b (Flush ∷ []) [])) s (cond b None (w.waiting s))) → Meets sites sent (flushed w s now)
+  flushed_kept now b e meets = subst (λ b. Meets sites sent (waits (issues w s (cond {A = List spec.Act} b (Flush ∷ []) [])) s (cond b None (w.waiting s)))) (sym e) meets
 
 -- what was done was not refused for want of a stamp
 pub done_has_stamp : (w : Known) (s now : ℕ) (request : Request) (reply : Reply) → is_done reply ≡ true → lacks (latest (w.at s)) (issues_on w s now request) ≡ true → RepliesTo w s now request reply → ⊥
@@ -134,3 +184,8 @@ done_has_stamp w s now request reply done ended h = elim h.answers [
     refused : (t : Bool) → reply ≡ cond {A = Reply} t MapFull ClockEnded → ⊥
     refused true e = true≢false (sym done ∙ ap is_done e)
     refused false e = true≢false (sym done ∙ ap is_done e)
+
+-- nor after a due flush, where no stamp may be left for that
+pub done_has_stamp_by : (b : Bool) (w : Known) (s now : ℕ) (request : Request) (reply : Reply) → is_done reply ≡ true → lacks (latest (w.at s)) (issues_on w s now request) ≡ true → RepliesBy b w s now request reply → ⊥
+done_has_stamp_by true w s now request reply done ended h = true≢false (sym done ∙ ap is_done h)
+done_has_stamp_by false w s now request reply done ended h = done_has_stamp w s now request reply done ended h

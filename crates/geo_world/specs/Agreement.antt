@@ -1,14 +1,15 @@
 -- Sites and parcels of the code are what is known of them.
-use Rattle.std.specs.Prelude.{Result, Ok, Err, ◌≡◌, ◌≢◌, ℕ, ◌+◌, ◌≤◌, true, false, List, [], length, Some, None, slice_get, slice_index_or}
+use Rattle.std.specs.Prelude.{Result, Ok, Err, ◌≡◌, ◌≢◌, ℕ, ◌+◌, ◌≤◌, true, false, List, [], length, Option, Some, None, slice_get, slice_index_or}
 use Rattle.geo_stamp.specs.Vectors.{zeros}
 use Rattle.geo_versions.specs.Operations.{Operation, version_in, version_of, floor_of}
 use Rattle.geo_delta.specs.declared.parcel.Parcel.{Parcel}
 use Rattle.geo_site.specs.declared.site.Site.{Site}
 use Rattle.geo_site.specs.Entries.{Held, Counts, none_counted}
 use Rattle.geo_site.specs.Machine.{knows_floor}
-use Rattle.geo_site.specs.Sites.{state_in, counts_in, most_records, delta_of, knows_all}
+use Rattle.geo_site.specs.Sites.{state_in, counts_in, waiting_in, limits_of, delta_of, knows_all}
 use Rattle.geo_site.specs.Schedule.{Known, happens, Lawful}
 use Rattle.geo_site.specs.declared.setup.Setup.{Setup}
+use Rattle.geo_site.specs.declared.setup.Limits.{Limits}
 use Rattle.geo_site.specs.declared.event.Event.{Event}
 use Rattle.geo_site.specs.declared.event.Trace.{Trace}
 use Rattle.geo_site.specs.Agreement.{StateOf, DeltaOf}
@@ -23,20 +24,22 @@ pub record SiteKnown : Type 0 where
   pub ops : List Operation
   pub held : Held
   pub counts : Counts
-  pub limit : ℕ
+  pub waiting : Option ℕ
+  pub limits : Limits
 
 abbrev pub about : Known → ℕ → SiteKnown
-about w number = record { ops = w.at number; held = w.held number; counts = w.counts number; limit = w.limit number }
+about w number = record { ops = w.at number; held = w.held number; counts = w.counts number; waiting = w.waiting number; limits = w.limits number }
 
-abbrev pub nothing_about : ℕ → SiteKnown
-nothing_about limit = record { ops = []; held = λ _. None; counts = none_counted; limit = limit }
+abbrev pub nothing_about : Limits → SiteKnown
+nothing_about limits = record { ops = []; held = λ _. None; counts = none_counted; waiting = None; limits = limits }
 
 -- the site has this number among so many, and is what is known of it
 pub record Stands (sites number : ℕ) (site : Site) (known : SiteKnown) : Type 0 where
   pub own : site.number ≡ number
   pub state : StateOf sites number (state_in site) known.ops known.held
   pub counts : counts_in site ≡ known.counts
-  pub limit : most_records site ≡ known.limit
+  pub waiting : waiting_in site ≡ known.waiting
+  pub limits : limits_of site ≡ known.limits
 
 -- the parcel is for its addressee, from another site, knows all its stamps, and is what its sender knew
 pub record Carries (sites : ℕ) (parcel : Parcel) (sent : ℕ × List Operation) : Type 0 where

@@ -12,7 +12,6 @@ use Rattle.geo_world.specs.declared.plain.known.PlainError.TheVariants.{NotThere
 use Rattle.geo_site.specs.declared.event.Event.{Event}
 use Rattle.geo_world.specs.There.{is_there, is_in_time}
 use Rattle.geo_versions.specs.Operations as spec
-use Rattle.geo_world.specs.declared.plain.operation.Written.{Written}
 use Rattle.geo_world.specs.declared.plain.operation.Act.{Act}
 use Rattle.geo_world.specs.declared.plain.operation.Act.TheVariants.{Write, Delete, Touch, Flush}
 use Rattle.geo_world.specs.declared.plain.operation.Operation.{Operation}
@@ -32,6 +31,9 @@ is_about key (spec.Act.Write k bytes flags expiry) = same_key k key
 is_about key (spec.Act.Delete k) = same_key k key
 is_about key (spec.Act.Touch k expiry) = same_key k key
 is_about key spec.Act.Flush = false
+
+abbrev pub acts_of : List Act → List spec.Act
+acts_of = map act_of
 
 abbrev pub operation_of : Operation → spec.Operation
 operation_of op = record { stamp = op.stamp; act = act_of op.act }
@@ -62,13 +64,15 @@ counts_of site = record { hits = site.hits; misses = site.misses }
 abbrev pub shown : Knowledge → ℕ → Visible
 shown site now key = entry_in now (spec.version_of (operations_of site.ops.items) key) (held_after key None site.changes.items)
 
--- the delete of a key with a stamp
-abbrev pub delete_of : Moment → List ℕ → spec.Operation
-delete_of stamp key = record { stamp = stamp; act = spec.Act.Delete key }
+-- nothing but its operations and what it holds changes
+pub record Rests (old new : Knowledge) : Type 0 where
+  pub counts : counts_of new ≡ counts_of old
+  pub waiting : new.waiting ≡ old.waiting
+  pub reap_after : new.reap_after ≡ old.reap_after
 
--- the write of a value with a stamp
-abbrev pub write_of : Moment → Written → spec.Operation
-write_of stamp w = record { stamp = stamp; act = spec.Act.Write w.key w.bytes w.flags w.expiry }
+-- an act with a stamp
+abbrev pub stamped : Moment → spec.Act → spec.Operation
+stamped stamp act = record { stamp = stamp; act = act }
 
 -- the sites and what was sent are what is known
 abbrev pub sent_of : ℕ × List Operation → ℕ × List spec.Operation
@@ -77,6 +81,8 @@ sent_of s = (s.0, operations_of s.1)
 pub record Meets (sites : List Knowledge) (sent : List (ℕ × List Operation)) (w : spec_known.Known) : Type 0 where
   pub each : (k number : ℕ) (site : Knowledge) → number ≡ k + 1 → slice_get sites k ≡ Some site → Knows site (w.at number) (w.held number)
   pub counted : (k number : ℕ) (site : Knowledge) → number ≡ k + 1 → slice_get sites k ≡ Some site → counts_of site ≡ w.counts number
+  pub waits : (k number : ℕ) (site : Knowledge) → number ≡ k + 1 → slice_get sites k ≡ Some site → site.waiting ≡ w.waiting number
+  pub reaps : (k number : ℕ) (site : Knowledge) → number ≡ k + 1 → slice_get sites k ≡ Some site → site.reap_after ≡ (w.limits number).reap_after
   pub sent_is : map sent_of sent ≡ w.sent
 
 -- the bytes that are lent

@@ -2,6 +2,7 @@
 use Rattle.std.specs.Prelude.{ℕ, zero, suc, ◌+◌, ◌-◌, Bool, true, ◌==◌, ◌&&◌, nat_le, List, [], ◌∷◌, length}
 use Rattle.geo_site.specs.Schedule.{Known, nothing_known}
 use Rattle.geo_site.specs.declared.setup.Setup.{Setup}
+use Rattle.geo_site.specs.declared.setup.Limits.{Limits}
 
 abbrev pub is_setup : ℕ → ℕ → Setup → Bool
 is_setup sites number setup = (setup.site == number) && (setup.sites == sites) && nat_le 1 setup.max_records && nat_le setup.max_records 1000000
@@ -13,15 +14,15 @@ are_numbered sites number (setup ∷ setups) = is_setup sites number setup && ar
 abbrev pub are_setups : List Setup → Bool
 are_setups setups = nat_le 1 (length setups) && nat_le (length setups) 16 && are_numbered (length setups) 1 setups
 
--- how many records the site with this number may have
-abbrev pub limit_at : List Setup → ℕ → ℕ
-limit_at [] k = 0
-limit_at (setup ∷ setups) zero = setup.max_records
-limit_at (setup ∷ setups) (suc k) = limit_at setups k
+-- what the site with this number is told at its start
+abbrev pub limits_at : List Setup → ℕ → Limits
+limits_at [] k = record { max_records = 0; reap_after = 0 }
+limits_at (setup ∷ setups) zero = record { max_records = setup.max_records; reap_after = setup.reap_after }
+limits_at (setup ∷ setups) (suc k) = limits_at setups k
 
-abbrev pub limit_of : List Setup → ℕ → ℕ
-limit_of setups number = limit_at setups (number - 1)
+abbrev pub limits_of : List Setup → ℕ → Limits
+limits_of setups number = limits_at setups (number - 1)
 
 -- at the start nothing is known
 abbrev pub start : List Setup → Known
-start setups = nothing_known (limit_of setups)
+start setups = nothing_known (limits_of setups)

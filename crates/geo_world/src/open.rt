@@ -51,6 +51,7 @@ impl World {
                 site: setup.site,
                 sites: setup.sites,
                 max_records: setup.max_records,
+                reap_after: setup.reap_after,
                 hasher,
             };
             let Ok(site) = Site::new(alloc, own) else {

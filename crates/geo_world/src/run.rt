@@ -20,7 +20,9 @@ fn is_in_time_event(event: &Event) -> bool
     ensures { result ≡ is_in_time event.now }
 {
     match event {
-        Event::Command { now, .. } => *now <= LAST_MOMENT,
+        Event::Command { now, .. } | Event::Tick { now, .. } | Event::Reap { now, .. } => {
+            *now <= LAST_MOMENT
+        }
         Event::Send { .. } | Event::Take { .. } => true,
     }
 }
@@ -32,8 +34,9 @@ pub fn are_in_time(events: &[Event]) -> bool
     events.iter().all(is_in_time_event)
 }
 
-/// Runs a schedule: any list of commands, sends and takes over the sites that the setups make, in which a parcel may be taken
-/// never, often and in any order.
+/// Runs a schedule: any list of commands, sends, takes, ticks and reaps over the sites that the setups make, in which a parcel
+/// may be taken never, often and in any order. A tick carries out a flush that waits and is due, and a reap deletes what a site
+/// wrote itself and ended long ago: they are events like the others, and come when the schedule says.
 ///
 /// Whatever the schedule, each event has a trace that it can have: each reply is plain memcached's over what its site then
 /// holds, or the refusal that is due; a parcel's addressee never finds a gap. In the end each site's floor and versions are

@@ -9,6 +9,7 @@ use crate::world::World;
 use geo_grammar::Request;
 use geo_lattice::Twin;
 use geo_site::{Event, Trace};
+use geo_versions::Key;
 use std::alloc::{AllocError, Global};
 
 impl World {
@@ -20,10 +21,32 @@ impl World {
         ensures as_many { length self.new.sites.items ≡ length self.old.sites.items }
     {
         let at = &mut self.sites[site as usize - 1];
-        // What the contract of a reply counts, though most replies don't show it.
-        let _records = at.records();
-        let _items = at.items();
         Trace::Replied(at.act(alloc, now, request))
+    }
+
+    /// A flush that waits is carried out where it is due.
+    fn tick(&mut self, site: u8, now: u64) -> Trace
+        requires there { is_site (length self.old.sites.items) site ≡ true }
+        ensures lawful { (w : Known) → Agrees self.old.sites.items self.old.parcels.items w → Lawful w (Event.Tick site now) result }
+        ensures kept { (w : Known) → Agrees self.old.sites.items self.old.parcels.items w → Agrees self.new.sites.items self.new.parcels.items (happens w (Event.Tick site now) result) }
+        ensures as_many { length self.new.sites.items ≡ length self.old.sites.items }
+    {
+        let at = &mut self.sites[site as usize - 1];
+        Trace::Ticked(at.tick(now))
+    }
+
+    /// A key is deleted where it is to be reaped.
+    fn reap(&mut self, alloc: Global, site: u8, now: u64, key: &Key) -> Trace
+        requires there { is_site (length self.old.sites.items) site ≡ true }
+        ensures lawful { (w : Known) → Agrees self.old.sites.items self.old.parcels.items w → Lawful w (Event.Reap site now key.now) result }
+        ensures kept { (w : Known) → Agrees self.old.sites.items self.old.parcels.items w → Agrees self.new.sites.items self.new.parcels.items (happens w (Event.Reap site now key.now) result) }
+        ensures as_many { length self.new.sites.items ≡ length self.old.sites.items }
+    {
+        let at = &mut self.sites[site as usize - 1];
+        match at.reap(alloc, now, key) {
+            Ok(done) => Trace::Reaped(done),
+            Err(why) => Trace::ReapRefused(why),
+        }
     }
 
     fn send(&mut self, alloc: Global, site: u8, to: u8) -> Result<Trace, AllocError>
@@ -69,37 +92,42 @@ impl World {
         site >= 1 && site as usize <= self.sites.len()
     }
 
+    /// Whether the sites and the parcel that an event names are there.
+    fn is_there(&self, event: &Event) -> bool
+        ensures { result ≡ is_there (length self.now.sites.items) (length self.now.parcels.items) event.now }
+    {
+        match event {
+            Event::Command { site, .. } | Event::Tick { site, .. } | Event::Reap { site, .. } => {
+                self.has(*site)
+            }
+            Event::Send { site, to } => self.has(*site) && self.has(*to),
+            Event::Take { site, parcel } => self.has(*site) && *parcel < self.parcels.len(),
+        }
+    }
+
     /// Does the event with this index, unless it names a site or a parcel that is not there.
     pub fn step(&mut self, alloc: Global, event: &Event, index: usize) -> Result<Trace, WorldError>
         requires moment { is_in_time event.now ≡ true }
         ensures does { StepDoes self.old self.new event.now index result }
         ensures as_many { length self.new.sites.items ≡ length self.old.sites.items }
     {
+        if !self.is_there(event) {
+            return Err(WorldError::BadEvent(index));
+        }
         match event {
             Event::Command { site, now, request } => {
-                if !self.has(*site) {
-                    return Err(WorldError::BadEvent(index));
-                }
                 Ok(self.command(alloc, *site, *now, request))
             }
-            Event::Send { site, to } => {
-                if !self.has(*site) || !self.has(*to) {
-                    return Err(WorldError::BadEvent(index));
-                }
-                match self.send(alloc, *site, *to) {
-                    Ok(trace) => Ok(trace),
-                    Err(_) => Err(WorldError::Memory),
-                }
-            }
-            Event::Take { site, parcel } => {
-                if !self.has(*site) || *parcel >= self.parcels.len() {
-                    return Err(WorldError::BadEvent(index));
-                }
-                match self.take(alloc, *site, *parcel) {
-                    Ok(trace) => Ok(trace),
-                    Err(_) => Err(WorldError::Memory),
-                }
-            }
+            Event::Send { site, to } => match self.send(alloc, *site, *to) {
+                Ok(trace) => Ok(trace),
+                Err(_) => Err(WorldError::Memory),
+            },
+            Event::Take { site, parcel } => match self.take(alloc, *site, *parcel) {
+                Ok(trace) => Ok(trace),
+                Err(_) => Err(WorldError::Memory),
+            },
+            Event::Tick { site, now } => Ok(self.tick(*site, *now)),
+            Event::Reap { site, now, key } => Ok(self.reap(alloc, *site, *now, key)),
         }
     }
 }

@@ -1,5 +1,6 @@
 //! Schedules worked by hand, and seeded ones beside the plain program.
 mod due;
+mod moments;
 mod seeded;
 
 use crate::{WorldError, are_in_time, run_schedule};
@@ -13,13 +14,14 @@ use std::hash::RandomState;
 use std::test::Fail;
 
 fn setups(alloc: Global, sites: u8, hasher: &RandomState) -> Result<Vec<Setup>, AllocError> {
-    setups_of(alloc, sites, 1000, hasher)
+    setups_of(alloc, sites, 1000, 60, hasher)
 }
 
 fn setups_of(
     alloc: Global,
     sites: u8,
     max_records: u32,
+    reap_after: u32,
     hasher: &RandomState,
 ) -> Result<Vec<Setup>, AllocError> {
     let mut all = Vec::new(alloc);
@@ -28,6 +30,7 @@ fn setups_of(
             site: index.wrapping_add(1),
             sites,
             max_records,
+            reap_after,
             hasher: hasher.clone()?,
         })?;
     }
@@ -38,32 +41,40 @@ fn key(alloc: Global, bytes: &[u8]) -> Result<Key, Fail> {
     Ok(Key::new(alloc, bytes)?.ok_or("no key")?)
 }
 
+fn set_until(alloc: Global, name: &[u8], bytes: &[u8], exptime: i64) -> Result<Request, Fail> {
+    Ok(Request::Store {
+        verb: Verb::Set,
+        key: key(alloc, name)?,
+        flags: 0,
+        exptime,
+        unique: None,
+        bytes: ValueBytes::of(bytes.to_vec(alloc)?),
+        noreply: false,
+    })
+}
+
+fn fetch(alloc: Global, name: &[u8]) -> Result<Request, Fail> {
+    let mut keys = Vec::new(alloc);
+    keys.push(key(alloc, name)?)?;
+    Ok(Request::Fetch {
+        keys: Items::of(keys),
+        numbers: false,
+    })
+}
+
 fn set(alloc: Global, site: u8, name: &[u8], bytes: &[u8]) -> Result<Event, Fail> {
     Ok(Event::Command {
         site,
         now: 100,
-        request: Request::Store {
-            verb: Verb::Set,
-            key: key(alloc, name)?,
-            flags: 0,
-            exptime: 0,
-            unique: None,
-            bytes: ValueBytes::of(bytes.to_vec(alloc)?),
-            noreply: false,
-        },
+        request: set_until(alloc, name, bytes, 0)?,
     })
 }
 
 fn get(alloc: Global, site: u8, name: &[u8]) -> Result<Event, Fail> {
-    let mut keys = Vec::new(alloc);
-    keys.push(key(alloc, name)?)?;
     Ok(Event::Command {
         site,
         now: 100,
-        request: Request::Fetch {
-            keys: Items::of(keys),
-            numbers: false,
-        },
+        request: fetch(alloc, name)?,
     })
 }
 
@@ -138,6 +149,19 @@ fn refuses_what_is_not_there(rt: HostRuntime) -> Result<(), Fail> {
     );
     assert!(rt; matches!(&outcome.traces[1], Trace::Sent));
     assert!(rt; matches!(&outcome.traces[2], Trace::TakeRefused(TakeError::NotForMe)));
+    events.push(Event::Tick { site: 3, now: 1 })?;
+    assert!(rt; are_in_time(&events));
+    let no_tick = run_schedule(alloc, setups(alloc, 2, &hasher)?, &events).err();
+    assert_eq!(rt; no_tick, Some(WorldError::BadEvent(3)));
+    events.truncate(3);
+    events.push(Event::Reap {
+        site: 0,
+        now: 1,
+        key: key(alloc, b"a")?,
+    })?;
+    assert!(rt; are_in_time(&events));
+    let no_reap = run_schedule(alloc, setups(alloc, 2, &hasher)?, &events).err();
+    assert_eq!(rt; no_reap, Some(WorldError::BadEvent(3)));
     let nobody = run_schedule(alloc, Vec::new(alloc), &events).err();
     assert_eq!(rt; nobody, Some(WorldError::Setups));
     let mut turned = setups(alloc, 2, &hasher)?;

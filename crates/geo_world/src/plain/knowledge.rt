@@ -1,20 +1,23 @@
 //! What one site knows and holds.
-ghost use Rattle.std.specs.Prelude.{◌≡◌, ◌≤◌, ◌^◌, ℕ, Bool, List, [], ◌∷◌, ◌++◌, length, IfOk, None};
+ghost use Rattle.std.specs.Prelude.{◌≡◌, ◌≤◌, ◌^◌, ℕ, Bool, List, [], ◌∷◌, ◌++◌, length, IfOk, None, cond};
+ghost use Rattle.std.specs.List.{list_any};
 ghost use Rattle.std.specs.Option.{option_map};
 ghost use Rattle.geo_memcache.specs.Entries.{entry_of};
 ghost use Rattle.geo_memcache.specs.Decisions.{decided};
-ghost use Rattle.geo_versions.specs.Operations.{Operation as Issued, floor_of, version_of as version_named};
-ghost use Rattle.geo_site.specs.Entries.{Held, found_of};
+ghost use Rattle.geo_versions.specs.Keys.{same_key};
+ghost use Rattle.geo_versions.specs.Operations.{Operation as Issued, Act as ActOf, latest as latest_of, floor_of, version_of as version_named};
+ghost use Rattle.geo_versions.specs.Operations.Act.{Touch};
+ghost use Rattle.geo_site.specs.Entries.{Held, found_of, found_after, touched_after, touches_of, is_due, flushes_due, is_reapable};
 ghost use Rattle.geo_site.specs.Machine.{act_held};
 ghost use Rattle.geo_site.specs.Schedule.{still_held};
-ghost use Rattle.geo_world.specs.Plain.{operations_of, write_of, delete_of, Knows, counts_of, held_after, lent, shown};
+ghost use Rattle.geo_world.specs.Plain.{act_of, acts_of, operations_of, stamped, Knows, Rests, held_after, lent, shown};
 
-use crate::plain::meaning::{floor, is_named, version_of};
-use crate::plain::operation::{Act, Operation, Written};
+use crate::plain::meaning::{floor, is_named, latest, version_of};
+use crate::plain::operation::{Act, Operation};
 use geo_grammar::ValueBytes;
 use geo_lattice::{Items, Twin};
 use geo_memcache::{Ask, Decision, Entry, decide, live};
-use geo_stamp::Stamp;
+use geo_stamp::{LAST_TIME, Stamp};
 use geo_versions::{Key, Version};
 use std::alloc::{AllocError, Global};
 
@@ -36,6 +39,17 @@ pub struct Knowledge {
     pub hits: u64,
     /// How many keys it did not find.
     pub misses: u64,
+    /// The moment of the flush that waits, in seconds.
+    pub waiting: Option<u64>,
+    /// How many seconds after its end a write of its own is kept.
+    pub reap_after: u32,
+}
+
+/// Whether a key is one of these.
+fn is_among(keys: &[Key], key: &Key) -> bool
+    ensures { result ≡ list_any (same_key key.now) keys.now }
+{
+    keys.iter().any(|other| key == other)
 }
 
 fn add_copies(to: &mut Vec<Operation>, alloc: Global, ops: &[Operation]) -> Result<(), AllocError>
@@ -59,7 +73,7 @@ pub fn copies(alloc: Global, ops: &[Operation]) -> Result<Items<Operation>, Allo
 impl Knowledge {
     fn settle(&mut self, alloc: Global) -> Result<(), AllocError>
         ensures operations { self.new.ops ≡ self.old.ops }
-        ensures counts { counts_of self.new ≡ counts_of self.old }
+        ensures rests { Rests self.old self.new }
         ensures settles { IfOk result (λ _. (ops : List Issued) (held : Held) → Knows self.old ops held → Knows self.new ops (still_held ops held)) }
     {
         let known = copies(alloc, self.ops.as_slice())?;
@@ -67,39 +81,34 @@ impl Knowledge {
         Ok(())
     }
 
-    /// It issues a write.
-    pub fn write(&mut self, alloc: Global, stamp: Stamp, written: Written) -> Result<(), AllocError>
-        ensures counts { counts_of self.new ≡ counts_of self.old }
-        ensures written { IfOk result (λ _. (ops : List Issued) (held : Held) → Knows self.old ops held → Knows self.new (ops ++ write_of stamp written ∷ []) (still_held (ops ++ write_of stamp written ∷ []) (act_held (write_of stamp written).act held))) }
+    /// It puts the bytes of its own write into what it holds.
+    fn hold(&mut self, alloc: Global, act: &Act) -> Result<(), AllocError>
+        ensures operations { self.new.ops ≡ self.old.ops }
+        ensures rests { Rests self.old self.new }
+        ensures held { IfOk result (λ _. (ops : List Issued) (held : Held) → Knows self.old ops held → Knows self.new ops (act_held (act_of act.now) held)) }
     {
-        let key = written.key.twin(alloc)?;
-        let bytes = written.bytes.twin(alloc)?;
-        self.ops.push(Operation {
-            stamp,
-            act: Act::Write(written),
-        })?;
-        self.changes.push(Change::Wrote(key, bytes))?;
-        self.settle(alloc)?;
+        if let Act::Write(written) = act {
+            let key = written.key.twin(alloc)?;
+            let bytes = written.bytes.twin(alloc)?;
+            self.changes.push(Change::Wrote(key, bytes))?;
+        }
         Ok(())
     }
 
-    /// It issues a delete.
-    pub fn delete(&mut self, alloc: Global, stamp: Stamp, key: &Key) -> Result<(), AllocError>
-        ensures counts { counts_of self.new ≡ counts_of self.old }
-        ensures deleted { IfOk result (λ _. (ops : List Issued) (held : Held) → Knows self.old ops held → Knows self.new (ops ++ delete_of stamp key.now ∷ []) (still_held (ops ++ delete_of stamp key.now ∷ []) held)) }
+    /// It issues an operation.
+    pub fn issue(&mut self, alloc: Global, stamp: Stamp, act: Act) -> Result<(), AllocError>
+        ensures rests { Rests self.old self.new }
+        ensures issued { IfOk result (λ _. (ops : List Issued) (held : Held) → Knows self.old ops held → Knows self.new (ops ++ stamped stamp (act_of act) ∷ []) (still_held (ops ++ stamped stamp (act_of act) ∷ []) (act_held (act_of act) held))) }
     {
-        let key = key.twin(alloc)?;
-        self.ops.push(Operation {
-            stamp,
-            act: Act::Delete { key },
-        })?;
+        self.hold(alloc, &act)?;
+        self.ops.push(Operation { stamp, act })?;
         self.settle(alloc)?;
         Ok(())
     }
 
     /// It learns operations.
     pub fn learn(&mut self, alloc: Global, known: &[Operation]) -> Result<(), AllocError>
-        ensures counts { counts_of self.new ≡ counts_of self.old }
+        ensures rests { Rests self.old self.new }
         ensures learned { IfOk result (λ _. (ops : List Issued) (held : Held) → Knows self.old ops held → Knows self.new (ops ++ operations_of known.now) (still_held (ops ++ operations_of known.now) held)) }
     {
         add_copies(&mut self.ops, alloc, known)?;
@@ -185,6 +194,71 @@ impl Knowledge {
     {
         let entry = self.visible(now, key);
         Ok(decide(alloc, entry.as_ref(), now, ask)?)
+    }
+
+    /// Whether a touch with this expiry finds a key, after those of the keys before it: one that ended it leaves nothing to find.
+    fn is_touched(&self, now: u64, expiry: u64, before: &[Key], key: &Key) -> bool
+        ensures { (numbers : Bool) → touches_of expiry (found_after now expiry numbers (shown self.now now) before.now key.now) ≡ cond {A = List ActOf} result (Touch key.now expiry ∷ []) [] }
+    {
+        self.visible(now, key).is_some() && (live(expiry, now) || !is_among(before, key))
+    }
+
+    /// Adds the touches of each key that a fetch with touches finds: one key after the other, each after the touches of those
+    /// before it.
+    pub fn add_touches(
+        &self,
+        alloc: Global,
+        now: u64,
+        expiry: u64,
+        before: &mut Vec<Key>,
+        keys: &[Key],
+        acts: &mut Vec<Act>,
+    ) -> Result<(), AllocError>
+        ensures { IfOk result (λ _. (numbers : Bool) → acts_of acts.new.items ≡ acts_of acts.old.items ++ touches_of expiry (touched_after now expiry numbers (shown self.now now) before.old.items keys.now)) }
+    {
+        match keys {
+            [] => Ok(()),
+            [key, rest @ ..] => {
+                if self.is_touched(now, expiry, before.as_slice(), key) {
+                    let key = key.twin(alloc)?;
+                    acts.push(Act::Touch { key, expiry })?;
+                }
+                before.push(key.twin(alloc)?)?;
+                self.add_touches(alloc, now, expiry, before, rest, acts)
+            }
+        }
+    }
+
+    /// Whether the moment of a flush that waits has come.
+    fn has_due_flush(&self, now: u64) -> bool
+        ensures { result ≡ is_due self.now.waiting now }
+    {
+        match self.waiting {
+            None => false,
+            Some(at) => at <= now,
+        }
+    }
+
+    /// Whether a flush that waits is due and has a stamp.
+    pub fn flushes_due(&self, now: u64) -> bool
+        ensures { result ≡ flushes_due self.now.waiting (latest_of (operations_of self.now.ops.items)) now }
+    {
+        self.has_due_flush(now) && latest(self.ops.as_slice()) < LAST_TIME
+    }
+
+    /// Whether the version of a key is a write of this site that ended longer ago than it is kept for.
+    pub fn is_to_reap(&self, site: u8, now: u64, key: &Key) -> bool
+        ensures { result ≡ is_reapable site self.now.reap_after now (version_named (operations_of self.now.ops.items) key.now) }
+    {
+        match self.version_of(key) {
+            None => false,
+            Some(version) => {
+                version.stamp.site() == site
+                    && version.expiry != 0
+                    && version.expiry < now
+                    && now - version.expiry > self.reap_after as u64
+            }
+        }
     }
 
     /// How many of the keys are visible at a moment.

@@ -1,19 +1,20 @@
 //! What all sites know along a schedule with its trace.
-ghost use Rattle.std.specs.Prelude.{[], ◌≡◌, ◌≤◌, ◌<◌, ℕ, List, length, IfOk, IfErr, map, true, false};
-ghost use Rattle.geo_site.specs.Schedule.{Known as Knowing, happens, known, nothing_known, learns, carried, Lawful, EachLawful};
+ghost use Rattle.std.specs.Prelude.{[], ◌≡◌, ◌≤◌, ◌<◌, length, IfOk, IfErr, true, false};
+ghost use Rattle.geo_site.specs.Schedule.{Known as Knowing, happens, known, learns, carried, Lawful, EachLawful};
 ghost use Rattle.geo_site.specs.Entries.{is_done as is_done_by};
+ghost use Rattle.geo_world.specs.Setups.{start};
 ghost use Rattle.geo_world.specs.There.{is_site, all_in_time, EachThere};
-ghost use Rattle.geo_world.specs.Plain.{operations_of, Meets, can_follow};
+ghost use Rattle.geo_world.specs.Plain.{Meets, can_follow};
 
 use crate::plain::knowledge::{Knowledge, copies};
 use crate::plain::operation::Operation;
 use crate::run::LAST_MOMENT;
 use geo_grammar::Reply;
 use geo_lattice::Items;
-use geo_site::{Event, Trace};
+use geo_site::{Event, Setup, Trace};
 use std::alloc::{AllocError, Global};
 
-/// What each site knows and holds, and for whom and with what each parcel was sent.
+/// What each site knows and holds and what waits there, and for whom and with what each parcel was sent.
 #[derive(Drop)]
 pub struct Known {
     pub sites: Vec<Knowledge>,
@@ -68,6 +69,19 @@ impl Known {
         Ok(())
     }
 
+    /// Whether the sites and the parcel that an event names are there, and its moment is one of a schedule.
+    fn can_follow(&self, event: &Event) -> bool
+        ensures { result ≡ can_follow (length self.now.sites.items) (length self.now.sent.items) event.now }
+    {
+        match event {
+            Event::Command { site, now, .. }
+            | Event::Tick { site, now }
+            | Event::Reap { site, now, .. } => self.has(*site) && *now <= LAST_MOMENT,
+            Event::Send { site, to } => self.has(*site) && self.has(*to),
+            Event::Take { site, parcel } => self.has(*site) && *parcel < self.sent.len(),
+        }
+    }
+
     /// What an event with its trace adds.
     fn happens(&mut self, alloc: Global, event: &Event, trace: &Trace) -> Result<(), PlainError>
         requires few { length self.old.sites.items ≤ 16 }
@@ -76,36 +90,26 @@ impl Known {
         ensures ended { IfErr result (λ e. e ≡ PlainError.ClockEnded → (w : Knowing) → Meets self.old.sites.items self.old.sent.items w → Lawful w event.now trace.now → ⊥) }
         ensures as_many { length self.new.sites.items ≡ length self.old.sites.items }
     {
+        if !self.can_follow(event) {
+            return Err(PlainError::NotThere);
+        }
         match (event, trace) {
             (Event::Command { site, now, request }, Trace::Replied(reply)) => {
+                self.flush_due(alloc, *site, *now)?;
                 if !is_done(reply) {
                     return Ok(());
                 }
-                if !self.has(*site) || *now > LAST_MOMENT {
-                    return Err(PlainError::NotThere);
-                }
-                match self.carry_out(alloc, *site, *now, request) {
-                    Ok(()) => Ok(()),
-                    Err(why) => Err(why),
-                }
+                self.carry_out(alloc, *site, *now, request)
             }
-            (Event::Send { site, to }, Trace::Sent) => {
-                if !self.has(*site) {
-                    return Err(PlainError::NotThere);
-                }
-                match self.send(alloc, *site, *to) {
-                    Ok(()) => Ok(()),
-                    Err(_) => Err(PlainError::Memory),
-                }
+            (Event::Send { site, to }, Trace::Sent) => Ok(self.send(alloc, *site, *to)?),
+            (Event::Take { site, parcel }, Trace::Taken) => Ok(self.learn(alloc, *site, *parcel)?),
+            (Event::Tick { site, now }, Trace::Ticked(_))
+            | (Event::Reap { site, now, .. }, Trace::ReapRefused(_)) => {
+                self.flush_due(alloc, *site, *now)
             }
-            (Event::Take { site, parcel }, Trace::Taken) => {
-                if !self.has(*site) || *parcel >= self.sent.len() {
-                    return Err(PlainError::NotThere);
-                }
-                match self.learn(alloc, *site, *parcel) {
-                    Ok(()) => Ok(()),
-                    Err(_) => Err(PlainError::Memory),
-                }
+            (Event::Reap { site, now, key }, Trace::Reaped(_)) => {
+                self.flush_due(alloc, *site, *now)?;
+                self.reap(alloc, *site, *now, key)
             }
             _ => Ok(()),
         }
@@ -137,36 +141,38 @@ impl Known {
     }
 }
 
-fn sites_without(alloc: Global, sites: usize) -> Result<Vec<Knowledge>, AllocError>
-    ensures { IfOk result (λ all. (length all.items ≡ sites) × ((limit : ℕ → ℕ) → Meets all.items [] (nothing_known limit))) }
+fn sites_without(alloc: Global, setups: &[Setup]) -> Result<Vec<Knowledge>, AllocError>
+    ensures { IfOk result (λ all. (length all.items ≡ length setups.now) × Meets all.items [] (start setups.now)) }
 {
     let mut all = Vec::new(alloc);
-    for made in 0..sites {
+    for setup in setups {
         all.push(Knowledge {
             ops: Vec::new(alloc),
             changes: Vec::new(alloc),
             hits: 0,
             misses: 0,
+            waiting: None,
+            reap_after: setup.reap_after,
         })?;
     }
     Ok(all)
 }
 
-/// What so many sites know after the events with their traces: the definition as it stands, in lists.
+/// What the sites of these setups know after the events with their traces: the definition as it stands, in lists.
 pub fn known_after(
     alloc: Global,
-    sites: usize,
+    setups: &[Setup],
     events: &[Event],
     traces: &[Trace],
 ) -> Result<Known, PlainError>
-    ensures known { IfOk result (λ k. (length k.sites.items ≡ sites) × ((limit : ℕ → ℕ) → Meets k.sites.items k.sent.items (known (nothing_known limit) events.now traces.now))) }
-    ensures missing { IfErr result (λ e. e ≡ PlainError.NotThere → sites ≤ 16 → (limit : ℕ → ℕ) → EachThere sites (nothing_known limit) events.now traces.now → all_in_time events.now ≡ true → ⊥) }
-    ensures ended { IfErr result (λ e. e ≡ PlainError.ClockEnded → (limit : ℕ → ℕ) → EachLawful (nothing_known limit) events.now traces.now → ⊥) }
+    ensures known { IfOk result (λ k. (length k.sites.items ≡ length setups.now) × Meets k.sites.items k.sent.items (known (start setups.now) events.now traces.now)) }
+    ensures missing { IfErr result (λ e. e ≡ PlainError.NotThere → length setups.now ≤ 16 → EachThere (length setups.now) (start setups.now) events.now traces.now → all_in_time events.now ≡ true → ⊥) }
+    ensures ended { IfErr result (λ e. e ≡ PlainError.ClockEnded → EachLawful (start setups.now) events.now traces.now → ⊥) }
 {
-    if sites > 16 {
+    if setups.len() > 16 {
         return Err(PlainError::NotThere);
     }
-    let Ok(sites) = sites_without(alloc, sites) else {
+    let Ok(sites) = sites_without(alloc, setups) else {
         return Err(PlainError::Memory);
     };
     let mut all = Known {

@@ -3,13 +3,17 @@ ghost use Rattle.std.specs.Prelude.{◌≤◌, ◌^◌};
 
 use crate::plain::knowledge::Knowledge;
 use crate::plain::meaning::{is_on, latest};
+use crate::plain::operation::Act;
 use geo_grammar::{Found, Reply, Request, Stats};
-use geo_memcache::{Answer, Ask, Decision, Effect};
+use geo_lattice::Twin;
+use geo_memcache::{Answer, Ask, Decision, Effect, expiry_of};
+use geo_stamp::Stamp;
 use geo_versions::Key;
 use std::alloc::Global;
 use std::test::Fail;
 
-/// Whether a reply is the one that is due to a request, at a site that knows and holds this much, and may have so many records.
+/// Whether a reply is the one that is due to a request, at a site that knows and holds this much, may have so many records, and
+/// has carried out a flush that was due.
 pub fn replies_as_due(
     alloc: Global,
     at: &Knowledge,
@@ -34,6 +38,19 @@ pub fn replies_as_due(
         (Request::Fetch { keys, numbers }, Reply::Values(found)) => {
             shows_as_due(at, now, *numbers, keys.as_slice(), found.as_slice())
         }
+        (
+            Request::FetchTouch {
+                exptime,
+                keys,
+                numbers,
+            },
+            Reply::Values(found),
+        ) => {
+            let expiry = expiry_of(*exptime, now);
+            let touched = touched_keys(alloc, at, now, expiry, keys.as_slice())?;
+            shows_as_due(at, now, *numbers, touched.as_slice(), found.as_slice())
+        }
+        (Request::FlushAll { .. }, Reply::Done) => true,
         (Request::Stats, Reply::Stats(stats)) => {
             *stats == stats_due(at, site, room.records, names)
         }
@@ -64,6 +81,7 @@ fn asked(request: &Request) -> Option<(&Key, Ask<'_>)> {
             Some((key, ask))
         }
         Request::Delete { key, .. } => Some((key, Ask::Delete)),
+        Request::Touch { key, exptime, .. } => Some((key, Ask::Touch { exptime: *exptime })),
         Request::Arith { up, key, by, .. } => Some((key, Ask::Arith { up: *up, by: *by })),
         _ => None,
     }
@@ -76,9 +94,20 @@ struct Room {
     records: u64,
 }
 
-/// Whether a site knows an operation on a key.
+/// Whether a stamp is later than all flushes.
+fn is_later(floor: Option<Stamp>, stamp: Stamp) -> bool {
+    match floor {
+        None => true,
+        Some(floor) => floor < stamp,
+    }
+}
+
+/// Whether a site knows an operation on a key that is later than all flushes.
 fn is_recorded(at: &Knowledge, name: &Key) -> bool {
-    at.ops.iter().any(|op| is_on(name, op))
+    let floor = at.floor();
+    at.ops
+        .iter()
+        .any(|op| is_on(name, op) && is_later(floor, op.stamp))
 }
 
 fn recorded(at: &Knowledge, names: &[Key]) -> u64 {
@@ -133,11 +162,33 @@ fn is_same(one: &Reply, other: &Reply) -> bool {
         | (Reply::Exists, Reply::Exists)
         | (Reply::NotFound, Reply::NotFound)
         | (Reply::Deleted, Reply::Deleted)
+        | (Reply::Touched, Reply::Touched)
         | (Reply::NotANumber, Reply::NotANumber)
         | (Reply::TooLarge, Reply::TooLarge) => true,
         (Reply::Number(one), Reply::Number(other)) => one == other,
         _ => false,
     }
+}
+
+/// The keys that a fetch with touches touches, in their order.
+fn touched_keys(
+    alloc: Global,
+    at: &Knowledge,
+    now: u64,
+    expiry: u64,
+    keys: &[Key],
+) -> Result<Vec<Key>, Fail> {
+    let mut before = Vec::new(alloc);
+    let mut acts = Vec::new(alloc);
+    at.add_touches(alloc, now, expiry, &mut before, keys, &mut acts)?;
+    let mut touched = Vec::new(alloc);
+    for act in &acts {
+        let Act::Touch { key, .. } = act else {
+            return Err("no touch")?;
+        };
+        touched.push(key.twin(alloc)?)?;
+    }
+    Ok(touched)
 }
 
 /// Whether the values are those of the keys that are visible, in their order.

@@ -1,6 +1,6 @@
 //! Seeded schedules of two to four sites, with few keys, and parcels lost, late, repeated and reordered: the run is what the
 //! plain program says.
-ghost use Rattle.std.specs.Prelude.{◌<◌, ◌≤◌};
+ghost use Rattle.std.specs.Prelude.{◌<◌, ◌≤◌, ◌^◌};
 
 use super::due::replies_as_due;
 use super::{key, setups_of};
@@ -9,13 +9,16 @@ use crate::plain::known::{Known, known_after};
 use crate::{Outcome, are_in_time, run_schedule};
 use geo_grammar::{Reply, Request, ValueBytes, Verb};
 use geo_lattice::Items;
-use geo_site::{Event, SendError, Site, TakeError, Trace};
+use geo_site::{Event, SendError, Setup, Site, TakeError, Trace};
 use geo_versions::Key;
 use std::alloc::Global;
 use std::hash::RandomState;
 use std::test::Fail;
 
-const EVENTS: usize = 16;
+const EVENTS: usize = 20;
+
+/// The moments of a schedule are about here, more than thirty days after 0.
+const FIRST: u64 = 2_600_000;
 
 const SCHEDULES: u64 = 2000;
 
@@ -52,6 +55,32 @@ impl Dice {
         }
     }
 
+    /// A moment about the time of an event. The moments of a schedule rise, and now and then go back.
+    fn now(&mut self, event: usize) -> u64
+        requires few { event < 100 }
+        ensures { result ≤ 2 ^ 40 }
+    {
+        FIRST + 2 * event as u64 + self.below(20)
+    }
+
+    /// When a value ends: mostly never, in the past, after up to forty seconds, or at a moment.
+    fn exptime(&mut self) -> i64 {
+        match self.below(10) {
+            0 => -1,
+            1 | 2 | 3 => self.below(40) as i64 + 1,
+            4 => self.now(EVENTS) as i64,
+            _ => 0,
+        }
+    }
+
+    /// How long a flush waits: mostly up to twenty seconds, else as long as until an end.
+    fn delay(&mut self) -> i64 {
+        match self.below(3) {
+            0 => self.exptime(),
+            _ => self.below(20) as i64 + 1,
+        }
+    }
+
     fn bytes(&mut self) -> &'static [u8] {
         match self.below(4) {
             0 => b"",
@@ -65,22 +94,29 @@ impl Dice {
 /// What a client may ask of one key.
 fn change(alloc: Global, dice: &mut Dice) -> Result<Request, Fail> {
     let key = key(alloc, dice.name())?;
-    let verb = match dice.below(13) {
-        0 | 1 | 2 | 3 => Verb::Set,
-        4 => Verb::Add,
-        5 => Verb::Replace,
-        6 => Verb::Append,
-        7 => Verb::Prepend,
-        8 => Verb::Cas,
-        9 | 10 => {
+    let verb = match dice.below(17) {
+        0 | 1 | 2 | 3 | 4 => Verb::Set,
+        5 => Verb::Add,
+        6 => Verb::Replace,
+        7 => Verb::Append,
+        8 => Verb::Prepend,
+        9 => Verb::Cas,
+        10 => {
             return Ok(Request::Delete {
                 key,
                 noreply: false,
             });
         }
+        11 | 12 | 13 | 14 => {
+            return Ok(Request::Touch {
+                key,
+                exptime: dice.exptime(),
+                noreply: false,
+            });
+        }
         face => {
             return Ok(Request::Arith {
-                up: face == 11,
+                up: face == 15,
                 key,
                 by: dice.below(10),
                 noreply: false,
@@ -91,7 +127,7 @@ fn change(alloc: Global, dice: &mut Dice) -> Result<Request, Fail> {
         verb,
         key,
         flags: dice.below(3) as u32,
-        exptime: 0,
+        exptime: dice.exptime(),
         // The unique numbers of the first two stamps of the first two sites.
         unique: Some(dice.below(2) * 256 + dice.below(2) + 257),
         bytes: ValueBytes::of(dice.bytes().to_vec(alloc)?),
@@ -100,22 +136,32 @@ fn change(alloc: Global, dice: &mut Dice) -> Result<Request, Fail> {
 }
 
 fn request(alloc: Global, dice: &mut Dice) -> Result<Request, Fail> {
-    match dice.below(12) {
-        0 | 1 | 2 => fetch(alloc, dice.name(), dice.name(), dice.below(2) == 0),
+    match dice.below(18) {
+        0 | 1 | 2 => Ok(Request::Fetch {
+            keys: two_keys(alloc, dice)?,
+            numbers: dice.below(2) == 0,
+        }),
         3 => Ok(Request::Stats),
         4 => Ok(Request::ShowVersion),
+        5 | 6 => Ok(Request::FetchTouch {
+            exptime: dice.exptime(),
+            keys: two_keys(alloc, dice)?,
+            numbers: dice.below(2) == 0,
+        }),
+        7 => Ok(Request::FlushAll {
+            delay: dice.delay(),
+            noreply: false,
+        }),
         _ => change(alloc, dice),
     }
 }
 
-fn fetch(alloc: Global, one: &[u8], other: &[u8], numbers: bool) -> Result<Request, Fail> {
+/// Two keys, which may be the same.
+fn two_keys(alloc: Global, dice: &mut Dice) -> Result<Items<Key>, Fail> {
     let mut keys = Vec::new(alloc);
-    keys.push(key(alloc, one)?)?;
-    keys.push(key(alloc, other)?)?;
-    Ok(Request::Fetch {
-        keys: Items::of(keys),
-        numbers,
-    })
+    keys.push(key(alloc, dice.name())?)?;
+    keys.push(key(alloc, dice.name())?)?;
+    Ok(Items::of(keys))
 }
 
 fn schedule(alloc: Global, dice: &mut Dice, sites: u8) -> Result<Vec<Event>, Fail>
@@ -123,13 +169,22 @@ fn schedule(alloc: Global, dice: &mut Dice, sites: u8) -> Result<Vec<Event>, Fai
 {
     let mut events = Vec::new(alloc);
     let mut addressees: Vec<u8> = Vec::new(alloc);
-    for _ in 0..EVENTS {
+    for index in 0..EVENTS {
         let site = dice.site(sites);
-        let event = match dice.below(12) {
-            0 | 1 | 2 | 3 | 4 | 5 => Event::Command {
+        let event = match dice.below(18) {
+            0 | 1 | 2 | 3 | 4 | 5 | 16 | 17 => Event::Command {
                 site,
-                now: 100,
+                now: dice.now(index),
                 request: request(alloc, dice)?,
+            },
+            12 | 13 => Event::Tick {
+                site,
+                now: dice.now(index),
+            },
+            14 | 15 => Event::Reap {
+                site,
+                now: dice.now(index),
+                key: key(alloc, dice.name())?,
             },
             6 | 7 => {
                 let to = dice.site(sites);
@@ -153,10 +208,29 @@ fn schedule(alloc: Global, dice: &mut Dice, sites: u8) -> Result<Vec<Event>, Fai
     Ok(events)
 }
 
+/// What the plain program says of a site.
+fn site_of(known: &Known, site: u8) -> Result<&Knowledge, Fail> {
+    Ok(
+        known
+            .sites
+            .get((site as usize).wrapping_sub(1))
+            .ok_or("no site")?,
+    )
+}
+
+/// What it says of a site after a flush that is due.
+fn flushed(alloc: Global, known: &mut Known, site: u8, now: u64) -> Result<&Knowledge, Fail> {
+    if known.sites.len() > 16 || !known.has(site) {
+        return Err("no site")?;
+    }
+    known.flush_due(alloc, site, now).ok().ok_or("not flushed")?;
+    site_of(known, site)
+}
+
 /// Whether the trace is what the plain program says of the event.
 fn is_due(
     alloc: Global,
-    known: &Known,
+    known: &mut Known,
     limit: u64,
     names: &[Key],
     event: &Event,
@@ -164,11 +238,15 @@ fn is_due(
 ) -> Result<bool, Fail> {
     match (event, trace) {
         (Event::Command { site, now, request }, Trace::Replied(reply)) => {
-            let at = known
-                .sites
-                .get((*site as usize).wrapping_sub(1))
-                .ok_or("no site")?;
+            let at = flushed(alloc, known, *site, *now)?;
             replies_as_due(alloc, at, *site, *now, limit, names, request, reply)
+        }
+        (Event::Tick { site, now }, Trace::Ticked(done)) => {
+            Ok(*done == site_of(known, *site)?.flushes_due(*now))
+        }
+        (Event::Reap { site, now, key }, Trace::Reaped(done)) => {
+            let at = flushed(alloc, known, *site, *now)?;
+            Ok(*done == at.is_to_reap(*site, *now, key))
         }
         (Event::Send { site, to }, Trace::Sent) => Ok(site != to),
         (Event::Send { site, to }, Trace::SendRefused(SendError::NoSuchSite)) => Ok(site == to),
@@ -184,36 +262,35 @@ fn is_due(
     }
 }
 
-/// How many parcels were taken, where each trace is what the plain program says of its event.
-fn taken_as_due(
+/// Whether each trace is what the plain program says of its event.
+fn all_due(
     alloc: Global,
-    sites: usize,
+    setups: &[Setup],
     limit: u64,
     names: &[Key],
     events: &[Event],
     traces: &[Trace],
-) -> Result<u64, Fail> {
-    let mut taken = 0u64;
+) -> Result<bool, Fail> {
     for (index, (event, trace)) in events.iter().zip(traces).enumerate() {
         let (Some(before), Some(their)) = (events.get(..index), traces.get(..index)) else {
             return Err("no events before")?;
         };
-        let known = known_after(alloc, sites, before, their)
+        let mut known = known_after(alloc, setups, before, their)
             .ok()
             .ok_or("no knowledge")?;
-        if !is_due(alloc, &known, limit, names, event, trace)? {
-            return Err("not what is due")?;
-        }
-        if matches!(trace, Trace::Taken) {
-            taken = taken.wrapping_add(1);
+        if !is_due(alloc, &mut known, limit, names, event, trace)? {
+            return Ok(false);
         }
     }
-    Ok(taken)
+    Ok(true)
 }
 
 /// How many keys have a version, where all are what the plain program names, and what is held too.
 fn named_alike(plain: &Knowledge, site: &Site, names: &[Key]) -> Result<u64, Fail> {
     let mut named = 0u64;
+    if site.floor() != plain.floor() {
+        return Err("flushed otherwise")?;
+    }
     for name in names {
         let version = site.version_of(name);
         if version != plain.version_of(name) || site.holds(name) != plain.held(name).is_some() {
@@ -237,58 +314,81 @@ fn all_named_alike(known: &Known, outcome: &Outcome, names: &[Key]) -> Result<u6
     Ok(named)
 }
 
-/// What a schedule was worth: parcels taken, versions named, and refusals of a full map.
+/// What a schedule was worth: versions that were named, and how often parcels were taken, maps were full, values were touched,
+/// flushes were carried out when they were due, and keys were reaped.
 #[derive(Clone, Copy)]
 struct Worth {
-    taken: u64,
     named: u64,
+    taken: u64,
     full: u64,
+    touched: u64,
+    ticked: u64,
+    reaped: u64,
 }
 
-fn full_maps(traces: &[Trace]) -> u64 {
-    traces
-        .iter()
-        .filter(|trace| matches!(trace, Trace::Replied(Reply::MapFull)))
-        .count() as u64
+impl Worth {
+    fn none() -> Worth {
+        Worth {
+            named: 0,
+            taken: 0,
+            full: 0,
+            touched: 0,
+            ticked: 0,
+            reaped: 0,
+        }
+    }
+
+    /// One trace more.
+    fn add(&mut self, trace: &Trace) {
+        let count = match trace {
+            Trace::Taken => &mut self.taken,
+            Trace::Replied(Reply::MapFull) => &mut self.full,
+            Trace::Replied(Reply::Touched) => &mut self.touched,
+            Trace::Ticked(true) => &mut self.ticked,
+            Trace::Reaped(true) => &mut self.reaped,
+            _ => return,
+        };
+        *count = count.wrapping_add(1);
+    }
 }
 
-/// Runs the schedule of a seed, of two to four sites with room for one, two or all three of the keys.
-fn worth_of_seed(
+/// Runs the schedule of a seed, of two to four sites with room for one, two or all three of the keys, that keep what ended for
+/// up to twenty seconds, and adds what it was worth.
+fn add_seed(
     alloc: Global,
     hasher: &RandomState,
     seed: u64,
     names: &[Key],
-) -> Result<Worth, Fail> {
+    worth: &mut Worth,
+) -> Result<(), Fail> {
     let mut dice = Dice { state: seed };
     let sites = 2 + dice.below(3) as u8;
     let limit = 1 + dice.below(3);
+    let kept = dice.below(20) as u32;
     let events = schedule(alloc, &mut dice, sites)?;
     if !are_in_time(&events) {
         return Err("out of time")?;
     }
-    let setups = setups_of(alloc, sites, limit as u32, hasher)?;
+    let setups = setups_of(alloc, sites, limit as u32, kept, hasher)?;
+    let told = setups_of(alloc, sites, limit as u32, kept, hasher)?;
     let outcome = run_schedule(alloc, setups, &events)
         .ok()
         .ok_or("no outcome")?;
     if outcome.traces.len() != events.len() {
         return Err("not as many traces")?;
     }
-    let taken = taken_as_due(
-        alloc,
-        sites as usize,
-        limit,
-        names,
-        &events,
-        &outcome.traces,
-    )?;
-    let known = known_after(alloc, sites as usize, &events, &outcome.traces)
+    if !all_due(alloc, &told, limit, names, &events, &outcome.traces)? {
+        return Err("not what is due")?;
+    }
+    let known = known_after(alloc, &told, &events, &outcome.traces)
         .ok()
         .ok_or("no knowledge")?;
-    Ok(Worth {
-        taken,
-        named: all_named_alike(&known, &outcome, names)?,
-        full: full_maps(&outcome.traces),
-    })
+    let named = all_named_alike(&known, &outcome, names)?;
+    worth.named = worth.named.wrapping_add(named);
+    for trace in &outcome.traces {
+        worth.add(trace);
+    }
+    Ok(())
 }
 
 #[test]
@@ -296,18 +396,16 @@ fn two_thousand_schedules_are_what_the_plain_program_says(rt: HostRuntime) -> Re
     let alloc = rt.alloc();
     let hasher = RandomState::new(&rt)?;
     let names = [key(alloc, b"a")?, key(alloc, b"b")?, key(alloc, b"c")?];
-    let mut taken = 0u64;
-    let mut named = 0u64;
-    let mut full = 0u64;
+    let mut worth = Worth::none();
     for seed in 0..SCHEDULES {
-        let worth = worth_of_seed(alloc, &hasher, seed, &names)?;
-        taken = taken.wrapping_add(worth.taken);
-        named = named.wrapping_add(worth.named);
-        full = full.wrapping_add(worth.full);
+        add_seed(alloc, &hasher, seed, &names, &mut worth)?;
     }
-    // The schedules are worth running: parcels were taken in each, sites had versions to name, and maps were full.
-    assert!(rt; taken > SCHEDULES);
-    assert!(rt; named > SCHEDULES);
-    assert!(rt; full > SCHEDULES / 10);
+    // The schedules are worth running: each of these came often.
+    assert!(rt; worth.taken > SCHEDULES);
+    assert!(rt; worth.named > SCHEDULES / 2);
+    assert!(rt; worth.full > SCHEDULES / 10);
+    assert!(rt; worth.touched > SCHEDULES / 50);
+    assert!(rt; worth.ticked > SCHEDULES / 50);
+    assert!(rt; worth.reaped > SCHEDULES / 50);
     Ok(())
 }

@@ -2,7 +2,7 @@ use Rattle.std.proofs.Common.{◌≡◌, ◌+◌, cond, not, [], ◌∷◌, ◌+
 use Rattle.std.proofs.lemmas.Result.{err_from_is_err_and}
 use Rattle.geo_site.proofs.Served.{all_serve}
 use Rattle.geo_site.proofs.Sound.{sound_nothing}
-use Rattle.geo_world.specs.Setups.{limit_of, start}
+use Rattle.geo_world.specs.Setups.{limits_of, start}
 use Rattle.geo_world.specs.Agreement.{RunRefuses}
 use Rattle.geo_world.proofs.Running.{HasRun, run_more, in_time_at, first_run, all_run, shows, same_versions, step_refused}
 use Rattle.geo_world.proofs.run.run_schedule.Goals as goal
@@ -53,4 +53,4 @@ returns-clause-equal c = λ j k one other at_one at_other same.
 pub returns-clause-served : goal.returns-clause-served
 returns-clause-served c = λ apart.
     let run = all_run (start c.args.setups.items) c.loop-index.world.sites.items c.loop-index.world.parcels.items c.args.events.now c.loop-index.traces.items c.loop-index.index (omega arith) (omega arith) c.loop-index.invariant.run in
-    all_serve (start c.args.setups.items) c.args.events.now c.loop-index.traces.items (sound_nothing (limit_of c.args.setups.items)) run.lawful apart
+    all_serve (start c.args.setups.items) c.args.events.now c.loop-index.traces.items (sound_nothing (limits_of c.args.setups.items)) run.lawful apart

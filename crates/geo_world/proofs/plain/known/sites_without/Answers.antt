@@ -1,6 +1,24 @@
-use Rattle.std.proofs.Common.{refl}
-use Rattle.geo_world.proofs.Meeting.{meets_more, counts_more}
+use Rattle.std.proofs.Common.{length, refl, ap, arith}
+use Rattle.geo_world.specs.Setups.{limits_of}
+use Rattle.geo_world.proofs.Meeting.{meets_more, meets_none, counts_more}
+use Rattle.geo_world.proofs.Worlds.{reap_read}
 use Rattle.geo_world.proofs.plain.known.sites_without.Goals as goal
 
-pub loop-made-preserved : goal.loop-made-preserved
-loop-made-preserved c = (counts_more _ _ _ _ c.in_ok-push.ensures.items c.loop-made.invariant.0, λ limit. meets_more limit _ _ _ c.in_ok-push.ensures.items c.new.ensures.items c.new-in-loop-made.ensures.items refl (c.loop-made.invariant.1 limit))
+pub loop-setup-init : goal.loop-setup-init
+loop-setup-init c = record { many = ap length c.new-all.ensures.items; meets = meets_none (limits_of c.args.setups.now) _ c.new-all.ensures.items }
+
+pub loop-setup-preserved : goal.loop-setup-preserved
+loop-setup-preserved c =
+    let inv = c.loop-setup.invariant in
+    record {
+      many = counts_more _ _ _ _ c.in_ok-push.ensures.items inv.many;
+      meets = meets_more (limits_of c.args.setups.now) _ _ _ c.loop-setup.setup-index inv.many c.in_ok-push.ensures.items c.new.ensures.items c.new-in-loop-setup.ensures.items refl refl (reap_read c.args.setups.now c.loop-setup.setup-index _ c.loop-setup-test.true) inv.meets;
+    }
+
+pub returns : goal.returns
+returns c =
+    let inv = c.loop-setup.invariant in
+    let end = c.loop-setup.auto.setup-index-end in
+    let past = c.loop-setup-test.false in
+    let many = inv.many in
+    (omega (arith, many, end, past), inv.meets)

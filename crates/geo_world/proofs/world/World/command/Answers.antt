@@ -1,8 +1,6 @@
-use Rattle.std.proofs.Common.{◌-◌, length, arith, subst}
-use Rattle.geo_site.specs.Machine.{IsRecordCount, IsHeldCount}
-use Rattle.geo_site.specs.Sites.{state_in}
+use Rattle.std.proofs.Common.{◌-◌, length, arith}
 use Rattle.geo_world.proofs.Worlds.{there_is, read_is}
-use Rattle.geo_world.proofs.Changing.{command_lawful, command_agrees}
+use Rattle.geo_world.proofs.Answering.{command_lawful, command_agrees}
 use Rattle.geo_world.proofs.world.World.command.Goals as goal
 
 pub returns-clause-lawful : goal.returns-clause-lawful
@@ -12,8 +10,7 @@ returns-clause-lawful c = λ w agrees.
     let lo = there.first in
     let hi = there.last in
     let got = read_is c.args.self.now.sites.items (c.args.site - 1) c.index_mut-at.result.now (omega arith) c.index_mut-at.ensures.value in
-    let e = c.act.ensures in
-    command_lawful _ _ w agrees (c.args.site - 1) c.args.site c.args.now c.args.request.now c.act.result (omega arith) hi c.index_mut-at.result.now c.act.new.self got (subst (λ n. IsRecordCount (state_in c.index_mut-at.result.now).map n) c.records-records.ensures.count c.records-records.ensures.records) (subst (λ n. IsHeldCount (state_in c.index_mut-at.result.now).held n) c.items-items.ensures.count c.items-items.ensures.held) e.answer e.done e.refused e.counts e.number e.limit
+    command_lawful _ _ w agrees (c.args.site - 1) c.args.site c.args.now (omega arith) hi c.index_mut-at.result.now c.act.new.self got c.args.request.now c.act.result c.act.ensures.does
 
 pub returns-clause-kept : goal.returns-clause-kept
 returns-clause-kept c = λ w agrees.
@@ -22,5 +19,4 @@ returns-clause-kept c = λ w agrees.
     let lo = there.first in
     let hi = there.last in
     let got = read_is c.args.self.now.sites.items (c.args.site - 1) c.index_mut-at.result.now (omega arith) c.index_mut-at.ensures.value in
-    let e = c.act.ensures in
-    command_agrees _ _ w agrees (c.args.site - 1) c.args.site c.args.now c.args.request.now c.act.result (omega arith) hi c.index_mut-at.result.now c.act.new.self got (subst (λ n. IsRecordCount (state_in c.index_mut-at.result.now).map n) c.records-records.ensures.count c.records-records.ensures.records) (subst (λ n. IsHeldCount (state_in c.index_mut-at.result.now).held n) c.items-items.ensures.count c.items-items.ensures.held) e.answer e.done e.refused e.counts e.number e.limit
+    command_agrees _ _ w agrees (c.args.site - 1) c.args.site c.args.now (omega arith) hi c.index_mut-at.result.now c.act.new.self got c.args.request.now c.act.result c.act.ensures.does

@@ -20,5 +20,5 @@ returns-clause-counts c = λ numbers w meets.
     let n = length (found_of numbers (visible w c.args.site c.args.now) keys) in
     let counts : counted_on (counts_of old) c.found-found.result (length keys - c.found-found.result) ≡ counted_on (w.counts c.args.site) n (length keys - n) = λ i. counted_on (was i) (found i) (length keys - found i) in
     let shows : ◌≡◌ {A = Counts} (record { hits = c.saturating_add-at.result; misses = c.saturating_add-at-2.result }) (counted_on (counts_of old) c.found-found.result (length keys - c.found-found.result)) = λ i. record { hits = c.saturating_add-at.ensures i; misses = c.saturating_add-at-2.ensures i } in
-    meets_counted c.args.self.now.sites.items c.args.self.now.sent.items w meets (c.args.site - 1) c.args.site (omega arith) old got _ (counted_on (w.counts c.args.site) (length (found_of numbers (visible w c.args.site c.args.now) keys)) (length keys - length (found_of numbers (visible w c.args.site c.args.now) keys))) refl refl
+    meets_counted c.args.self.now.sites.items c.args.self.now.sent.items w meets (c.args.site - 1) c.args.site (omega arith) old got _ (counted_on (w.counts c.args.site) (length (found_of numbers (visible w c.args.site c.args.now) keys)) (length keys - length (found_of numbers (visible w c.args.site c.args.now) keys))) refl refl refl refl
     (shows ∙ counts)

@@ -1,17 +1,51 @@
-use Rattle.std.proofs.Common.{sym, subst₂}
+use Rattle.std.proofs.Common.{◌≡◌, Bool, cond, sym, subst, subst₂}
+use Rattle.std.specs.Prelude.{IfOk, IfErr}
 use Rattle.geo_site.specs.declared.event.Event.{Event}
 use Rattle.geo_site.specs.declared.event.Trace.{Trace}
-use Rattle.geo_site.specs.Schedule.{happens, Lawful}
+use Rattle.geo_site.specs.Schedule.{Known, carries_out, flushed, happens, Lawful}
+use Rattle.geo_world.specs.declared.plain.known.PlainError.TheVariants.{ClockEnded}
 use Rattle.geo_world.specs.Plain.{Meets}
-use Rattle.geo_world.proofs.Meeting.{done_has_stamp}
+use Rattle.geo_world.proofs.Happening.{carried_kept, carried_ended, reaped_kept, reaped_ended}
 use Rattle.geo_world.proofs.plain.known.Known.happens.Goals as goal
 
-pub returns-in-Ok-learn-clause-kept : goal.returns-in-Ok-learn-clause-kept
-returns-in-Ok-learn-clause-kept c = λ w meets.
-    subst₂ (λ (event : Event) (trace : Trace). Meets c.learn.new.self.sites.items c.learn.new.self.sent.items (happens w event trace)) (sym c.in-Take-Taken.is-0) (sym c.in-Take-Taken.is-1) (c.in-Ok-learn.ensures.kept w meets)
+pub returns-in_ok-learn-in-Take-Taken-clause-kept : goal.returns-in_ok-learn-in-Take-Taken-clause-kept
+returns-in_ok-learn-in-Take-Taken-clause-kept c = λ w meets.
+    subst₂ (λ (event : Event) (trace : Trace). Meets c.learn.new.self.sites.items c.learn.new.self.sent.items (happens w event trace)) (sym c.in-Take-Taken.is-0) (sym c.in-Take-Taken.is-1) (c.in_ok-learn-in-Take-Taken.ensures.kept w meets)
 
-pub returns-in-Err-clause-ended : goal.returns-in-Err-clause-ended
-returns-in-Err-clause-ended c = λ is w meets lawful.
-    let done = sym c.if-not-is_done.ensures in
-    done_has_stamp w c.in-Command-Replied.site c.in-Command-Replied.now c.in-Command-Replied.request c.in-Command-Replied.reply done (c.in-Err.ensures.ended is w meets)
-    (subst₂ (λ (event : Event) (trace : Trace). Lawful w event trace) c.in-Command-Replied.is-0 c.in-Command-Replied.is-1 lawful)
+pub returns-then-not-is_done-clause-kept : goal.returns-then-not-is_done-clause-kept
+returns-then-not-is_done-clause-kept c = λ w meets.
+    let k = c.in-Command-Replied in
+    let new = c.flush_due.new.self in
+    let v = flushed w k.site k.now in
+    subst₂ (λ (event : Event) (trace : Trace). Meets new.sites.items new.sent.items (happens w event trace)) (sym k.is-0) (sym k.is-1)
+    (subst (λ (b : Bool). Meets new.sites.items new.sent.items (cond b (carries_out v k.site k.now k.request) v)) c.if-not-is_done.ensures (c.in_ok-flush_due-in-Command-Replied.ensures.kept w meets))
+
+pub returns-else-not-is_done-clause-kept : goal.returns-else-not-is_done-clause-kept
+returns-else-not-is_done-clause-kept c =
+    let k = c.in-Command-Replied in
+    let old = c.args.self.now in
+    let new = c.carry_out.new.self in
+    subst₂ (λ (event : Event) (trace : Trace). IfOk c.carry_out.result (λ _. (w : Known) → Meets old.sites.items old.sent.items w → Meets new.sites.items new.sent.items (happens w event trace))) (sym k.is-0) (sym k.is-1)
+    (carried_kept old c.flush_due.new.self k.site k.now c.in_ok-flush_due-in-Command-Replied.ensures.kept k.request k.reply (sym c.if-not-is_done.ensures) new c.carry_out.result c.carry_out.ensures.kept)
+
+pub returns-else-not-is_done-clause-ended : goal.returns-else-not-is_done-clause-ended
+returns-else-not-is_done-clause-ended c =
+    let k = c.in-Command-Replied in
+    let old = c.args.self.now in
+    subst₂ (λ (event : Event) (trace : Trace). IfErr c.carry_out.result (λ e. e ≡ ClockEnded → (w : Known) → Meets old.sites.items old.sent.items w → Lawful w event trace → ⊥)) (sym k.is-0) (sym k.is-1)
+    (carried_ended old c.flush_due.new.self k.site k.now c.in_ok-flush_due-in-Command-Replied.ensures.kept k.request k.reply (sym c.if-not-is_done.ensures) c.carry_out.result c.carry_out.ensures.ended)
+
+pub returns-in_ok-flush_due-in-Reap-Reaped-clause-kept : goal.returns-in_ok-flush_due-in-Reap-Reaped-clause-kept
+returns-in_ok-flush_due-in-Reap-Reaped-clause-kept c =
+    let k = c.in-Reap-Reaped in
+    let old = c.args.self.now in
+    let new = c.reap.new.self in
+    subst₂ (λ (event : Event) (trace : Trace). IfOk c.reap.result (λ _. (w : Known) → Meets old.sites.items old.sent.items w → Meets new.sites.items new.sent.items (happens w event trace))) (sym k.is-0) (sym k.is-1)
+    (reaped_kept old c.flush_due-in-Reap-Reaped.new.self k.site k.now c.in_ok-flush_due-in-Reap-Reaped.ensures.kept new k.key k.field-0-1 c.reap.result c.reap.ensures.adds)
+
+pub returns-in_ok-flush_due-in-Reap-Reaped-clause-ended : goal.returns-in_ok-flush_due-in-Reap-Reaped-clause-ended
+returns-in_ok-flush_due-in-Reap-Reaped-clause-ended c =
+    let k = c.in-Reap-Reaped in
+    let old = c.args.self.now in
+    subst₂ (λ (event : Event) (trace : Trace). IfErr c.reap.result (λ e. e ≡ ClockEnded → (w : Known) → Meets old.sites.items old.sent.items w → Lawful w event trace → ⊥)) (sym k.is-0) (sym k.is-1)
+    (reaped_ended old c.flush_due-in-Reap-Reaped.new.self k.site k.now c.in_ok-flush_due-in-Reap-Reaped.ensures.kept c.reap.new.self k.key k.field-0-1 c.reap.result c.reap.ensures.adds)

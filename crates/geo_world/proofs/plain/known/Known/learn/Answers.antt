@@ -10,4 +10,4 @@ returns-clause-kept c = λ w meets.
     let hi = there.last in
     let got = read_is c.args.self.now.sites.items (c.args.site - 1) c.index_mut-at.result.now (omega arith) c.index_mut-at.ensures.value in
     let sent = read_is c.args.self.now.sent.items c.args.parcel c.index-sent.result.now c.requires.sent c.index-sent.ensures in
-    meets_learned c.args.self.now.sites.items c.args.self.now.sent.items w meets (c.args.site - 1) c.args.site (omega arith) c.index_mut-at.result.now got c.learn.new.self c.args.parcel c.index-sent.result.now c.as_slice.result.now sent c.as_slice.ensures c.in_ok-learn.ensures.counts c.in_ok-learn.ensures.learned
+    meets_learned c.args.self.now.sites.items c.args.self.now.sent.items w meets (c.args.site - 1) c.args.site (omega arith) c.index_mut-at.result.now got c.learn.new.self c.args.parcel c.index-sent.result.now c.as_slice.result.now sent c.as_slice.ensures c.in_ok-learn.ensures.rests c.in_ok-learn.ensures.learned

@@ -1,8 +1,8 @@
 use Rattle.std.proofs.Common.{◌-◌, length, arith}
-use Rattle.geo_versions.specs.Operations.Act.{Delete}
+use Rattle.geo_world.specs.Plain.{act_of}
 use Rattle.geo_world.proofs.Worlds.{there_is, read_is}
 use Rattle.geo_world.proofs.Meeting.{meets_issued}
-use Rattle.geo_world.proofs.plain.known.Known.delete.Goals as goal
+use Rattle.geo_world.proofs.plain.known.Known.issue.Goals as goal
 
 pub returns-clause-adds : goal.returns-clause-adds
 returns-clause-adds c = λ w meets.
@@ -11,4 +11,4 @@ returns-clause-adds c = λ w meets.
     let hi = there.last in
     let old = c.index_mut-at.result.now in
     let got = read_is c.args.self.now.sites.items (c.args.site - 1) old (omega arith) c.index_mut-at.ensures.value in
-    meets_issued c.args.self.now.sites.items c.args.self.now.sent.items w meets (c.args.site - 1) c.args.site (omega arith) old got c.delete.new.self (Delete c.args.key.now) c.in_ok-stamp.stamp (c.in_ok-stamp.ensures.stamp w meets) c.in_ok-delete.ensures.counts c.in_ok-delete.ensures.deleted
+    meets_issued c.args.self.now.sites.items c.args.self.now.sent.items w meets (c.args.site - 1) c.args.site (omega arith) old got c.issue.new.self (act_of c.args.act) c.in_ok-stamp.stamp (c.in_ok-stamp.ensures.stamp w meets) c.in_ok-issue.ensures.rests c.in_ok-issue.ensures.issued

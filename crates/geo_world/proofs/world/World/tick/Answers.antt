@@ -1,0 +1,22 @@
+use Rattle.std.proofs.Common.{◌-◌, length, arith}
+use Rattle.geo_world.proofs.Worlds.{there_is, read_is}
+use Rattle.geo_world.proofs.Answering.{tick_lawful, tick_agrees}
+use Rattle.geo_world.proofs.world.World.tick.Goals as goal
+
+pub returns-clause-lawful : goal.returns-clause-lawful
+returns-clause-lawful c = λ w agrees.
+    let n = length c.args.self.now.sites.items in
+    let there = there_is n c.args.site c.requires.there in
+    let lo = there.first in
+    let hi = there.last in
+    let got = read_is c.args.self.now.sites.items (c.args.site - 1) c.index_mut-at.result.now (omega arith) c.index_mut-at.ensures.value in
+    tick_lawful _ _ w agrees (c.args.site - 1) c.args.site c.args.now (omega arith) hi c.index_mut-at.result.now c.tick.new.self got c.tick.result c.tick.ensures
+
+pub returns-clause-kept : goal.returns-clause-kept
+returns-clause-kept c = λ w agrees.
+    let n = length c.args.self.now.sites.items in
+    let there = there_is n c.args.site c.requires.there in
+    let lo = there.first in
+    let hi = there.last in
+    let got = read_is c.args.self.now.sites.items (c.args.site - 1) c.index_mut-at.result.now (omega arith) c.index_mut-at.ensures.value in
+    tick_agrees _ _ w agrees (c.args.site - 1) c.args.site c.args.now (omega arith) hi c.index_mut-at.result.now c.tick.new.self got c.tick.result c.tick.ensures
