@@ -1,5 +1,5 @@
 -- A request that changes one key: from what becomes of the key to what is owed.
-use Rattle.std.proofs.Common.{◌≡◌, ℕ, ℤ, ◌+◌, ◌≤◌, ◌<◌, Bool, true, false, cond, not, ◌&&◌, ◌||◌, nat_lt, List, [], ◌∷◌, length, Option, None, Some, refl, sym, ap, ◌∙◌, subst, inl, inr, arith, true≢false}
+use Rattle.std.proofs.Common.{◌≡◌, ℕ, ◌+◌, ◌≤◌, ◌<◌, Bool, true, false, cond, not, ◌&&◌, ◌||◌, nat_lt, List, [], ◌∷◌, length, Option, None, Some, refl, sym, ap, ◌∙◌, subst, inl, inr, arith, true≢false}
 use Rattle.std.proofs.lemmas.Bool.Decides.{nat_tests}
 use Rattle.std.specs.List.{list_any}
 use Rattle.geo_stamp.specs.Stamps.{last_time}
@@ -9,6 +9,8 @@ use Rattle.geo_grammar.specs.declared.reply.Reply.{Reply}
 use Rattle.geo_grammar.specs.declared.reply.Reply.TheVariants as reply
 use Rattle.geo_memcache.specs.Entries.{Entry}
 use Rattle.geo_memcache.specs.Decisions.{Verdict, stores, deletes, touches, counts, decision_of, decided, is_made}
+use Rattle.geo_memcache.specs.Asks.{request_of}
+use Rattle.geo_grammar.specs.Requests.{is_of_one_key}
 use Rattle.geo_memcache.specs.declared.ask.Ask.{Ask}
 use Rattle.geo_memcache.specs.declared.ask.Ask.TheVariants.{Store, Fetch, FetchTouch, Delete, Touch, Arith}
 use Rattle.geo_memcache.specs.declared.decision.Answer.TheVariants as answer
@@ -151,7 +153,7 @@ module _ (old new : Site) (now : ℕ) (request : Request) (key bytes : List ℕ)
   refusal_done ClockEnded = refl
   refusal_done Memory = refl
 
-  pub change_answers : Answers now (basis_in old now) request said
+  change_answers : Answers now (basis_in old now) request said
   change_answers = elim does [
     | inl d ↦ let n = not_refused old now key bytes v.1 d.1.0 in inl (sym (same_reply d.0) ∙ sym (owed_by false false n.0 n.1))
     | inr d ↦ refused d.0 d.1 d.2
@@ -168,13 +170,13 @@ module _ (old new : Site) (now : ℕ) (request : Request) (key bytes : List ℕ)
             (ap (lacks (clock_of (state_in old))) issued_is ∙ lacks_is old now key bytes v.1 h.0 ∙ later (clock_of (state_in old)) h.2.1),
       )
 
-  pub change_done : is_done said ≡ true → HasIssued old new (issued_in old now request)
+  change_done : is_done said ≡ true → HasIssued old new (issued_in old now request)
   change_done t = elim does [
     | inl d ↦ subst (λ acts. HasIssued old new acts) (sym issued_is) d.1.1
     | inr d ↦ absurd (true≢false (sym t ∙ ap is_done d.1 ∙ refusal_done d.0))
   ]
 
-  pub change_refused : is_done said ≡ false → Same (state_in old) (state_in new)
+  change_refused : is_done said ≡ false → Same (state_in old) (state_in new)
   change_refused f = elim does [
     | inl d ↦ absurd (true≢false (sym (ap is_done (sym (same_reply d.0)) ∙ plain.done) ∙ f))
     | inr d ↦ refused_same d.0 d.2
@@ -192,10 +194,39 @@ found_at_most numbers seen (key ∷ keys) = by (seen key) (found_at_most numbers
     by None h = omega (arith, h)
     by (Some e) h = omega (arith, h)
 
--- a touch by an equal exptime
-pub change_touch : (old new : Site) (now : ℕ) (key bytes : List ℕ) (seen : Option Entry) (said : Reply) (e f : ℤ) → ChangeDoes old new key bytes (decided seen now (Touch f)) said → f ≡ e → ChangeDoes old new key [] (decision_of (touches e now seen)) said
-change_touch old new now key bytes seen said e f does same = subst (λ e. ChangeDoes old new key [] (decision_of (touches e now seen)) said) same (by seen does)
-  where
-    by : (seen : Option Entry) → ChangeDoes old new key bytes (decided seen now (Touch f)) said → ChangeDoes old new key [] (decision_of (touches f now seen)) said
-    by None h = h
-    by (Some e) h = h
+-- a change of one key is answered, done or refused as the request that asks for it
+pub record IsAnswered (old new : Site) (now : ℕ) (request : Request) (said : Reply) : Type 0 where
+  pub answers : Answers now (basis_in old now) request said
+  pub done : is_done said ≡ true → HasIssued old new (issued_in old now request)
+  pub refused : is_done said ≡ false → Same (state_in old) (state_in new)
+
+all_answered : (old new : Site) (now : ℕ) (request : Request) (key bytes : List ℕ) (v : Verdict) (said : Reply) → Plain v bytes
+    → replied now (visible_in (state_in old) now) (stats_in old) request ≡ v.0 → issued now (visible_in (state_in old) now) request ≡ acts_of key bytes v.1
+    → ChangeDoes old new key bytes (decision_of v) said → IsAnswered old new now request said
+all_answered old new now request key bytes v said plain r i does = record {
+  answers = change_answers old new now request key bytes v said plain r i does;
+  done = change_done old new now request key bytes v said plain r i does;
+  refused = change_refused old new now request key bytes v said plain r i does;
+}
+
+pub ask_answered : (old new : Site) (now : ℕ) (key : List ℕ) (ask : Ask) (noreply : Bool) (said : Reply) → is_change ask ≡ true
+    → ChangeDoes old new key (bytes_in ask) (decided (visible_in (state_in old) now key) now ask) said → IsAnswered old new now (request_of key ask noreply) said
+ask_answered old new now key (Store verb flags exptime unique bytes) noreply said h does =
+    all_answered old new now (request_of key (Store verb flags exptime unique bytes) noreply) key bytes.now (stores verb flags exptime unique bytes.now now (visible_in (state_in old) now key)) said (stores_plain verb flags exptime unique bytes.now now (visible_in (state_in old) now key)) refl refl does
+ask_answered old new now key (Fetch numbers) noreply said h does = absurd (true≢false (sym h))
+ask_answered old new now key (FetchTouch exptime numbers) noreply said h does = absurd (true≢false (sym h))
+ask_answered old new now key Delete noreply said h does =
+    all_answered old new now (request_of key Delete noreply) key [] (deletes (visible_in (state_in old) now key)) said (deletes_plain (visible_in (state_in old) now key)) refl refl does
+ask_answered old new now key (Touch exptime) noreply said h does =
+    all_answered old new now (request_of key (Touch exptime) noreply) key [] (touches exptime now (visible_in (state_in old) now key)) said (touches_plain exptime now (visible_in (state_in old) now key)) refl refl does
+ask_answered old new now key (Arith up by) noreply said h does =
+    all_answered old new now (request_of key (Arith up by) noreply) key [] (counts up by (visible_in (state_in old) now key)) said (counts_plain up by (visible_in (state_in old) now key)) refl refl does
+
+-- what is asked of one key is a change of it
+pub one_changes : (key : List ℕ) (ask : Ask) (noreply : Bool) → is_of_one_key (request_of key ask noreply) ≡ true → is_change ask ≡ true
+one_changes key (Store verb flags exptime unique bytes) noreply h = refl
+one_changes key (Fetch numbers) noreply h = h
+one_changes key (FetchTouch exptime numbers) noreply h = h
+one_changes key Delete noreply h = refl
+one_changes key (Touch exptime) noreply h = refl
+one_changes key (Arith up by) noreply h = refl

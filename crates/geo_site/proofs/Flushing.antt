@@ -10,7 +10,7 @@ use Rattle.geo_site.specs.Machine.{Same, issue, Covers, Settled, knows_record, k
 use Rattle.geo_site.proofs.Entries.{Within, entry_raised, entry_rises}
 use Rattle.geo_site.proofs.Sound.{named_some}
 use Rattle.geo_site.proofs.Writing.{knows_joined, knows_floors, knows_more, knows_floor_more}
-use Rattle.geo_site.proofs.Written.{joined_none}
+use Rattle.geo_versions.specs.Above.{joined_none}
 
 -- a record of which nothing new is known
 pub knows_above : (v : List ℕ) (f : Option Moment) (r : Record) → knows_record v r ≡ true → knows_record v (above_both f r) ≡ true

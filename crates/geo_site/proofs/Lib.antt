@@ -18,3 +18,4 @@ pub mod Found
 pub mod Listed
 pub mod Filtered
 pub mod Taking
+pub mod Outdated

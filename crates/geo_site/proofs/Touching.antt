@@ -14,7 +14,7 @@ use Rattle.geo_site.specs.Entries.{Held, names, named_by}
 use Rattle.geo_site.specs.Machine.{Same, issue, Covers, Settled, knows_record, knows_floor}
 use Rattle.geo_site.proofs.Entries.{Within, entry_raised, entry_rises}
 use Rattle.geo_site.proofs.Writing.{knows_joined, knows_more, knows_floor_more, time_known}
-use Rattle.geo_site.proofs.Written.{joined_none}
+use Rattle.geo_versions.specs.Above.{joined_none}
 
 newer_none : {A : Type 0} (cmp : A → A → Ordering) (o : Option A) → newer cmp o None ≡ o
 newer_none cmp None = refl

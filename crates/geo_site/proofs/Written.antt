@@ -1,15 +1,13 @@
 -- What an operation on a key leaves: the state that the machine says, in which all is known and named again.
 use Rattle.std.proofs.Common.{◌≡◌, ℕ, ◌+◌, ◌≤◌, Bool, true, false, cond, List, length, Option, None, Some, refl, sym, ap, ◌∙◌, subst, arith}
-use Rattle.std.specs.declared.cmp.Ordering.{Ordering}
 use Rattle.std.specs.Ordering.{nat_cmp}
 use Rattle.sha2.specs.Sha256.{sha256}
-use Rattle.geo_lattice.specs.Registers.{newer, by_both}
 use Rattle.geo_stamp.specs.Stamps.{Moment, stamp_cmp}
 use Rattle.geo_stamp.specs.Vectors.{entry_of, greatest_of, raised}
 use Rattle.geo_versions.specs.Keys.{same_key}
-use Rattle.geo_versions.specs.Bodies.{body_cmp}
 use Rattle.geo_versions.specs.Operations.{Act, Register, Record, above_both, record_joined, floor_joined, version_in, body_of, expiry_of, flush_of}
 use Rattle.geo_versions.specs.Operations.Act.{Write, Delete}
+use Rattle.geo_versions.specs.Above.{newer_none, joined_none}
 use Rattle.geo_versions.specs.declared.body.Body.{Body}
 use Rattle.geo_versions.specs.declared.body.Body.TheVariants.{Value, Gone}
 use Rattle.geo_site.specs.Entries.{Held, names, named_by}
@@ -18,16 +16,8 @@ use Rattle.geo_site.proofs.Entries.{Within, entry_rises, entry_raised}
 use Rattle.geo_site.proofs.Writing.{write_wins, written_named, knows_more, knows_floor_more, time_known}
 use Rattle.geo_site.proofs.Sound.{some_same, some_none}
 
-newer_none : {A : Type 0} (cmp : A → A → Ordering) (o : Option A) → newer cmp o None ≡ o
-newer_none cmp None = refl
-newer_none cmp (Some x) = refl
-
 floor_none : (f : Option Moment) → floor_joined f None ≡ f
 floor_none = newer_none stamp_cmp
-
--- joined with nothing
-pub joined_none : (r : Record) → record_joined r (None, None) ≡ r
-joined_none r = λ i. (newer_none (by_both stamp_cmp body_cmp) r.0 i, newer_none (by_both stamp_cmp nat_cmp) r.1 i)
 
 -- an operation that leaves a body and an expiry at its key, and these bytes there
 pub record Puts (act : Act) (key : List ℕ) (body : Body) (expiry : ℕ) (put : Option (List ℕ)) : Type 0 where

@@ -10,7 +10,7 @@ ghost use Rattle.geo_site.specs.Changes.{is_change, bytes_in, ChangeDoes};
 
 use crate::site::Site;
 use geo_grammar::{Reply, Request, Stats};
-use geo_memcache::{Answer, Ask, Decision, Entry, decide, expiry_of, live};
+use geo_memcache::{Answer, Ask, Decision, Entry, ask_of, decide, expiry_of, live};
 use geo_versions::Key;
 use std::alloc::{AllocError, Global};
 
@@ -42,25 +42,10 @@ impl Site {
         ensures waiting { waiting_in self.new ≡ cond (is_done result) (waits_after now request.now (waiting_in self.old)) (waiting_in self.old) }
         ensures stays { Stays self.old self.new }
     {
+        if let Some((key, ask)) = ask_of(request) {
+            return self.change(alloc, now, key, &ask);
+        }
         match request {
-            Request::Store {
-                verb,
-                key,
-                flags,
-                exptime,
-                unique,
-                bytes,
-                ..
-            } => {
-                let ask = Ask::Store {
-                    verb: *verb,
-                    flags: *flags,
-                    exptime: *exptime,
-                    unique: *unique,
-                    bytes,
-                };
-                self.change(alloc, now, key, &ask)
-            }
             Request::Fetch { keys, numbers } => self.fetch(alloc, now, keys.as_slice(), *numbers),
             Request::FetchTouch {
                 exptime,
@@ -70,18 +55,15 @@ impl Site {
                 let expiry = expiry_of(*exptime, now);
                 self.fetch_touch(alloc, now, expiry, keys.as_slice(), *numbers)
             }
-            Request::Delete { key, .. } => self.change(alloc, now, key, &Ask::Delete),
-            Request::Touch { key, exptime, .. } => {
-                self.change(alloc, now, key, &Ask::Touch { exptime: *exptime })
-            }
-            Request::Arith { up, key, by, .. } => {
-                self.change(alloc, now, key, &Ask::Arith { up: *up, by: *by })
-            }
             Request::FlushAll { delay, .. } => self.flush_all(now, *delay),
             Request::ShowVersion => Reply::Version,
             Request::Verbosity { .. } => Reply::Done,
             Request::Stats => Reply::Stats(self.stats()),
             Request::Quit => Reply::Closed,
+            Request::Store { .. }
+            | Request::Delete { .. }
+            | Request::Touch { .. }
+            | Request::Arith { .. } => unreachable!(),
         }
     }
 

@@ -1,6 +1,6 @@
 //! What a site writes and deletes.
 ghost use Rattle.std.specs.Prelude.{◌≡◌, ◌≤◌, ◌<◌, ◌+◌, ℕ, List, length, OnOk, OnErr, IsOk, IfOk, IfErr, MatchResult, cond, Some, None, Option};
-ghost use Rattle.indexmap.specs.IndexMap.{get, spare};
+ghost use Rattle.indexmap.specs.IndexMap.{get, spare, index_map_len};
 ghost use Rattle.geo_grammar.specs.Limits.{longest_value};
 ghost use Rattle.geo_versions.specs.Keys.{same_key};
 ghost use Rattle.geo_versions.specs.Operations.Act.{Write, Delete};
@@ -46,8 +46,9 @@ fn hold(held: &mut IndexMap<Key, Blob, RandomState>, key: Key, blob: Blob)
 }
 
 /// Drops a key's bytes.
-fn drop_held(held: &mut IndexMap<Key, Blob, RandomState>, key: &Key)
-    ensures { (q : List ℕ) → get same_key held.new q ≡ cond {A = Option (List ℕ)} (same_key q key.now) None (get same_key held.old q) }
+pub(crate) fn drop_held(held: &mut IndexMap<Key, Blob, RandomState>, key: &Key)
+    ensures no_more { index_map_len held.new ≤ index_map_len held.old }
+    ensures dropped { (q : List ℕ) → get same_key held.new q ≡ cond {A = Option (List ℕ)} (same_key q key.now) None (get same_key held.old q) }
 {
     let _dropped = held.swap_remove(key);
 }

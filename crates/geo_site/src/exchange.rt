@@ -2,22 +2,22 @@
 ghost use Rattle.std.specs.Prelude.{IsTrue, ◌↔◌, ◌≡◌, ◌≢◌, ◌≤◌, ◌<◌, ◌+◌, ℕ, List, Option, Some, None, Bool, true, false, IfOk, MatchOption, MatchResult, length, cond, option_copied};
 ghost use Rattle.indexmap.specs.IndexMap.{get, index_map_len};
 ghost use Rattle.geo_versions.specs.Keys.{same_key};
-ghost use Rattle.geo_versions.specs.Operations.{version_in};
-ghost use Rattle.geo_versions.specs.Maps.{rec_means, listed_at};
-ghost use Rattle.geo_versions.specs.Maps.{floor_in, record_in, HasRoomFor};
+ghost use Rattle.geo_versions.specs.Operations.{version_in, above_both, record_joined, floor_joined};
+ghost use Rattle.geo_versions.specs.Maps.{rec_means, listed_at, floor_in, record_in, HasRoomFor, Rising};
 ghost use Rattle.geo_site.specs.Entries.{names, named_by};
-ghost use Rattle.geo_site.specs.Machine.{Same, take, knows_record, knows_floor};
+ghost use Rattle.geo_site.specs.Machine.{Same, Settled, take, knows_record, knows_floor};
 ghost use Rattle.geo_stamp.specs.Vectors.{vector_joined};
 ghost use Rattle.geo_site.specs.Sites.{state_in, held_count, Rests, Stays, is_sound, knows_all, Takes, RefusesFor, SendDoes, TakeDoes};
 
 use crate::blob::Blob;
+use crate::change::drop_held;
 use crate::reap::earliest_in;
 use crate::refusal::{SendError, TakeError};
 use crate::site::Site;
 use geo_delta::{Parcel, cut};
 use geo_lattice::{Items, Lattice};
 use geo_stamp::{Stamp, Vector};
-use geo_versions::{Key, Rec, Version, Versions};
+use geo_versions::{Key, Rec, Version, Versions, are_rising};
 use indexmap::IndexMap;
 use std::alloc::Global;
 use std::hash::RandomState;
@@ -91,6 +91,72 @@ pub(crate) fn keep_named(held: &mut IndexMap<Key, Blob, RandomState>, versions: 
     held.retain(|key, blob| is_named(versions.version_of(key), blob));
 }
 
+/// Whether the greater of two floors is above the first.
+fn rises(mine: Option<Stamp>, theirs: Option<Stamp>) -> bool
+    ensures { IsTrue result ↔ (floor_joined mine theirs ≢ mine) }
+{
+    match (mine, theirs) {
+        (_, None) => false,
+        (None, Some(_)) => true,
+        (Some(mine), Some(theirs)) => mine < theirs,
+    }
+}
+
+/// Drops what records outdate that come by rising key and are about to be joined: only their keys are looked at.
+fn drop_outdated(
+    held: &mut IndexMap<Key, Blob, RandomState>,
+    versions: &Versions,
+    records: &[(Key, Rec)],
+)
+    requires rising { Rising records.now }
+    requires settled { Settled (record_in versions.now) (λ q. get same_key held.old q) }
+    ensures kept { (q : List ℕ) → get same_key held.new q ≡ named_by (version_in (above_both (floor_in versions.now) (record_joined (record_in versions.now q) (listed_at records.now q)))) (get same_key held.old q) }
+    ensures no_more { index_map_len held.new ≤ index_map_len held.old }
+{
+    for (key, rec) in records {
+        if let Some(blob) = held.get(key) {
+            if !is_named(versions.version_with(key, rec), blob) {
+                drop_held(held, key);
+            }
+        }
+    }
+}
+
+/// Whether records are fewer than the values that are held, come by rising key and raise no floor: then a look at their keys
+/// finds all that they outdate.
+fn are_few(held: usize, versions: &Versions, floor: &Option<Stamp>, records: &[(Key, Rec)]) -> bool
+    ensures rising { IsTrue result → Rising records.now }
+    ensures still { IsTrue result → floor_joined (floor_in versions.now) floor.now ≡ floor_in versions.now }
+{
+    let raised = rises(versions.floor(), *floor);
+    !raised && records.len() < held && are_rising(records)
+}
+
+/// Joins records to the versions, and drops what these no longer name: of few records only their keys are looked at, unless the
+/// floor rises.
+fn join_both(
+    held: &mut IndexMap<Key, Blob, RandomState>,
+    versions: &mut Versions,
+    floor: Option<Stamp>,
+    records: Items<(Key, Rec)>,
+)
+    requires room { HasRoomFor versions.old records }
+    requires settled { Settled (record_in versions.old) (λ q. get same_key held.old q) }
+    ensures floor { floor_in versions.new ≡ floor_joined (floor_in versions.old) floor }
+    ensures records { (q : List ℕ) → record_in versions.new q ≡ above_both (floor_in versions.new) (record_joined (record_in versions.old q) (listed_at records q)) }
+    ensures kept { (q : List ℕ) → get same_key held.new q ≡ named_by (version_in (record_in versions.new q)) (get same_key held.old q) }
+    ensures no_more { index_map_len held.new ≤ index_map_len held.old }
+{
+    let few = are_few(held.len(), versions, &floor, records.as_slice());
+    if few {
+        drop_outdated(held, versions, records.as_slice());
+    }
+    versions.join_records(floor, records.into_vec());
+    if !few {
+        keep_named(held, versions);
+    }
+}
+
 impl Site {
     /// Makes a parcel for another site: what it knows of all keys. NoSuchSite exactly for its own number and for one that is
     /// not configured.
@@ -153,12 +219,11 @@ impl Site {
     {
         let rose = !self.vector.covers(&upto);
         self.earliest = earliest_in(self.earliest, records.as_slice());
-        self.versions.join_records(floor, records.into_vec());
         self.vector.join(upto);
         let top = self.vector.greatest();
         self.vector.raise(self.number, top);
         let before = self.held.len();
-        keep_named(&mut self.held, &self.versions);
+        join_both(&mut self.held, &mut self.versions, floor, records);
         let dropped = before - self.held.len();
         Taken { rose, dropped }
     }

@@ -4,6 +4,7 @@ mod clients;
 mod flushes;
 mod moments;
 mod open;
+mod outdated;
 mod pairs;
 mod parcels;
 mod reaping;

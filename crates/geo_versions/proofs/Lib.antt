@@ -1,3 +1,4 @@
 pub mod Meaning
 pub mod Cut
 pub mod Listed
+pub mod InOrder

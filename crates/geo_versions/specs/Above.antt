@@ -52,6 +52,9 @@ pub newer_none : {A : Type 0} (cmp : A → A → Ordering) (a : Option A) → ne
 newer_none cmp None = refl
 newer_none cmp (Some a) = refl
 
+pub joined_none : (r : Record) → record_joined r (None, None) ≡ r
+joined_none r = λ i. (newer_none (by_both stamp_cmp body_cmp) r.0 i, newer_none (by_both stamp_cmp nat_cmp) r.1 i)
+
 pub above_twice : {A : Type 0} (f : Option Moment) (r : Register A) → above f (above f r) ≡ above f r
 above_twice f None = refl
 above_twice f (Some r) = by (is_above f r.0) refl

@@ -1,5 +1,5 @@
 //! Each public call once, with ample memory.
-use crate::{Body, Digest, Key, Rec, Version, Versions};
+use crate::{Body, Digest, Key, Rec, Version, Versions, are_rising};
 use geo_lattice::{Lattice, Lww, Pair, Twin};
 use geo_stamp::{Stamp, Vector};
 use std::alloc::Global;
@@ -230,5 +230,49 @@ fn versions_join(rt: HostRuntime) -> Result<(), Fail> {
         mine.version_of(&a).ok_or("no version")?.stamp,
         stamp(1, 2)?
     );
+    Ok(())
+}
+
+#[test]
+fn a_record_shows_what_its_key_would_have(rt: HostRuntime) -> Result<(), Fail> {
+    let alloc = rt.alloc();
+    let a = key(alloc, b"a")?;
+    let mut known = Versions::new(alloc, RandomState::new(&rt)?);
+    known.raise_floor(stamp(2, 1)?);
+    known.write(alloc, &a, stamp(5, 1)?, value(1, 0, 1), 0)?;
+    let rows = [(4, 5), (5, 5), (6, 6)];
+    for (time, want) in rows {
+        let rec = written(time, value(1, 0, 1), 0)?;
+        let version = known.version_with(&a, &rec).ok_or("no version")?;
+        assert_eq!(rt; version.stamp, stamp(want, 1)?);
+    }
+    let b = key(alloc, b"b")?;
+    let above = written(3, value(1, 0, 1), 0)?;
+    let shown = known.version_with(&b, &above).ok_or("no version")?;
+    assert_eq!(rt; shown.stamp, stamp(3, 1)?);
+    let below = written(2, value(1, 0, 1), 0)?;
+    assert_eq!(rt; known.version_with(&b, &below), None);
+    let gone = written(6, Body::Gone, 0)?;
+    assert_eq!(rt; known.version_with(&a, &gone), None);
+    Ok(())
+}
+
+#[test]
+fn keys_rise_where_none_is_listed_twice(rt: HostRuntime) -> Result<(), Fail> {
+    let alloc = rt.alloc();
+    let rows: [(&[&str], bool); 5] = [
+        (&[], true),
+        (&["b"], true),
+        (&["a", "ab", "b"], true),
+        (&["a", "b", "b"], false),
+        (&["a", "c", "b"], false),
+    ];
+    for (names, rising) in rows {
+        let mut records = Vec::new(alloc);
+        for name in names {
+            records.push((key(alloc, name.as_bytes())?, written(1, Body::Gone, 0)?))?;
+        }
+        assert_eq!(rt; are_rising(records.as_slice()), rising, "{}", names.len());
+    }
     Ok(())
 }

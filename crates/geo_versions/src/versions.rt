@@ -5,9 +5,9 @@ ghost use Rattle.geo_versions.specs.Normal.{IsNormal, normal_prop};
 use crate::body::{Body, Rec};
 use crate::floor::{AboveFloor, counts, later};
 use crate::key::Key;
-use crate::shown::{Ended, Shown, UnknownTo};
+use crate::shown::{Ended, Shown, UnknownTo, copied};
 use crate::version::{Version, shown_version};
-use geo_lattice::{Lattice, Lww, MapOf, Pair};
+use geo_lattice::{Bottom, Change, Lattice, Lww, MapOf, Pair};
 use geo_stamp::{Stamp, Vector};
 use std::alloc::{AllocError, Global};
 use std::hash::RandomState;
@@ -72,6 +72,19 @@ impl Versions {
             None => None,
             Some(record) => shown_version(record),
         }
+    }
+
+    /// The version that a key would have with this record joined to its own.
+    pub fn version_with(&self, key: &Key, rec: &Rec) -> Option<Version>
+        ensures { result ≡ version_in (above_both (floor_in self.now) (record_joined (record_in self.now key.now) (rec_means rec.now))) }
+    {
+        let mut joined = match self.records.get(key) {
+            None => Pair::bottom(),
+            Some(own) => copied(own),
+        };
+        joined.join(copied(rec));
+        AboveFloor { floor: self.floor }.change(&mut joined);
+        shown_version(&joined)
     }
 
     /// A key whose version is a write of this site that ended before a moment, in seconds: its expiry isn't 0, and is below

@@ -5,15 +5,10 @@ use Rattle.std.proofs.lemmas.Bool.Decides.{eqb_tells, nat_tests}
 use Rattle.std.proofs.lemmas.Option.{slice_get_within}
 use Rattle.std.proofs.lemmas.List.{get_or_append_left, length-append}
 use Rattle.std.proofs.Math.Seq.{get_or-append_seam}
-use Rattle.std.proofs.lemmas.Cmp.{nat_list_cmp_total, tied_itself}
-use Rattle.std.specs.declared.cmp.Ordering.TheVariants.{Less, Equal}
-use Rattle.std.specs.Ordering.{nat_cmp}
-use Rattle.std.specs.Cmp.Lexicographic.{slice_cmp, same_text}
 use Rattle.geo_stamp.specs.Stamps.{Moment}
 use Rattle.geo_stamp.specs.Vectors.{zeros, entry_of, vector_joined}
-use Rattle.geo_versions.specs.Keys.{same_key}
-use Rattle.geo_versions.specs.Operations.{Operation, Register, Record, winner, latest_expiry, record_joined}
-use Rattle.geo_versions.specs.Maps.{Rec, rec_means, listed_at, is_unknown, since, Above, Rising}
+use Rattle.geo_versions.specs.Operations.{Operation, Register, Record, winner, latest_expiry}
+use Rattle.geo_versions.specs.Maps.{Rec, rec_means, listed_at, is_unknown, since, Rising}
 use Rattle.geo_versions.specs.declared.body.Body.{Body}
 use Rattle.geo_delta.specs.declared.parcel.Parcel.{Parcel}
 use Rattle.geo_site.specs.declared.site.Site.{Site}
@@ -30,68 +25,14 @@ use Rattle.geo_site.specs.Machine.{SiteState, Same, take, knows_record, knows_fl
 use Rattle.geo_site.specs.Sites.{state_in, delta_of, knows_all, is_sound, Rests, Stays, Takes, RefusesFor, IsSent, SendRefuses}
 use Rattle.geo_site.specs.Schedule.{Known, settles, still_held, carried, addressee, happens, Lawful, TakeRefusedFor, SendRefusedFor}
 use Rattle.geo_site.specs.Agreement.{Kept, Holds, NoTime, Tells, StateOf}
-use Rattle.std.specs.Cmp.Lexicographic.{nat_list_eq_equiv}
-use Rattle.geo_site.proofs.Written.{joined_none}
+use Rattle.geo_versions.proofs.InOrder.{each_listed}
 use Rattle.geo_site.proofs.Sound.{here, held_here}
 use Rattle.geo_site.proofs.Steps.{state_takes, state_same, zeros_length, told_positive_body, told_positive_expiry}
 use Rattle.geo_world.specs.Agreement.{SiteKnown, about, Stands, Carries, Agrees}
-use Rattle.geo_world.proofs.Worlds.{some_same, some_none, get_appended}
+use Rattle.geo_world.proofs.Worlds.{some_none, get_appended}
 use Rattle.geo_world.proofs.Changing.{agrees_changed, agrees_still, settled_about}
 
 -- ---- lists of records by rising key
-less_other : (a b : List ℕ) → slice_cmp nat_cmp a b ≡ Less → same_key b a ≡ false
-less_other a b h = by (same_key b a) refl
-  where
-    by : (t : Bool) → same_key b a ≡ t → t ≡ false
-    by false e = refl
-    by true e =
-        let same : b ≡ a = same_text b a (sym e) in
-        let less : slice_cmp nat_cmp a a ≡ Less = ap (slice_cmp nat_cmp a) (sym same) ∙ h in
-        absurd (apart (sym less ∙ tied_itself nat_list_cmp_total a))
-      where
-        apart : Less ≡ Equal → ⊥
-        apart p = cc
-
--- a key below a rising list is below each of its keys
-below_all : {V : Type 0} (key : List ℕ) (es : List (List ℕ × V)) → Above key es → Rising es → (j : ℕ) (e : List ℕ × V) → slice_get es j ≡ Some e → slice_cmp nat_cmp key e.0 ≡ Less
-below_all key [] above rising j e at = absurd (some_none (sym at))
-below_all {V} key (x ∷ xs) above rising zero e at = subst (λ (e : List ℕ × V). slice_cmp nat_cmp key e.0 ≡ Less) (some_same at) above
-below_all key (x ∷ xs) above rising (suc j) e at = nat_list_cmp_total.trans key x.0 e.0 above (below_all x.0 xs rising.0 rising.1 j e at)
-
-not_listed : (key : List ℕ) (es : List (List ℕ × Rec)) → ((j : ℕ) (e : List ℕ × Rec) → slice_get es j ≡ Some e → same_key key e.0 ≡ false) → listed_at es key ≡ (None, None)
-not_listed key [] h = refl
-not_listed key (x ∷ xs) h = ap (λ t. cond {A = Record} t (record_joined (rec_means x.1) (listed_at xs key)) (listed_at xs key)) (h 0 x refl) ∙ not_listed key xs (λ j e at. h (suc j) e at)
-
-not_below : (key : List ℕ) (es : List (List ℕ × Rec)) → Above key es → Rising es → listed_at es key ≡ (None, None)
-not_below key es above rising = not_listed key es (λ j e at. other key e.0 (below_all key es above rising j e at))
-  where
-    other : (a b : List ℕ) → slice_cmp nat_cmp a b ≡ Less → same_key a b ≡ false
-    other a b h = by (same_key a b) refl
-      where
-        by : (t : Bool) → same_key a b ≡ t → t ≡ false
-        by false e = refl
-        by true e =
-            let same : a ≡ b = same_text a b (sym e) in
-            let less : slice_cmp nat_cmp a a ≡ Less = ap (slice_cmp nat_cmp a) same ∙ h in
-            absurd (apart (sym less ∙ tied_itself nat_list_cmp_total a))
-          where
-            apart : Less ≡ Equal → ⊥
-            apart p = cc
-
--- so each record of a rising list is what is listed at its key
-each_listed : (es : List (List ℕ × Rec)) → Rising es → (j : ℕ) (e : List ℕ × Rec) → slice_get es j ≡ Some e → rec_means e.1 ≡ listed_at es e.0
-each_listed [] rising j e at = absurd (some_none (sym at))
-each_listed (x ∷ xs) rising zero e at =
-    subst (λ (e : List ℕ × Rec). rec_means e.1 ≡ listed_at (x ∷ xs) e.0) (some_same at)
-    (sym (joined_none (rec_means x.1)) ∙ (λ i. record_joined (rec_means x.1) (sym (not_below x.0 xs rising.0 rising.1) i))
-    ∙ sym (ap (λ t. cond {A = Record} t (record_joined (rec_means x.1) (listed_at xs x.0)) (listed_at xs x.0)) (same_itself x.0)))
-  where
-    same_itself : (a : List ℕ) → same_key a a ≡ true
-    same_itself a = nat_list_eq_equiv.refl a
-each_listed (x ∷ xs) rising (suc j) e at =
-    each_listed xs rising.1 j e at
-    ∙ sym (ap (λ t. cond {A = Record} t (record_joined (rec_means x.1) (listed_at xs e.0)) (listed_at xs e.0)) (less_other x.0 e.0 (below_all x.0 xs rising.0 rising.1 j e at)))
-
 each_known : (v : List ℕ) (es : List (List ℕ × Rec)) → ((j : ℕ) (e : List ℕ × Rec) → slice_get es j ≡ Some e → knows_record v (rec_means e.1) ≡ true) → knows_all v es ≡ true
 each_known v [] h = refl
 each_known v (x ∷ xs) h = (λ i. h 0 x refl i && each_known v xs (λ j e at. h (suc j) e at) i)

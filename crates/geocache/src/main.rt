@@ -40,7 +40,7 @@ fn run<R: Input + Print + AllocGlobal + RandomSource>(rt: &R) -> Result<(), Scri
     run_script(rt.alloc(), hasher, &mut reader, &mut writer)
 }
 
-/// The status for how a script ended. A bad line is named on standard error.
+/// The status for how a script ended. Why it ended early is told on standard error.
 fn script_status<R: Eprint>(rt: &R, outcome: Result<(), ScriptFault>) -> u8 {
     match outcome {
         Ok(()) => 0,
@@ -48,8 +48,18 @@ fn script_status<R: Eprint>(rt: &R, outcome: Result<(), ScriptFault>) -> u8 {
             let _told = eprintln!(rt; "bad line {number}");
             REFUSED
         }
-        Err(ScriptFault::Memory) => NO_MEMORY,
-        Err(ScriptFault::Read | ScriptFault::Write) => DEVICE_FAILED,
+        Err(ScriptFault::Memory) => {
+            let _told = eprintln!(rt; "out of memory");
+            NO_MEMORY
+        }
+        Err(ScriptFault::Read) => {
+            let _told = eprintln!(rt; "a read failed");
+            DEVICE_FAILED
+        }
+        Err(ScriptFault::Write) => {
+            let _told = eprintln!(rt; "a write failed");
+            DEVICE_FAILED
+        }
     }
 }
 

@@ -29,7 +29,7 @@ invariant_of-self-2 c =
     let vec : c.raise.new.self ≡ raised v n (greatest_of v + 1) = c.raise.ensures ∙ ap (raised v n) (c.time.ensures.time ∙ ap (λ (m : Moment). m.time) c.requires.next) in
     let new : (q : List ℕ) → record_in c.write.new.self q ≡ cond {A = Record} (same_key q key) (above_both f (record_joined (map q) (Some (record { time = greatest_of v + 1; site = n }, Gone), Some (record { time = greatest_of v + 1; site = n }, 0)))) (map q)
     = λ q. c.in_ok-write.ensures.ok q ∙ (λ i. cond {A = Record} (same_key q key) (above_both f (record_joined (map q) (Some (c.requires.next i, Gone), Some (c.requires.next i, 0)))) (map q)) in
-    let new_held : (q : List ℕ) → held' q ≡ cond {A = Option (List ℕ)} (same_key q key) None (held q) = λ q. c.drop_held.ensures q in
+    let new_held : (q : List ℕ) → held' q ≡ cond {A = Option (List ℕ)} (same_key q key) None (held q) = λ q. c.drop_held.ensures.dropped q in
     let norm : (q : List ℕ) → above_both f (map q) ≡ map q = s.versions.above in
     let f' = floor_in c.write.new.self in
     let map' = record_in c.write.new.self in
@@ -58,7 +58,7 @@ returns-clause-deleted c =
     let vec : c.raise.new.self ≡ raised v n (greatest_of v + 1) = c.raise.ensures ∙ ap (raised v n) (c.time.ensures.time ∙ ap (λ (m : Moment). m.time) c.requires.next) in
     let new : (q : List ℕ) → record_in c.write.new.self q ≡ cond {A = Record} (same_key q key) (above_both f (record_joined (map q) (Some (record { time = greatest_of v + 1; site = n }, Gone), Some (record { time = greatest_of v + 1; site = n }, 0)))) (map q)
     = λ q. c.in_ok-write.ensures.ok q ∙ (λ i. cond {A = Record} (same_key q key) (above_both f (record_joined (map q) (Some (c.requires.next i, Gone), Some (c.requires.next i, 0)))) (map q)) in
-    let new_held : (q : List ℕ) → held' q ≡ cond {A = Option (List ℕ)} (same_key q key) None (held q) = λ q. c.drop_held.ensures q in
+    let new_held : (q : List ℕ) → held' q ≡ cond {A = Option (List ℕ)} (same_key q key) None (held q) = λ q. c.drop_held.ensures.dropped q in
     let norm : (q : List ℕ) → above_both f (map q) ≡ map q = s.versions.above in
     let f' = floor_in c.write.new.self in
     let map' = record_in c.write.new.self in

@@ -32,12 +32,11 @@ invariant_of-self c =
     let other = right_rises v c.args.upto n num in
     record {
       numbered = (s.numbered.0, (let h = s.numbered.1 in omega (arith, many, h)), (let h = s.numbered.2 in omega (arith, many, h)));
-      floor_known = (λ i. knows_floor (vec i) (c.join_records.ensures.floor i)) ∙ knows_floors new f g (knows_floor_more v new up f s.floor_known) (knows_floor_more c.args.upto new other g c.requires.floor_known);
-      covered = λ q. (λ i. knows_record (vec i) ((c.join_records.ensures.records q ∙ ap (λ h. above_both h (record_joined (record_in s.versions q) (listed_at c.into_vec.result.items q))) c.join_records.ensures.floor) i))
-          ∙ ap (λ xs. knows_record new (above_both (floor_joined f g) (record_joined (record_in s.versions q) (listed_at xs q)))) c.into_vec.ensures
+      floor_known = (λ i. knows_floor (vec i) (c.join_both.ensures.floor i)) ∙ knows_floors new f g (knows_floor_more v new up f s.floor_known) (knows_floor_more c.args.upto new other g c.requires.floor_known);
+      covered = λ q. (λ i. knows_record (vec i) ((c.join_both.ensures.records q ∙ ap (λ h. above_both h (record_joined (record_in s.versions q) (listed_at c.args.records q))) c.join_both.ensures.floor) i))
           ∙ knows_joined new (floor_joined f g) (record_in s.versions q) (listed_at c.args.records q) (knows_more v new up (record_in s.versions q) (s.covered q)) (knows_more c.args.upto new other (listed_at c.args.records q) (all_listed c.args.upto c.args.records q c.requires.records_known));
-      ends = ends_joined s.earliest c.earliest_in-self.result (floor_in c.join_records.new.self) (record_in s.versions) (listed_at c.args.records) (record_in c.join_records.new.self) s.ends c.earliest_in-self.ensures.least
+      ends = ends_joined s.earliest c.earliest_in-self.result (floor_in c.join_both.new.versions) (record_in s.versions) (listed_at c.args.records) (record_in c.join_both.new.versions) s.ends c.earliest_in-self.ensures.least
           (listed_ends c.earliest_in-self.result c.args.records (subst (λ (es : List (List ℕ × Rec)). All (EndFrom c.earliest_in-self.result) es) c.as_slice.ensures c.earliest_in-self.ensures.ends))
-          (λ q. c.join_records.ensures.records q ∙ ap (λ xs. above_both (floor_in c.join_records.new.self) (record_joined (record_in s.versions q) (listed_at xs q))) c.into_vec.ensures);
-      named = λ q b h. (named_some (version_in (record_in c.join_records.new.self q)) (get same_key s.held q) b (sym (c.keep_named.ensures.kept q) ∙ h)).1;
+          c.join_both.ensures.records;
+      named = λ q b h. (named_some (version_in (record_in c.join_both.new.versions q)) (get same_key s.held q) b (sym (c.join_both.ensures.kept q) ∙ h)).1;
     }
