@@ -182,6 +182,11 @@ pub fn shown(record: &Record) -> Option<(&[u8; 32], u32, u32, u64)> {
     }
 }
 
+/// Whether a record shows these bytes.
+fn names(record: &Record, blob: &Blob) -> bool {
+    shown(record).is_some_and(|(digest, _, length, _)| *digest == blob.digest && length as usize == blob.bytes.len())
+}
+
 impl Site {
     pub fn new(number: u8, sites: usize) -> Site {
         Site {
@@ -269,9 +274,16 @@ impl Site {
         // As geo_site does, so that the map grows once.
         let missing = parcel.records.iter().filter(|(key, _)| !self.records.contains_key(key)).count();
         self.records.reserve(missing);
+        let before = self.held.len();
+        let few = parcel.records.len() < before;
         for (key, record) in parcel.records {
             match self.records.get_mut(&key) {
-                Some(mine) => mine.join(record),
+                Some(mine) => {
+                    mine.join(record);
+                    if few && self.held.get(&key).is_some_and(|blob| !names(mine, blob)) {
+                        self.held.remove(&key);
+                    }
+                }
                 None => {
                     self.records.insert(key, record);
                 }
@@ -281,12 +293,10 @@ impl Site {
             *mine = (*mine).max(other);
         }
         self.vector.clocks[self.number as usize - 1] = self.vector.greatest();
-        let before = self.held.len();
-        let records = &self.records;
-        self.held.retain(|key, blob| match records.get(key).and_then(shown) {
-            Some((digest, _, length, _)) => *digest == blob.digest && length as usize == blob.bytes.len(),
-            None => false,
-        });
+        if !few {
+            let records = &self.records;
+            self.held.retain(|key, blob| records.get(key).is_some_and(|record| names(record, blob)));
+        }
         Some((rose, before - self.held.len()))
     }
 }

@@ -10,7 +10,7 @@ use plain_site::{Key, Parcel, Reply, Request, Site, sha256};
 
 const BATCH: u32 = 1_000;
 const COMMANDS: u32 = 200_000;
-const SMALL_TAKES: u32 = 5;
+const SMALL_TAKES: u32 = 1_000;
 
 #[derive(Clone, Copy)]
 enum Kind {
