@@ -10,6 +10,9 @@ use plain_site::{Found, Parcel, Reply, Request, Site};
 
 const COMMANDS: u32 = 200_000;
 
+/// Of this many keys, a script of several sites has a command for one once all are set.
+const KEYS_A_COMMAND: u32 = 5;
+
 #[repr(C)]
 #[derive(Clone, Copy, Default)]
 struct Timeval {
@@ -65,8 +68,10 @@ fn site_of(number: u32, sites: u32) -> u32 {
     number % sites + 1
 }
 
-/// A script that sets each key, then sets and gets keys in turn, with or without exptimes; several sites exchange parcels in between.
+/// A script that sets each key, then sets and gets keys in turn, with or without exptimes; several sites exchange parcels in between,
+/// of as many records for a command whatever the keys, so that the cost of a command can be compared.
 fn make(out: &mut impl Write, keys: u32, sites: u32, ends: bool) -> std::io::Result<()> {
+    let commands = if sites == 1 { COMMANDS } else { keys / KEYS_A_COMMAND };
     let data = "x".repeat(100);
     let exptime = |number: u32| if ends { 1 + number % 1_000 } else { 0 };
     let mut sent = 0;
@@ -76,7 +81,7 @@ fn make(out: &mut impl Write, keys: u32, sites: u32, ends: bool) -> std::io::Res
         writeln!(out, "client {} set key:{number:08} 0 {} 100\\r\\n{data}\\r\\n", site_of(number, sites), exptime(number))?;
     }
     exchange(out, sites, &mut sent)?;
-    for number in 0..COMMANDS {
+    for number in 0..commands {
         let key = scattered(number, keys);
         let site = site_of(key, sites);
         if ends && number % 1_000 == 0 {
@@ -189,17 +194,19 @@ fn play(text: &[u8], out: &mut impl Write) -> std::io::Result<()> {
     Ok(())
 }
 
-/// Runs a program with the script as its input, and prints how many nanoseconds of processor time it took.
-fn time(script: &str, output: &str, program: &[String]) {
+/// Runs a program several times with the script as its input, and prints how many nanoseconds of processor time a run took.
+fn time(times: u64, script: &str, output: &str, program: &[String]) {
     let before = children_nanos();
-    let status = Command::new(&program[0])
-        .args(&program[1..])
-        .stdin(Stdio::from(File::open(script).expect("the script")))
-        .stdout(Stdio::from(File::create(output).expect("the output")))
-        .status()
-        .expect("the program");
-    assert!(status.success(), "the program failed");
-    println!("{}", children_nanos() - before);
+    for _ in 0..times {
+        let status = Command::new(&program[0])
+            .args(&program[1..])
+            .stdin(Stdio::from(File::open(script).expect("the script")))
+            .stdout(Stdio::from(File::create(output).expect("the output")))
+            .status()
+            .expect("the program");
+        assert!(status.success(), "the program failed");
+    }
+    println!("{}", (children_nanos() - before) / times);
 }
 
 fn main() -> std::io::Result<()> {
@@ -212,7 +219,7 @@ fn main() -> std::io::Result<()> {
             std::io::stdin().lock().read_to_end(&mut text)?;
             play(&text, &mut out)?;
         }
-        _ => time(&words[1], &words[2], &words[3..]),
+        _ => time(words[1].parse().expect("times"), &words[2], &words[3], &words[4..]),
     }
     out.flush()
 }

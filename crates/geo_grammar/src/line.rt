@@ -1,7 +1,7 @@
 //! What a command line says.
-ghost use Rattle.std.specs.Prelude.{◌≡◌, IfOk};
+ghost use Rattle.std.specs.Prelude.{◌≡◌, IfOk, Some};
 ghost use Rattle.geo_grammar.specs.Words.{words_of};
-ghost use Rattle.geo_grammar.specs.Commands.{after_zero, delete_line, touch_line, arith_line, flush_line, verbosity_line, lone_line, line_says};
+ghost use Rattle.geo_grammar.specs.Commands.{after_zero, delete_line, touch_line, arith_line, flush_line, verbosity_line, lone_line, command_line, line_says};
 
 use crate::command::{Command, command_of};
 use crate::fault::LineFault;
@@ -163,28 +163,34 @@ fn lone_line(request: Request, line: &[u8]) -> Line
     }
 }
 
+/// What the line of a command says, by the words behind its name.
+fn command_line(alloc: Global, command: Command, line: &[u8]) -> Result<Line, AllocError>
+    ensures { IfOk result (λ l. l ≡ command_line (Some command) (words_of line.now)) }
+{
+    match command {
+        Command::Storage(verb) => storage_line(alloc, verb, line),
+        Command::Fetch { numbers } => fetch_line(alloc, numbers, line),
+        Command::FetchTouch { numbers } => fetch_touch_line(alloc, numbers, line),
+        Command::Delete => delete_line(alloc, line),
+        Command::Touch => touch_line(alloc, line),
+        Command::FlushAll => Ok(flush_line(line)),
+        Command::Arith { up } => arith_line(alloc, up, line),
+        Command::Version => Ok(lone_line(Request::ShowVersion, line)),
+        Command::Verbosity => Ok(verbosity_line(line)),
+        Command::Stats => Ok(lone_line(Request::Stats, line)),
+        Command::Quit => Ok(lone_line(Request::Quit, line)),
+    }
+}
+
 /// What a line says, which comes without its `\n`.
 pub fn read_line(alloc: Global, line: &[u8]) -> Result<Line, AllocError>
     ensures { IfOk result (λ l. l ≡ line_says line.now) }
 {
-    let unknown = Line::Bad(LineFault::Unknown);
     let Some((name, rest)) = next_word(without_return(line)) else {
-        return Ok(unknown);
+        return Ok(Line::Bad(LineFault::Unknown));
     };
-    let Some(command) = command_of(name) else {
-        return Ok(unknown);
-    };
-    match command {
-        Command::Storage(verb) => storage_line(alloc, verb, rest),
-        Command::Fetch { numbers } => fetch_line(alloc, numbers, rest),
-        Command::FetchTouch { numbers } => fetch_touch_line(alloc, numbers, rest),
-        Command::Delete => delete_line(alloc, rest),
-        Command::Touch => touch_line(alloc, rest),
-        Command::FlushAll => Ok(flush_line(rest)),
-        Command::Arith { up } => arith_line(alloc, up, rest),
-        Command::Version => Ok(lone_line(Request::ShowVersion, rest)),
-        Command::Verbosity => Ok(verbosity_line(rest)),
-        Command::Stats => Ok(lone_line(Request::Stats, rest)),
-        Command::Quit => Ok(lone_line(Request::Quit, rest)),
+    match command_of(name) {
+        None => Ok(Line::Bad(LineFault::Unknown)),
+        Some(command) => command_line(alloc, command, rest),
     }
 }

@@ -4,7 +4,7 @@ ghost use Rattle.std.specs.Map.{keys_of, lookup};
 ghost use Rattle.std.specs.List.Sorted.{IsStrictlySortedBy};
 ghost use Rattle.std.specs.Option.{option_and_then};
 ghost use Rattle.std.specs.List.{IsDistinct};
-ghost use Rattle.geo_lattice.specs.Maps.{get, meaning_or, meaning_at, RoomFor, HasRoomFor, HasRoomForList, missing, EachFound, all_joined};
+ghost use Rattle.geo_lattice.specs.Maps.{get, meaning_or, meaning_at, RoomFor, HasRoomFor, HasRoomForList, missing, EachFound, all_joined, has_each};
 
 use crate::change::{Change, Show, Test};
 use crate::lattice::{Bottom, Flat, Lattice};
@@ -249,6 +249,21 @@ impl<K: Twin + Eq + Hash, L: Bottom> MapOf<K, L> {
 }
 
 impl<K: Twin + Eq + Hash, L: Bottom + Flat> MapOf<K, L> {
+    fn has_each(&self, values: &[(K, L)]) -> bool
+        ensures { result ≡ has_each K.eq self.now.entries values.now }
+    {
+        values.iter().all(|(key, _)| self.entries.contains_key(key))
+    }
+
+    fn count_lacking(&self, values: &[(K, L)]) -> usize
+        ensures { result ≡ missing K.eq self.now.entries values.now }
+    {
+        values
+            .iter()
+            .filter(|(key, _)| !self.entries.contains_key(key))
+            .count()
+    }
+
     /// Makes room to join these values: for each that has a key which is not there. It changes no value, and takes no memory where
     /// there was room.
     pub fn ready_list(&mut self, values: &[(K, L)]) -> Result<(), AllocError>
@@ -256,10 +271,13 @@ impl<K: Twin + Eq + Hash, L: Bottom + Flat> MapOf<K, L> {
         ensures room { OnOk result (HasRoomForList K.eq self.new values.now) }
         ensures succeeds { HasRoomForList K.eq self.old values.now → IsOk result }
     {
-        let missing = values
-            .iter()
-            .filter(|(key, _)| !self.entries.contains_key(key))
-            .count();
+        // As many as there are places for are not looked up, where all others are there.
+        let places = self.entries.capacity() - self.entries.len();
+        let (others, _) = values.split_at(values.len().saturating_sub(places));
+        if self.has_each(others) {
+            return Ok(());
+        }
+        let missing = self.count_lacking(values);
         self.entries.reserve(missing)
     }
 
@@ -317,7 +335,8 @@ impl<K: Twin + Ord + Hash, L: Bottom> MapOf<K, L> {
                 }
             }
         }
-        all.sort_unstable_by(|a, b| a.0.cmp(&b.0));
+        // Records come in runs by rising key, one of each parcel that was taken, and this sort makes use of that.
+        all.sort_by(|a, b| a.0.cmp(&b.0))?;
         Ok(all)
     }
 }

@@ -12,6 +12,7 @@ ghost use Rattle.geo_versions.specs.Keys.{is_key, is_key_byte};
 ghost use Rattle.std.specs.List.{list_all};
 
 use geo_lattice::Twin;
+use smallvec::SmallVec;
 use std::alloc::{AllocError, Global};
 use std::cmp::Ordering;
 use std::hash::{Hash, Hasher};
@@ -20,10 +21,13 @@ use std::marker::Model;
 /// The most bytes that a key has.
 pub const LONGEST_KEY: usize = 250;
 
+// A key up to this length stands where its record stands: to compare it follows no pointer, and a copy takes no memory.
+const INLINE_BYTES: usize = 24;
+
 /// A key: 1 to 250 bytes, each 0x21 to 0x7E or 0x80 to 0xFF (memcached's protocol.txt: no control characters, no space).
 #[derive(Drop)]
 pub struct Key {
-    bytes: Vec<u8>,
+    bytes: SmallVec<u8, INLINE_BYTES>,
 }
 
 impl Model for Key {
@@ -88,7 +92,7 @@ impl Hash for Key {
 impl Twin for Key {
     fn twin(&self, alloc: Global) -> Result<Self, AllocError> {
         Ok(Key {
-            bytes: Vec::from_slice(alloc, self.bytes.as_slice())?,
+            bytes: SmallVec::from_slice(alloc, self.bytes.as_slice())?,
         })
     }
 }
@@ -121,7 +125,7 @@ impl Key {
             return Ok(None);
         }
         Ok(Some(Key {
-            bytes: Vec::from_slice(alloc, bytes)?,
+            bytes: SmallVec::from_slice(alloc, bytes)?,
         }))
     }
 

@@ -31,9 +31,9 @@ returns-clause-rising g c =
     let show = g.S.Show.shown c.args.show.now in
     let es = c.self.inside.entries.entries in
     let all : c.loop-i.all.items ≡ shown_of show es = c.loop-i.invariant ∙ ap (shown_of show) (take_all c.loop-i.i es (omega arith)) in
-    rises g.K.PartialEq.eq g.K.Ord.cmp g.met.K.Ord.total g.met.K.Ord.matches_eq c.sort_unstable_by.new.self.items
-    (c.sort_unstable_by.ensures.sorted _ (ranks_by g.met.K.Ord.total (λ e. e.0)) (answers_always _ _ _ (λ a r q k. search rules)))
-    (reordered_distinct g.K.PartialEq.eq g.met.K.Eq.laws c.loop-i.all.items _ c.sort_unstable_by.ensures.permutation
+    rises g.K.PartialEq.eq g.K.Ord.cmp g.met.K.Ord.total g.met.K.Ord.matches_eq c.sort_by.new.self.items
+    (c.in_ok-sort_by.ensures.sorted _ (ranks_by g.met.K.Ord.total (λ e. e.0)) (answers_always _ _ _ (λ a r q k. search rules)))
+    (reordered_distinct g.K.PartialEq.eq g.met.K.Eq.laws c.loop-i.all.items _ c.sort_by.ensures.permutation
     (subst (λ xs. IsDistinct g.K.PartialEq.eq (keys_of xs)) (sym all) (shown_distinct show g.K.PartialEq.eq es c.len-i-end.ensures.unique)))
 
 pub returns-clause-unique : goal.returns-clause-unique
@@ -41,7 +41,7 @@ returns-clause-unique g c =
     let show = g.S.Show.shown c.args.show.now in
     let es = c.self.inside.entries.entries in
     let all : c.loop-i.all.items ≡ shown_of show es = c.loop-i.invariant ∙ ap (shown_of show) (take_all c.loop-i.i es (omega arith)) in
-    reordered_distinct g.K.PartialEq.eq g.met.K.Eq.laws c.loop-i.all.items _ c.sort_unstable_by.ensures.permutation
+    reordered_distinct g.K.PartialEq.eq g.met.K.Eq.laws c.loop-i.all.items _ c.sort_by.ensures.permutation
     (subst (λ xs. IsDistinct g.K.PartialEq.eq (keys_of xs)) (sym all) (shown_distinct show g.K.PartialEq.eq es c.len-i-end.ensures.unique))
 
 pub returns-clause-shown : goal.returns-clause-shown
@@ -50,7 +50,7 @@ returns-clause-shown g c = λ q.
     let eq = g.K.PartialEq.eq in
     let es = c.self.inside.entries.entries in
     let all : c.loop-i.all.items ≡ shown_of show es = c.loop-i.invariant ∙ ap (shown_of show) (take_all c.loop-i.i es (omega arith)) in
-    reordered_at eq g.met.K.Eq.laws c.loop-i.all.items _ c.sort_unstable_by.ensures.permutation
+    reordered_at eq g.met.K.Eq.laws c.loop-i.all.items _ c.sort_by.ensures.permutation
     (subst (λ xs. IsDistinct eq (keys_of xs)) (sym all) (shown_distinct show eq es c.len-i-end.ensures.unique)) q
     ∙ ap (lookup (eq q)) all ∙ shown_at show eq g.met.K.Eq.laws es c.len-i-end.ensures.unique q
     ∙ ap (λ m. option_and_then show (get eq m q)) c.self.view_is
