@@ -1,0 +1,4 @@
+pub mod Reversed
+pub mod Tallies
+pub mod Places
+pub mod Calls

@@ -1,0 +1,142 @@
+//! One of the three lists.
+ghost use Rattle.std.specs.Prelude.{◌≡◌, ◌≤◌, ◌<◌, ◌^◌, [], ◌∷◌, length, is_some, nat_eq, nat_lt, IfOk, OnOk, OnErr};
+ghost use Rattle.std.specs.Map.{lookup};
+ghost use Rattle.lru.specs.LruCache.{last_entry};
+ghost use Rattle.geo_lru.specs.Lists.{present, touched_in, brought_forward, without, last_active};
+
+use crate::access::Access;
+use lru::LruCache;
+use std::alloc::{AllocError, Global};
+use std::marker::Model;
+
+/// Items with what was seen of each, head first.
+#[derive(Drop)]
+pub(crate) struct ItemList {
+    // The items are the caller's own numbers, so a hasher of a fixed seed serves.
+    pub(crate) entries: LruCache<usize, Access>,
+    // How many of them are active: where there is none, nobody need look for one.
+    active: usize,
+}
+
+impl Model for ItemList {
+    ghost use Rattle.std.specs.Prelude.{ℕ, List};
+    ghost use Rattle.geo_lru.specs.Lists.{Tallied};
+    ghost use Rattle.geo_lru.specs.declared.access.Access.{Access as Bits};
+
+    ghost Value = { List (ℕ × Bits) };
+
+    ghost view = { λ l. l.entries.entries };
+
+    ghost invariant = { λ l. Tallied l.entries l.active };
+}
+
+impl ItemList {
+    /// An empty list.
+    pub(crate) fn new(alloc: Global) -> Result<ItemList, AllocError>
+        ensures { IfOk result (λ list. list ≡ []) }
+    {
+        let entries = LruCache::unbounded(alloc)?;
+        Ok(ItemList { entries, active: 0 })
+    }
+
+    /// How many items it has.
+    pub(crate) fn len(&self) -> usize
+        ensures len { result ≡ length self.now }
+        ensures fits { result < 2 ^ 63 }
+    {
+        self.entries.len()
+    }
+
+    /// The last item.
+    pub(crate) fn tail(&self) -> Option<(usize, Access)>
+        ensures { result ≡ last_entry self.now }
+    {
+        let (item, access) = self.entries.peek_lru()?;
+        Some((*item, *access))
+    }
+
+    /// The active item nearest the tail.
+    pub(crate) fn last_active(&self) -> Option<(usize, Access)>
+        ensures { result ≡ last_active self.now }
+    {
+        if self.active == 0 {
+            return None;
+        }
+        search_from_tail(&self.entries)
+    }
+
+    /// Notes a hit on the item, and tells whether it is here.
+    pub(crate) fn touch(&mut self, item: usize) -> bool
+        ensures found { result ≡ is_some (lookup (nat_eq item) self.old) }
+        ensures touched { self.new ≡ touched_in item self.old }
+    {
+        // Its clauses bound the count of active items.
+        let _len = self.entries.len();
+        let Some(access) = self.entries.peek_mut(&item) else {
+            return false;
+        };
+        let before = *access;
+        let after = before.touched();
+        *access = after;
+        if after.active && !before.active {
+            self.active += 1;
+        }
+        true
+    }
+
+    /// Puts an item at the head.
+    pub(crate) fn push_head(&mut self, item: usize, access: Access) -> Result<(), AllocError>
+        requires { present item self.old ≡ 0 }
+        ensures pushed { OnOk result (self.new ≡ (item, access) ∷ self.old) }
+        ensures unchanged { OnErr result (self.new ≡ self.old) }
+    {
+        // Its clauses say that nothing falls out at the tail.
+        let _len = self.entries.len();
+        self.entries.put(item, access)?;
+        if access.active {
+            self.active += 1;
+        }
+        Ok(())
+    }
+
+    /// Moves the item to the head, with its bits after a move. Where it is not here, nothing changes.
+    pub(crate) fn move_to_head(&mut self, item: usize)
+        ensures { self.new ≡ brought_forward item self.old }
+    {
+        let Some(access) = self.entries.get_mut(&item) else {
+            return;
+        };
+        let before = *access;
+        *access = before.moved();
+        if before.active {
+            self.active -= 1;
+        }
+    }
+
+    /// Takes the item out, and tells whether it was here.
+    pub(crate) fn remove(&mut self, item: usize) -> bool
+        ensures found { result ≡ is_some (lookup (nat_eq item) self.old) }
+        ensures removed { self.new ≡ without item self.old }
+    {
+        let Some(access) = self.entries.pop(&item) else {
+            return false;
+        };
+        if access.active {
+            self.active -= 1;
+        }
+        true
+    }
+}
+
+// The active item nearest the tail, by going through the list.
+fn search_from_tail(entries: &LruCache<usize, Access>) -> Option<(usize, Access)>
+    ensures { result ≡ last_active entries.now.entries }
+{
+    let mut rest = entries.iter();
+    while let Some((item, access)) = rest.next_back() {
+        if access.active {
+            return Some((*item, *access));
+        }
+    }
+    None
+}

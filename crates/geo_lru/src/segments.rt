@@ -1,0 +1,91 @@
+//! The three lists of a class.
+ghost use Rattle.std.specs.Prelude.{◌≡◌, [], IfOk, OnOk, OnErr};
+ghost use Rattle.geo_lru.specs.Lists.{places, entered, touched_at, left, victim_of};
+
+use crate::access::Access;
+use crate::list::ItemList;
+use std::alloc::{AllocError, Global};
+use std::marker::Model;
+
+/// The items of a slab class in memcached's three lists, each item once (`doc/new_lru.txt`). An item is a number that the
+/// caller chose. No call's work grows with the number of items, but that of a map that grows, and of a `juggle` that searches
+/// COLD where it has an active item.
+#[derive(Drop)]
+pub struct Segments {
+    pub(crate) hot: ItemList,
+    pub(crate) warm: ItemList,
+    pub(crate) cold: ItemList,
+}
+
+impl Model for Segments {
+    ghost use Rattle.geo_lru.specs.Lists.{Lists, IsApart};
+
+    ghost Value = { Lists };
+
+    ghost view = { λ s. record { hot = s.hot; warm = s.warm; cold = s.cold } };
+
+    ghost invariant = { λ s. IsApart (record { hot = s.hot; warm = s.warm; cold = s.cold }) };
+}
+
+impl Segments {
+    /// Three empty lists.
+    pub fn new(alloc: Global) -> Result<Segments, AllocError>
+        ensures { IfOk result (λ segments. segments ≡ record { hot = []; warm = []; cold = [] }) }
+    {
+        Ok(Segments {
+            hot: ItemList::new(alloc)?,
+            warm: ItemList::new(alloc)?,
+            cold: ItemList::new(alloc)?,
+        })
+    }
+
+    /// An item comes.
+    pub fn enter(&mut self, item: usize) -> Result<(), AllocError>
+        requires { places item self.old ≡ 0 }
+        ensures entered { OnOk result (self.new ≡ entered item self.old) }
+        ensures unchanged { OnErr result (self.new ≡ self.old) }
+    {
+        self.hot.push_head(item, Access::unseen())?;
+        Ok(())
+    }
+
+    /// Notes a hit on the item. Where it has not entered, nothing changes.
+    pub fn hit(&mut self, item: usize)
+        ensures { self.new ≡ touched_at item self.old }
+    {
+        if self.hot.touch(item) {
+            return;
+        }
+        if self.warm.touch(item) {
+            return;
+        }
+        self.cold.touch(item);
+    }
+
+    /// The item is gone. Where it has not entered, nothing changes.
+    pub fn leave(&mut self, item: usize)
+        ensures { self.new ≡ left item self.old }
+    {
+        if self.hot.remove(item) {
+            return;
+        }
+        if self.warm.remove(item) {
+            return;
+        }
+        self.cold.remove(item);
+    }
+
+    /// The item to evict next, None exactly where there is none.
+    pub fn victim(&self) -> Option<usize>
+        ensures { result ≡ victim_of self.now }
+    {
+        if let Some((item, _)) = self.cold.tail() {
+            return Some(item);
+        }
+        if let Some((item, _)) = self.warm.tail() {
+            return Some(item);
+        }
+        let (item, _) = self.hot.tail()?;
+        Some(item)
+    }
+}

@@ -1,0 +1,160 @@
+-- What callers want of a put and of a free: what becomes of the chunk, and that every other chunk keeps what it holds.
+use Rattle.std.proofs.Common.{◌≡◌, ◌≢◌, ℕ, zero, suc, ◌-◌, ◌<◌, inl, inr, true, false, List, [], ◌∷◌, ◌++◌, length, replicate, Option, Some, None, IsSome, slice_get, slice_set, refl, sym, ap, ◌∙◌, subst, arith}
+use Rattle.std.proofs.lemmas.List.{get_or-set_same, get_or-set_other, get_or_past, length-set}
+use Rattle.std.proofs.lemmas.Option.{slice_get_within}
+use Rattle.std.proofs.lemmas.Bool.{cases_eq, cases_lt}
+use Rattle.geo_slabs.specs.Chunks.{ClassState}
+use Rattle.geo_slabs.specs.Storage.{Storage, IsFull, IsPut, PutDoes, chunks_a_page, chunks_in, class_count, class_in, first, first_classes, held_in, held_of, no_class, with_chunks, with_held, with_page}
+use Rattle.geo_slabs.specs.declared.slabs.Chunk.{Chunk}
+use Rattle.geo_slabs.proofs.Held.{slice_get-set_same, slice_get-set_other}
+use Rattle.geo_slabs.proofs.Sizes.{first_at}
+
+-- a chunk that is there is one of a class that is there
+class_there : (storage : Storage) (class number : ℕ) (cell : Option (List ℕ)) → slice_get (chunks_in storage class) number ≡ Some cell → class < length storage.classes
+class_there storage class number cell there = elim (cases_lt class (length storage.classes)) [
+  | inl lt ↦ lt
+  | inr ge ↦
+      let nothing : slice_get (chunks_in storage class) number ≡ None = ap (λ (c : ClassState). slice_get c.chunks number) (get_or_past storage.classes class no_class ge) in
+      absurd cc
+]
+
+chunks_same : (storage : Storage) (class : ℕ) (chunks : List (Option (List ℕ))) → class < length storage.classes → chunks_in (with_chunks storage class chunks) class ≡ chunks
+chunks_same storage class chunks lt = ap (λ (c : ClassState). c.chunks) (get_or-set_same storage.classes class (record (class_in storage class) { chunks = chunks }) no_class lt)
+
+chunks_other : (storage : Storage) (class other : ℕ) (chunks : List (Option (List ℕ))) → other ≢ class → chunks_in (with_chunks storage class chunks) other ≡ chunks_in storage other
+chunks_other storage class other chunks ne = ap (λ (c : ClassState). c.chunks) (get_or-set_other storage.classes class other (record (class_in storage class) { chunks = chunks }) no_class ne)
+
+same_chunk : (a b : Chunk) → a.class ≡ b.class → a.number ≡ b.number → a ≡ b
+same_chunk a b class number = λ i. record { class = class i; number = number i }
+
+-- what a chunk holds once it is set
+held_same : (storage : Storage) (chunk : Chunk) (cell held : Option (List ℕ)) → slice_get (chunks_in storage chunk.class) chunk.number ≡ Some cell → held_in (with_held storage chunk.class chunk.number held) chunk ≡ held
+held_same storage chunk cell held there =
+    ap (λ cs. held_of (slice_get cs chunk.number)) (chunks_same storage chunk.class (slice_set (chunks_in storage chunk.class) chunk.number held) (class_there storage chunk.class chunk.number cell there))
+    ∙ ap held_of (slice_get-set_same (chunks_in storage chunk.class) chunk.number held (slice_get_within (chunks_in storage chunk.class) chunk.number cell there))
+
+-- and what the others hold
+held_other : (storage : Storage) (chunk other : Chunk) (cell held : Option (List ℕ)) → slice_get (chunks_in storage chunk.class) chunk.number ≡ Some cell → other ≢ chunk
+    → held_in (with_held storage chunk.class chunk.number held) other ≡ held_in storage other
+held_other storage chunk other cell held there ne =
+    let chunks : List (Option (List ℕ)) = slice_set (chunks_in storage chunk.class) chunk.number held in
+    elim (cases_eq other.class chunk.class) [
+      | inl same ↦
+          let number : other.number ≢ chunk.number = λ e. ne (same_chunk other chunk same e) in
+          ap (λ n. held_of (slice_get (chunks_in (with_chunks storage chunk.class chunks) n) other.number)) same
+          ∙ ap (λ cs. held_of (slice_get cs other.number)) (chunks_same storage chunk.class chunks (class_there storage chunk.class chunk.number cell there))
+          ∙ ap held_of (slice_get-set_other (chunks_in storage chunk.class) chunk.number other.number held number)
+          ∙ ap (λ n. held_of (slice_get (chunks_in storage n) other.number)) (sym same)
+      | inr apart ↦ ap (λ cs. held_of (slice_get cs other.number)) (chunks_other storage chunk.class other.class chunks apart)
+    ]
+
+cell_nones : (cells : List (Option (List ℕ))) (n k : ℕ) → held_of (slice_get (cells ++ replicate n None) k) ≡ held_of (slice_get cells k)
+cell_nones [] zero k = refl
+cell_nones [] (suc n) zero = refl
+cell_nones [] (suc n) (suc k) = cell_nones [] n k
+cell_nones (cell ∷ cells) n zero = refl
+cell_nones (cell ∷ cells) n (suc k) = cell_nones cells n k
+
+-- a page that is taken changes nothing that is held
+page_keeps : (storage : Storage) (class : ℕ) (chunk : Chunk) → class < length storage.classes → held_in (with_page storage class) chunk ≡ held_in storage chunk
+page_keeps storage class chunk lt =
+    let old : ClassState = class_in storage class in
+    let new : ClassState = record old { chunks = old.chunks ++ replicate old.per_page None; room = old.room - 1 } in
+    elim (cases_eq chunk.class class) [
+      | inl same ↦
+          ap (λ n. held_of (slice_get (chunks_in (with_page storage class) n) chunk.number)) same
+          ∙ ap (λ (c : ClassState). held_of (slice_get c.chunks chunk.number)) (get_or-set_same storage.classes class new no_class lt)
+          ∙ cell_nones old.chunks old.per_page chunk.number
+          ∙ ap (λ n. held_of (slice_get (chunks_in storage n) chunk.number)) (sym same)
+      | inr apart ↦ ap (λ (c : ClassState). held_of (slice_get c.chunks chunk.number)) (get_or-set_other storage.classes class chunk.class new no_class apart)
+    ]
+
+-- one step of a put: into a chunk that was free
+module _ {old new : Storage} {class : ℕ} {bytes : List ℕ} {chunk : Chunk} (put : IsPut old new class bytes chunk) where
+  free_there : slice_get (chunks_in old chunk.class) chunk.number ≡ Some None
+  free_there = subst (λ c. slice_get (chunks_in old c) chunk.number ≡ Some None) (sym put.class_is) put.was_free
+
+  holds_here : new ≡ with_held old chunk.class chunk.number (Some bytes)
+  holds_here = put.holds ∙ ap (λ c. with_held old c chunk.number (Some bytes)) (sym put.class_is)
+
+  step_gives : held_in new chunk ≡ Some bytes
+  step_gives = ap (λ s. held_in s chunk) holds_here ∙ held_same old chunk None (Some bytes) free_there
+
+  step_new : held_in old chunk ≡ None
+  step_new = ap held_of free_there
+
+  step_keeps : (other : Chunk) → other ≢ chunk → held_in new other ≡ held_in old other
+  step_keeps other ne = ap (λ s. held_in s other) holds_here ∙ held_other old chunk other None (Some bytes) free_there ne
+
+page_there : (old : Storage) (class number : ℕ) → slice_get (chunks_in (with_page old class) class) number ≡ Some None → class < length old.classes
+page_there old class number there = omega (arith, class_there (with_page old class) class number None there, length-set old.classes class (record (class_in old class) { chunks = chunks_in old class ++ replicate (class_in old class).per_page None; room = (class_in old class).room - 1 }))
+
+-- after a put the chunk holds the bytes
+pub put_gives : (old new : Storage) (class : ℕ) (bytes : List ℕ) (chunk : Chunk) → PutDoes old new class bytes (Some chunk) → held_in new chunk ≡ Some bytes
+put_gives old new class bytes chunk (inl put) = step_gives put
+put_gives old new class bytes chunk (inr (_, _, put)) = step_gives put
+
+-- it is one of the class
+pub put_class : (old new : Storage) (class : ℕ) (bytes : List ℕ) (chunk : Chunk) → PutDoes old new class bytes (Some chunk) → chunk.class ≡ class
+put_class old new class bytes chunk (inl put) = put.class_is
+put_class old new class bytes chunk (inr (_, _, put)) = put.class_is
+
+-- it is not one that was held
+pub put_new : (old new : Storage) (class : ℕ) (bytes : List ℕ) (chunk : Chunk) → PutDoes old new class bytes (Some chunk) → held_in old chunk ≡ None
+put_new old new class bytes chunk (inl put) = step_new put
+put_new old new class bytes chunk (inr (_, _, put)) = sym (page_keeps old class chunk (page_there old class chunk.number put.was_free)) ∙ step_new put
+
+-- after a put every other chunk holds what it held
+pub put_keeps : (old new : Storage) (class : ℕ) (bytes : List ℕ) (chunk : Chunk) → PutDoes old new class bytes (Some chunk) → (other : Chunk) → other ≢ chunk → held_in new other ≡ held_in old other
+put_keeps old new class bytes chunk (inl put) other ne = step_keeps put other ne
+put_keeps old new class bytes chunk (inr (_, _, put)) other ne = step_keeps put other ne ∙ page_keeps old class other (page_there old class chunk.number put.was_free)
+
+-- so a chunk that is held keeps what it holds, whatever a put does
+pub put_keeps_held : (old new : Storage) (class : ℕ) (bytes : List ℕ) (result : Option Chunk) → PutDoes old new class bytes result → (other : Chunk) (held : List ℕ) → held_in old other ≡ Some held → held_in new other ≡ Some held
+put_keeps_held old new class bytes None does other held is = ap (λ s. held_in s other) does.1 ∙ is
+put_keeps_held old new class bytes (Some chunk) does other held is =
+    let nothing = put_new old new class bytes chunk does in
+    put_keeps old new class bytes chunk does other (λ same. let none : held_in old other ≡ None = ap (held_in old) same ∙ nothing in absurd cc) ∙ is
+
+-- a put into a class that is full gives no chunk
+pub full_refuses : (old new : Storage) (class : ℕ) (bytes : List ℕ) (chunk : Chunk) → IsFull old class → PutDoes old new class bytes (Some chunk) → ⊥
+full_refuses old new class bytes chunk full (inl put) = full.0 chunk.number put.was_free
+full_refuses old new class bytes chunk full (inr (_, spare, _)) = absurd (omega (arith, spare, full.1))
+
+held_there : (cell : Option (Option (List ℕ))) → IsSome (held_of cell) → (held : List ℕ) × (cell ≡ Some (Some held))
+held_there None h = let no : false ≡ true = h in absurd cc
+held_there (Some None) h = let no : false ≡ true = h in absurd cc
+held_there (Some (Some held)) h = (held, refl)
+
+-- a chunk that was freed holds nothing
+pub free_empties : (old new : Storage) (chunk : Chunk) → new ≡ with_held old chunk.class chunk.number None → IsSome (held_in old chunk) → held_in new chunk ≡ None
+free_empties old new chunk freed h =
+    let there = held_there (slice_get (chunks_in old chunk.class) chunk.number) h in ap (λ s. held_in s chunk) freed ∙ held_same old chunk (Some there.0) None there.1
+
+-- after a free every other chunk holds what it held
+pub free_keeps : (old new : Storage) (chunk : Chunk) → new ≡ with_held old chunk.class chunk.number None → IsSome (held_in old chunk) → (other : Chunk) → other ≢ chunk → held_in new other ≡ held_in old other
+free_keeps old new chunk freed h other ne =
+    let there = held_there (slice_get (chunks_in old chunk.class) chunk.number) h in ap (λ s. held_in s other) freed ∙ held_other old chunk other (Some there.0) None there.1 ne
+
+-- a class of which a chunk was freed is not full
+pub free_makes_room : (old new : Storage) (chunk : Chunk) (class : ℕ) → new ≡ with_held old chunk.class chunk.number None → IsSome (held_in old chunk) → chunk.class ≡ class → IsFull new class → ⊥
+free_makes_room old new chunk class freed h same full =
+    let there = held_there (slice_get (chunks_in old chunk.class) chunk.number) h in
+    let chunks : List (Option (List ℕ)) = slice_set (chunks_in old chunk.class) chunk.number None in
+    full.0 chunk.number (
+    ap (λ n. slice_get (chunks_in new n) chunk.number) (sym same)
+    ∙ ap (λ s. slice_get (chunks_in s chunk.class) chunk.number) freed
+    ∙ ap (λ cs. slice_get cs chunk.number) (chunks_same old chunk.class chunks (class_there old chunk.class chunk.number (Some there.0) there.1))
+    ∙ slice_get-set_same (chunks_in old chunk.class) chunk.number None (slice_get_within (chunks_in old chunk.class) chunk.number (Some there.0) there.1)
+    )
+
+-- a chunk that holds something and one that holds nothing are two
+pub held_apart : (storage : Storage) (chunk other : Chunk) (held : List ℕ) → held_in storage chunk ≡ Some held → held_in storage other ≡ None → chunk ≢ other
+held_apart storage chunk other held is none same = let both = ap (held_in storage) same in cc
+
+-- at first no chunk holds anything
+pub first_holds_nothing : (pages : ℕ) (chunk : Chunk) → held_in (first pages) chunk ≡ None
+first_holds_nothing pages chunk = elim (cases_lt chunk.class class_count) [
+  | inl lt ↦ ap (λ (c : ClassState). held_of (slice_get c.chunks chunk.number)) (first_at pages chunk.class lt) ∙ cell_nones [] (chunks_a_page chunk.class) chunk.number
+  | inr ge ↦ ap (λ (c : ClassState). held_of (slice_get c.chunks chunk.number)) (get_or_past (first_classes pages class_count) chunk.class no_class ge)
+]
