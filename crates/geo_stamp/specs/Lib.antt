@@ -1,3 +1,4 @@
 pub mod Stamps
 pub mod Vectors
 pub mod Joins
+pub mod Acks

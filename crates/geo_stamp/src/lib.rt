@@ -5,10 +5,12 @@
 //! in whose sense vectors are a lattice.
 #![tactic(auto)]
 
+pub mod acks;
 pub mod stamp;
 #[cfg(test)]
 mod tests;
 pub mod vector;
 
+pub use acks::Acks;
 pub use stamp::{LAST_TIME, MOST_SITES, Stamp};
 pub use vector::Vector;

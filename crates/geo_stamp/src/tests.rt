@@ -1,5 +1,5 @@
 //! Each public call once.
-use crate::{LAST_TIME, Stamp, Vector};
+use crate::{Acks, LAST_TIME, Stamp, Vector};
 use geo_lattice::{Lattice, Twin};
 use std::test::Fail;
 
@@ -59,5 +59,22 @@ fn vectors_of_two_lengths_join(rt: HostRuntime) -> Result<(), Fail> {
     assert_eq!(rt; mine.entry(2), 0);
     assert_eq!(rt; mine.entry(3), 9);
     assert!(rt; mine.copied().covers(&other));
+    Ok(())
+}
+
+#[test]
+fn what_is_heard_is_joined_into_the_row_of_its_site(rt: HostRuntime) -> Result<(), Fail> {
+    let mut acks = Acks::new(2);
+    let mut first = Vector::new(2);
+    first.raise(1, 5);
+    acks.heard(2, &first);
+    let mut late = Vector::new(2);
+    late.raise(1, 3);
+    late.raise(2, 4);
+    acks.heard(2, &late);
+    assert_eq!(rt; acks.row(2).entry(1), 5);
+    assert_eq!(rt; acks.row(2).entry(2), 4);
+    assert_eq!(rt; acks.row(1).entry(1), 0);
+    assert_eq!(rt; acks.row(16).sites(), 2);
     Ok(())
 }

@@ -1,0 +1,72 @@
+//! What a site last heard of the other sites' vectors.
+ghost use Rattle.std.specs.Prelude.{◌≡◌, ℕ, ◌≤◌, length};
+ghost use Rattle.geo_stamp.specs.Acks.{row_of, heard, none_heard};
+
+use crate::vector::Vector;
+use geo_lattice::Lattice;
+use std::marker::Model;
+
+/// A vector for each site, by the sites' numbers from 1: what was heard of it. What a site has heard another know it need not tell
+/// it again (acknowledgements: Almeida et al. 2018).
+#[derive(Drop)]
+pub struct Acks {
+    rows: [Vector; 16],
+}
+
+impl Model for Acks {
+    ghost use Rattle.std.specs.Prelude.{ℕ, List, length, ◌≡◌};
+
+    ghost Value = { List (List ℕ) };
+
+    ghost view = { λ acks. acks.rows };
+
+    ghost invariant = { λ acks. length acks.rows ≡ 16 };
+}
+
+impl Acks {
+    /// Nothing was heard. The vectors have this many entries, 0 to 16.
+    pub fn new(sites: usize) -> Acks
+        requires { sites ≤ 16 }
+        ensures { result ≡ none_heard sites }
+    {
+        let none = || Vector::new(sites);
+        Acks {
+            rows: [
+                none(),
+                none(),
+                none(),
+                none(),
+                none(),
+                none(),
+                none(),
+                none(),
+                none(),
+                none(),
+                none(),
+                none(),
+                none(),
+                none(),
+                none(),
+                none(),
+            ],
+        }
+    }
+
+    /// What was heard of a site, 1 to 16.
+    pub fn row(&self, site: u8) -> &Vector
+        requires first { 1 ≤ site }
+        requires last { site ≤ 16 }
+        ensures { result.now ≡ row_of self.now site }
+    {
+        &self.rows[site as usize - 1]
+    }
+
+    /// Joins a vector into what was heard of a site, 1 to 16. It takes no memory.
+    pub fn heard(&mut self, site: u8, vector: &Vector)
+        requires first { 1 ≤ site }
+        requires last { site ≤ 16 }
+        ensures { self.new ≡ heard self.old site vector.now }
+    {
+        self.rows[site as usize - 1].join(vector.copied());
+    }
+}
