@@ -9,7 +9,8 @@ use Rattle.geo_versions.specs.Operations.{version_in}
 use Rattle.geo_versions.specs.declared.version.Version.{Version}
 use Rattle.geo_site.specs.Entries.{none_counted}
 use Rattle.geo_site.specs.Machine.{Same, fresh, take}
-use Rattle.geo_site.specs.Sites.{state_in, counts_in, waiting_in, limits_of, delta_of, Takes, RefusesFor, Rests, TickDoes, ReapDoes}
+use Rattle.geo_stamp.specs.Acks.{heard}
+use Rattle.geo_site.specs.Sites.{heard_in, state_in, counts_in, waiting_in, limits_of, delta_of, Takes, RefusesFor, Rests, TickDoes, ReapDoes}
 use Rattle.geo_site.specs.declared.refusal.TakeError.{TakeError}
 use Rattle.geo_site.specs.declared.refusal.ReapError.{ReapError}
 use Rattle.geo_cluster.specs.Prints.{taken_text, tick_text, versions_text}
@@ -51,12 +52,14 @@ pub record TakesWell (old : Post) (parcel : Parcel) (text : List ℕ) (new : Pos
   pub prints : text ≡ taken_text
   pub may : Takes old.site parcel
   pub state : Same (take (number_of old.site) (delta_of parcel) (state_in old.site)) (state_in new.site)
+  pub hears : heard_in new.site ≡ heard (heard_in old.site) parcel.from parcel.upto
 
 pub record Declines (old : Post) (parcel : Parcel) (text : List ℕ) (new : Post) : Type 0 where
   pub why : TakeError
   pub holds : RefusesFor old.site parcel why
   pub prints : IsRefusalText why text
   pub state : Same (state_in old.site) (state_in new.site)
+  pub hears : heard_in new.site ≡ heard_in old.site
 
 pub record TakesParcel (old : Post) (parcel : Parcel) (text : List ℕ) (new : Post) : Type 0 where
   pub outcome : TakesWell old parcel text new ⊎ Declines old parcel text new

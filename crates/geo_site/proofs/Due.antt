@@ -45,7 +45,7 @@ flush_kept old now e = record {
   issued = subst (λ t. HasIssued old old (cond {A = List Act} t (Flush ∷ []) [])) (sym e) (unchanged (state_in old));
   waiting = ap (λ t. cond t None (waiting_in old)) (sym e);
   counts = refl;
-  stays = (refl, refl);
+  stays = (refl, refl, refl);
 }
 
 -- after a tick a flush is due exactly where no stamp was left for it

@@ -18,4 +18,5 @@ pub mod Found
 pub mod Listed
 pub mod Filtered
 pub mod Taking
+pub mod Sending
 pub mod Outdated

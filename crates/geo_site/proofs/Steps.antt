@@ -1,10 +1,11 @@
 -- Each step of a site keeps it what it knows and holds.
-use Rattle.std.proofs.Common.{◌≡◌, ℕ, zero, suc, ◌+◌, ◌≤◌, ◌<◌, Bool, true, false, cond, List, [], ◌∷◌, ◌++◌, length, Option, None, Some, refl, sym, ap, ◌∙◌, subst, subst₂, ◌⊎◌, inl, inr, arith, true≢false}
+use Rattle.std.proofs.Common.{◌≡◌, ℕ, zero, suc, ◌+◌, ◌≤◌, ◌<◌, Bool, true, false, cond, List, [], ◌∷◌, ◌++◌, length, Option, None, Some, refl, sym, ap, ◌∙◌, subst, subst₂, ◌⊎◌, inl, inr, arith, true≢false, nat_le, ◌||◌, not}
 use Rattle.std.specs.declared.cmp.Ordering.{Ordering}
 use Rattle.std.specs.Ordering.{nat_cmp}
 use Rattle.std.proofs.lemmas.Cmp.{nat_cmp_total}
-use Rattle.std.proofs.lemmas.Map.Lookups.{exact_unsigned}
-use Rattle.geo_lattice.specs.Registers.{newer, by_both}
+use Rattle.std.proofs.lemmas.Map.Lookups.{exact_pairs, exact_unsigned}
+use Rattle.std.proofs.lemmas.Bool.Decides.{nat_tests}
+use Rattle.geo_lattice.specs.Registers.{newer, by_both, both_total}
 use Rattle.geo_stamp.specs.Stamps.{Moment, stamp_cmp, stamps_total, exact_stamps}
 use Rattle.geo_stamp.specs.Vectors.{entry_of, zeros, vector_joined, greatest_of, raised, Knows}
 use Rattle.geo_versions.specs.Keys.{same_key}
@@ -13,14 +14,15 @@ use Rattle.geo_versions.specs.Operations.{Operation, Act, Register, Record, abov
 use Rattle.geo_versions.specs.Operations.Act.{Write, Delete, Touch, Flush}
 use Rattle.geo_versions.specs.declared.body.Body.{Body}
 use Rattle.geo_versions.specs.declared.body.Body.TheVariants.{Gone}
-use Rattle.geo_versions.proofs.Meaning.{newest_append, latest_append}
+use Rattle.geo_versions.specs.Maps.{is_unknown, since}
+use Rattle.geo_versions.proofs.Meaning.{newest_append, absorbed, latest_append}
 use Rattle.geo_site.specs.Entries.{Held, named_by}
 use Rattle.geo_site.specs.Machine.{SiteState, Delta, fresh, clock_of, next_operation, map_after, issue, act_held, map_with, take, Same}
 use Rattle.geo_site.specs.Schedule.{still_held}
-use Rattle.geo_site.specs.Agreement.{Holds, NoTime, Tells, StateOf, DeltaOf}
+use Rattle.geo_site.specs.Agreement.{Kept, Holds, NoTime, Tells, StateOf, DeltaOf}
 use Rattle.geo_site.proofs.Entries.{Within, entry_joined, length_joined, greatest_joined, entry_at_most, greatest_raised, length_raised, entry_raised, entry_rises}
-use Rattle.geo_site.proofs.Registers.{Later, Incoming, found}
-use Rattle.geo_site.proofs.Records.{B, X, holds_take, holds_version, above_is}
+use Rattle.geo_site.proofs.Registers.{Later, Incoming, Missing, found}
+use Rattle.geo_site.proofs.Records.{B, X, Comes, holds_take, holds_version, above_is}
 
 some_none : {V : Type 0} {x : V} → Some x ≡ None → ⊥
 some_none h = cc
@@ -186,26 +188,64 @@ module _ (s : ℕ) (v : List ℕ) (f : Option Moment) (ops : List Operation) (te
       let t = ap (λ (m : Moment). m.time) (expiry_stamp key op.0 y op.2) in
       omega (arith, p, t)
 
--- ---- what comes in a parcel
-module _ (n s sender : ℕ) (st : SiteState) (d : Delta) (ks ls : List Operation) (held : Held) (ok : StateOf n s st ks held) (comes : DeltaOf n sender d ls) (in_range : Within st.vector s) where
-  in_body : (key : List ℕ) (x r : Register Body) → winner ls key ≡ r → (x ≡ r) ⊎ ((x ≡ None) × Rattle.geo_site.specs.Agreement.Old NoTime r) → Incoming body_cmp bodies_total exact_bodies 0 (B key ks) r x
-  in_body key x None is (inl e) = inr (e, λ y iy. absurd (some_none (sym iy)))
-  in_body key x (Some y) is (inl e) = inl (e, subst (λ (x : Register Body). Later 0 x) (sym e) (told_positive_body sender d.upto d.floor ls comes.tells key y is))
-  in_body key x None is (inr e) = absurd e.1
-  in_body key x (Some y) is (inr e) = absurd e.1
+-- ---- what was not dropped is kept
+pub kept_same : {A : Type 0} (m r : Register A) → Kept NoTime m r → m ≡ r
+kept_same m r (inl e) = e
+kept_same m None (inr e) = absurd e.1
+kept_same m (Some y) (inr e) = absurd e.1
 
-  in_expiry : (key : List ℕ) (x r : Register ℕ) → latest_expiry ls key ≡ r → (x ≡ r) ⊎ ((x ≡ None) × Rattle.geo_site.specs.Agreement.Old NoTime r) → Incoming nat_cmp nat_cmp_total exact_unsigned 0 (X key ks) r x
-  in_expiry key x None is (inl e) = inr (e, λ y iy. absurd (some_none (sym iy)))
-  in_expiry key x (Some y) is (inl e) = inl (e, subst (λ (x : Register ℕ). Later 0 x) (sym e) (told_positive_expiry sender d.upto d.floor ls comes.tells key y is))
-  in_expiry key x None is (inr e) = absurd e.1
-  in_expiry key x (Some y) is (inr e) = absurd e.1
+known_stamp : {A : Type 0} (base : List ℕ) (y : Moment × A) → is_unknown base (Some y) ≡ false → Knows base y.0
+known_stamp base y h = by (nat_le y.0.time (entry_of base y.0.site)) refl h
+  where
+    by : (t : Bool) → nat_le y.0.time (entry_of base y.0.site) ≡ t → not t ≡ false → Knows base y.0
+    by true e h = grind (arith, nat_tests)
+    by false e h = absurd (true≢false h)
+
+-- ---- what comes in a parcel
+module _ (n s sender : ℕ) (base : List ℕ) (st : SiteState) (d : Delta) (ks ls : List Operation) (held : Held) (ok : StateOf n s st ks held) (comes : DeltaOf n sender base d ls) (in_range : Within st.vector s)
+    (known : (op : Operation) → Among ls op → Knows base op.stamp → Among ks op) where
+  -- a register that comes whole
+  whole_body : (key : List ℕ) (x r : Register Body) → winner ls key ≡ r → Kept NoTime x r → Incoming body_cmp bodies_total exact_bodies 0 (B key ks) r x
+  whole_body key x None is (inl e) = inr (e, λ y iy. absurd (some_none (sym iy)))
+  whole_body key x (Some y) is (inl e) = inl (e, subst (λ (x : Register Body). Later 0 x) (sym e) (told_positive_body sender d.upto d.floor ls comes.tells key y is))
+  whole_body key x None is (inr e) = absurd e.1
+  whole_body key x (Some y) is (inr e) = absurd e.1
+
+  whole_expiry : (key : List ℕ) (x r : Register ℕ) → latest_expiry ls key ≡ r → Kept NoTime x r → Incoming nat_cmp nat_cmp_total exact_unsigned 0 (X key ks) r x
+  whole_expiry key x None is (inl e) = inr (e, λ y iy. absurd (some_none (sym iy)))
+  whole_expiry key x (Some y) is (inl e) = inl (e, subst (λ (x : Register ℕ). Later 0 x) (sym e) (told_positive_expiry sender d.upto d.floor ls comes.tells key y is))
+  whole_expiry key x None is (inr e) = absurd e.1
+  whole_expiry key x (Some y) is (inr e) = absurd e.1
+
+  -- one that is left out was known
+  left_body : (key : List ℕ) → is_unknown base (winner ls key) ≡ false → Missing body_cmp bodies_total exact_bodies (B key ks) (winner ls key)
+  left_body key out y is =
+      let op = found (by_both stamp_cmp body_cmp) (body_of key) ls y (above_is (floor_of ls) (B key ls) y is).0 in
+      let at = body_stamp key op.0 y op.2 in
+      let there = known op.0 op.1 (subst (λ (m : Moment). Knows base m) at (known_stamp base y (ap (is_unknown base) (sym is) ∙ out))) in
+      ap (λ r. newer (by_both stamp_cmp body_cmp) r (B key ks)) (sym op.2) ∙ absorbed (by_both stamp_cmp body_cmp) (both_total stamps_total bodies_total) (exact_pairs stamp_cmp body_cmp exact_stamps exact_bodies) (body_of key) ks op.0 there
+
+  left_expiry : (key : List ℕ) → is_unknown base (latest_expiry ls key) ≡ false → Missing nat_cmp nat_cmp_total exact_unsigned (X key ks) (latest_expiry ls key)
+  left_expiry key out y is =
+      let op = found (by_both stamp_cmp nat_cmp) (expiry_of key) ls y (above_is (floor_of ls) (X key ls) y is).0 in
+      let at = expiry_stamp key op.0 y op.2 in
+      let there = known op.0 op.1 (subst (λ (m : Moment). Knows base m) at (known_stamp base y (ap (is_unknown base) (sym is) ∙ out))) in
+      ap (λ r. newer (by_both stamp_cmp nat_cmp) r (X key ks)) (sym op.2) ∙ absorbed (by_both stamp_cmp nat_cmp) (both_total stamps_total nat_cmp_total) (exact_pairs stamp_cmp nat_cmp exact_stamps exact_unsigned) (expiry_of key) ks op.0 there
+
+  comes_in : (key : List ℕ) (m : Record) → Kept NoTime m.0 (winner ls key) → Kept NoTime m.1 (latest_expiry ls key) → Comes 0 ks ls key (since base m)
+  comes_in key m body expiry = by (is_unknown base m.0) (is_unknown base m.1) refl refl
+    where
+      by : (t u : Bool) → is_unknown base m.0 ≡ t → is_unknown base m.1 ≡ u → Comes 0 ks ls key (cond {A = Record} (t || u) m (None, None))
+      by true u e f = record { body = whole_body key m.0 (winner ls key) refl body; expiry = whole_expiry key m.1 (latest_expiry ls key) refl expiry }
+      by false true e f = record { body = whole_body key m.0 (winner ls key) refl body; expiry = whole_expiry key m.1 (latest_expiry ls key) refl expiry }
+      by false false e f = record { body = inr (refl, left_body key (ap (is_unknown base) (sym (kept_same m.0 (winner ls key) body)) ∙ e)); expiry = inr (refl, left_expiry key (ap (is_unknown base) (sym (kept_same m.1 (latest_expiry ls key) expiry)) ∙ f)) }
 
   holds_with : (key : List ℕ) → Holds NoTime (map_with st d key) (ks ++ ls) key
   holds_with key =
       subst (λ f. Holds NoTime (above_both f (record_joined (st.map key) (d.map key))) (ks ++ ls) key)
       (λ i. floor_joined (sym ok.tells.floors i) (sym comes.tells.floors i))
       (holds_take NoTime 0 never (st.map key) (d.map key) ks ls key (ok.holds key)
-      (record { body = in_body key (d.map key).0 (winner ls key) refl (comes.holds key).body; expiry = in_expiry key (d.map key).1 (latest_expiry ls key) refl (comes.holds key).expiry }))
+      (subst (Comes 0 ks ls key) (sym (comes.lacking key)) (comes_in key (comes.kept key) (comes.holds key).body (comes.holds key).expiry)))
 
   -- a parcel is taken
   pub state_takes : StateOf n s (take s d st) (ks ++ ls) (still_held (ks ++ ls) held)

@@ -4,6 +4,7 @@ use Rattle.std.specs.Prelude.{◌≡◌, ℕ, ◌≤◌, ◌⊎◌, Bool, true, 
 use Rattle.geo_stamp.specs.Stamps.{Moment}
 use Rattle.geo_stamp.specs.Vectors.{greatest_of, entry_of, Knows}
 use Rattle.geo_versions.specs.Operations.{Operation, Register, Record, winner, latest_expiry, record_of, floor_of, latest, Among}
+use Rattle.geo_versions.specs.Maps.{since}
 use Rattle.geo_versions.specs.declared.body.Body.{Body}
 use Rattle.geo_versions.specs.declared.body.Body.TheVariants.{Gone, Value}
 use Rattle.geo_site.specs.Entries.{Held}
@@ -49,8 +50,10 @@ pub record StateOf (sites number : ℕ) (st : SiteState) (ops : List Operation) 
   pub holds : (key : List ℕ) → Holds NoTime (st.map key) ops key
   pub same_held : (key : List ℕ) → st.held key ≡ held key
 
--- what a parcel brings is what its sender knew
-pub record DeltaOf (sites sender : ℕ) (d : Delta) (ops : List Operation) : Type 0 where
+-- what a parcel brings is what its sender kept, but for what the base knows
+pub record DeltaOf (sites sender : ℕ) (base : List ℕ) (d : Delta) (ops : List Operation) : Type 0 where
   pub many : length d.upto ≡ sites
   pub tells : Tells sender d.upto d.floor ops
-  pub holds : (key : List ℕ) → Holds NoTime (d.map key) ops key
+  pub kept : List ℕ → Record
+  pub holds : (key : List ℕ) → Holds NoTime (kept key) ops key
+  pub lacking : (key : List ℕ) → d.map key ≡ since base (kept key)

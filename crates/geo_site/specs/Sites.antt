@@ -1,8 +1,9 @@
 -- What a site of the code is, as a state of the machine, and what a parcel of the code brings.
 use Rattle.std.specs.Prelude.{IsTrue, ◌↔◌, ◌≡◌, ◌≢◌, ◌⊎◌, ℕ, ◌+◌, ◌-◌, ◌≤◌, Bool, true, false, cond, not, ◌&&◌, ◌==◌, nat_le, List, length, Option, None, Some, Result, Ok, Err}
-use Rattle.std.specs.List.{list_all}
+use Rattle.std.specs.List.{All, list_all}
 use Rattle.indexmap.specs.IndexMap.{get, index_map_len}
-use Rattle.geo_stamp.specs.Vectors.{zeros, vector_joined}
+use Rattle.geo_stamp.specs.Acks.{row_of, heard, none_heard}
+use Rattle.geo_stamp.specs.Vectors.{vector_joined}
 use Rattle.geo_versions.specs.Keys.{same_key}
 use Rattle.geo_versions.specs.Maps.{Rec, rec_means, listed_at, since, Rising}
 use Rattle.geo_versions.specs.Maps.{floor_in, record_in, count_in, has_register}
@@ -60,6 +61,10 @@ waiting_in site = site.waiting
 -- the expiry in a record is not below this, but for 0
 abbrev pub EndFrom : ℕ → List ℕ × Rec → Type 0
 EndFrom least entry = (s : Moment) (e : ℕ) → (rec_means entry.1).1 ≡ Some (s, e) → e ≢ 0 → least ≤ e
+
+-- what it last heard of each site's vector
+abbrev pub heard_in : Site → List (List ℕ)
+heard_in site = site.heard
 
 -- how many values it holds
 abbrev pub held_count : Site → ℕ
@@ -119,8 +124,12 @@ abbrev pub HasIssued : Site → Site → List Act → Type 0
 HasIssued old new acts = Same (issue_all old.number acts (state_in old)) (state_in new)
 
 -- nothing that it was told at its start, and not its number, changes
+abbrev pub Remains : Site → Site → Type 0
+Remains old new = (new.number ≡ old.number) × (limits_of new ≡ limits_of old)
+
+-- nor does what it heard of the others
 abbrev pub Stays : Site → Site → Type 0
-Stays old new = (new.number ≡ old.number) × (limits_of new ≡ limits_of old)
+Stays old new = (new.number ≡ old.number) × (limits_of new ≡ limits_of old) × (heard_in new ≡ heard_in old)
 
 -- nothing that it counts, and no flush that waits, changes
 abbrev pub Rests : Site → Site → Type 0
@@ -221,18 +230,19 @@ RefusesFor site parcel takes.Memory = Takes site parcel
 
 -- what a take does, by its result
 abbrev pub TakeDoes : Site → Site → Parcel → Result Taken Refused → Type 0
-TakeDoes old new parcel (Ok taken) = Takes old parcel × Same (take old.number (delta_of parcel) (state_in old)) (state_in new) × (IsTrue taken.rose ↔ (vector_joined old.vector parcel.upto ≢ old.vector)) × (held_count new + taken.dropped ≡ held_count old)
-TakeDoes old new parcel (Err refused) = RefusesFor old parcel refused.why × (refused.parcel ≡ parcel) × Same (state_in old) (state_in new)
+TakeDoes old new parcel (Ok taken) = Takes old parcel × Same (take old.number (delta_of parcel) (state_in old)) (state_in new) × (IsTrue taken.rose ↔ (vector_joined old.vector parcel.upto ≢ old.vector)) × (held_count new + taken.dropped ≡ held_count old) × (heard_in new ≡ heard (heard_in old) parcel.from parcel.upto)
+TakeDoes old new parcel (Err refused) = RefusesFor old parcel refused.why × (refused.parcel ≡ parcel) × Same (state_in old) (state_in new) × (heard_in new ≡ heard_in old)
 
--- a parcel to another site, of all that is known
+-- a parcel to another site, of all that is known and that it was not heard to know
 pub record IsSent (site : Site) (to : ℕ) (parcel : Parcel) : Type 0 where
   pub sender : parcel.from ≡ site.number
   pub addressee : parcel.to ≡ to
-  pub base : parcel.base ≡ zeros (length site.vector)
+  pub base : parcel.base ≡ row_of (heard_in site) to
   pub upto : parcel.upto ≡ site.vector
   pub floor : parcel.floor ≡ (state_in site).floor
   pub rising : Rising parcel.records
-  pub records : (q : List ℕ) → listed_at parcel.records q ≡ since (zeros (length site.vector)) ((state_in site).map q)
+  pub filled : All (λ e. rec_means e.1 ≡ (None, None) → ⊥) parcel.records
+  pub records : (q : List ℕ) → listed_at parcel.records q ≡ since (row_of (heard_in site) to) ((state_in site).map q)
 
 -- what a send does, by its result
 abbrev pub IsOther : Site → ℕ → Type 0
@@ -265,5 +275,5 @@ SetupRefuses setup setups.Memory = SitesInRange setup × NumberInRange setup × 
 
 -- what opening a site does, by its result
 abbrev pub OpenDoes : Setup → Result Site SetupError → Type 0
-OpenDoes setup (Ok site) = SitesInRange setup × NumberInRange setup × RecordsInRange setup × (site.number ≡ setup.site) × (limits_of site ≡ record { max_records = setup.max_records; reap_after = setup.reap_after }) × (counts_in site ≡ none_counted) × (waiting_in site ≡ None) × Same (fresh setup.sites) (state_in site)
+OpenDoes setup (Ok site) = SitesInRange setup × NumberInRange setup × RecordsInRange setup × (site.number ≡ setup.site) × (limits_of site ≡ record { max_records = setup.max_records; reap_after = setup.reap_after }) × (counts_in site ≡ none_counted) × (waiting_in site ≡ None) × (heard_in site ≡ none_heard setup.sites) × Same (fresh setup.sites) (state_in site)
 OpenDoes setup (Err why) = SetupRefuses setup why

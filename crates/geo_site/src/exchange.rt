@@ -6,8 +6,9 @@ ghost use Rattle.geo_versions.specs.Operations.{version_in, above_both, record_j
 ghost use Rattle.geo_versions.specs.Maps.{rec_means, listed_at, floor_in, record_in, HasRoomFor, Rising};
 ghost use Rattle.geo_site.specs.Entries.{names, named_by};
 ghost use Rattle.geo_site.specs.Machine.{Same, Settled, take, knows_record, knows_floor};
+ghost use Rattle.geo_stamp.specs.Acks.{row_of};
 ghost use Rattle.geo_stamp.specs.Vectors.{vector_joined};
-ghost use Rattle.geo_site.specs.Sites.{state_in, held_count, Rests, Stays, is_sound, knows_all, Takes, RefusesFor, SendDoes, TakeDoes};
+ghost use Rattle.geo_site.specs.Sites.{state_in, heard_in, held_count, IsSent, Rests, Stays, is_sound, knows_all, Takes, RefusesFor, Remains, SendDoes, TakeDoes};
 
 use crate::blob::Blob;
 use crate::change::drop_held;
@@ -158,8 +159,8 @@ fn join_both(
 }
 
 impl Site {
-    /// Makes a parcel for another site: what it knows of all keys. NoSuchSite exactly for its own number and for one that is
-    /// not configured.
+    /// Makes a parcel for another site: what it knows of all keys and has not heard that the other knows. NoSuchSite exactly for
+    /// its own number and for one that is not configured.
     pub fn send(&self, alloc: Global, to: u8) -> Result<Parcel, SendError>
         ensures { SendDoes self.now to result }
     {
@@ -167,10 +168,29 @@ impl Site {
         if to == 0 || to as usize > sites || to == self.number {
             return Err(SendError::NoSuchSite);
         }
-        let base = Vector::new(sites);
-        match cut(alloc, &self.versions, self.number, to, &base, &self.vector) {
+        let base = self.heard.row(to);
+        if base.covers(&self.vector) {
+            return Ok(self.nothing_new(alloc, to, base));
+        }
+        match cut(alloc, &self.versions, self.number, to, base, &self.vector) {
             Ok(parcel) => Ok(parcel),
             Err(_) => Err(SendError::Memory),
+        }
+    }
+
+    /// A parcel for a site that was heard to know all that is known here. No record is looked at.
+    fn nothing_new(&self, alloc: Global, to: u8, base: &Vector) -> Parcel
+        requires row { base.now ≡ row_of (heard_in self.now) to }
+        requires known { vector_joined base.now self.now.vector ≡ base.now }
+        ensures { IsSent self.now to result }
+    {
+        Parcel {
+            from: self.number,
+            to,
+            base: base.copied(),
+            upto: self.vector.copied(),
+            floor: self.versions.floor(),
+            records: Items::of(Vec::new(alloc)),
         }
     }
 
@@ -232,7 +252,7 @@ impl Site {
     pub fn take(&mut self, alloc: Global, parcel: Parcel) -> Result<Taken, Refused>
         ensures does { TakeDoes self.old self.new parcel result }
         ensures rests { Rests self.old self.new }
-        ensures stays { Stays self.old self.new }
+        ensures remains { Remains self.old self.new }
     {
         if let Some(why) = self.refusal(&parcel) {
             return Err(Refused { why, parcel });
@@ -248,13 +268,14 @@ impl Site {
             }
         }
         let Parcel {
-            from: _,
+            from,
             to: _,
             base: _,
             upto,
             floor,
             records,
         } = parcel;
+        self.heard.heard(from, &upto);
         Ok(self.join(upto, floor, records))
     }
 }

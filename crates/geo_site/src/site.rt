@@ -9,7 +9,7 @@ ghost use Rattle.geo_site.specs.Machine.{Numbered, Covers, Settled, EndsFrom, kn
 use crate::blob::Blob;
 use crate::refusal::SetupError;
 use crate::setup::{Limits, Setup};
-use geo_stamp::{Stamp, Vector};
+use geo_stamp::{Acks, Stamp, Vector};
 use geo_versions::{Key, Version, Versions};
 use indexmap::IndexMap;
 use std::alloc::{AllocError, Global};
@@ -22,6 +22,8 @@ pub struct Site {
     pub(crate) number: u8,
     pub(crate) limits: Limits,
     pub(crate) vector: Vector,
+    /// What it last heard of each site's vector.
+    pub(crate) heard: Acks,
     pub(crate) versions: Versions,
     pub(crate) held: IndexMap<Key, Blob, RandomState>,
     pub(crate) hits: u64,
@@ -66,6 +68,7 @@ impl Site {
                 reap_after: setup.reap_after,
             },
             vector: Vector::new(setup.sites as usize),
+            heard: Acks::new(setup.sites as usize),
             versions: Versions::new(alloc, setup.hasher),
             held: IndexMap::with_hasher(alloc, hasher),
             hits: 0,

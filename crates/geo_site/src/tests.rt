@@ -1,6 +1,7 @@
 //! What no clause says: that the calls succeed where there is memory, and what clients read, worked out by hand. Here is what the
 //! tests are made of.
 mod clients;
+mod deltas;
 mod flushes;
 mod moments;
 mod open;

@@ -14,6 +14,10 @@ use Rattle.geo_site.specs.Agreement.{Kept, Holds, StateOf}
 use Rattle.geo_site.proofs.Sound.{here, there, held_here, held_there}
 use Rattle.geo_site.proofs.Steps.{state_issues, state_same}
 use Rattle.geo_world.specs.Agreement.{SiteKnown, about, Stands, Carries, Agrees}
+use Rattle.geo_stamp.specs.Acks.{row_of}
+use Rattle.std.proofs.lemmas.Bool.{cases_eq}
+use Rattle.geo_world.specs.Bounds.{Bounded, vectors, rows}
+use Rattle.geo_world.proofs.Bounding.{bounded_same, bounded_issues, vector_was, vector_here, vector_there, rows_stay}
 use Rattle.geo_world.proofs.Worlds.{some_same, some_none}
 
 -- an element after a write is the new one, or one that was there
@@ -26,8 +30,8 @@ get_written (a ∷ xs) (suc s) x (suc k) y h = elim (get_written xs s x k y h) [
 
 module _ (sites : List Site) (parcels : List Parcel) (w v : Known) (agrees : Agrees sites parcels w) (k s : ℕ) (at_number : s ≡ k + 1) (new : Site) where
   pub agrees_changed : Stands (length sites) s new (about v s) → ((t : ℕ) → t ≢ s → about v t ≡ about w t) → v.sent ≡ w.sent
-      → Agrees (slice_set sites k new) parcels v
-  agrees_changed st others sent = record {
+      → Bounded (length sites) (vectors (slice_set sites k new)) (rows (slice_set sites k new)) parcels v.at v.sent → Agrees (slice_set sites k new) parcels v
+  agrees_changed st others sent bounds = record {
     each = λ j number site e got. subst (λ n. Stands n number site (about v number)) (sym (length-set sites k new)) (elim (get_written sites k new j site got) [
       | inl p ↦ let m : s ≡ number = let q = p.0 in omega arith in subst₂ (λ (t : ℕ) (x : Site). Stands (length sites) t x (about v t)) m (sym p.1) st
       | inr p ↦ let ne : number ≢ s = let q = p.0 in omega arith in
@@ -35,6 +39,7 @@ module _ (sites : List Site) (parcels : List Parcel) (w v : Known) (agrees : Agr
     ]);
     as_many = ap length sent ∙ agrees.as_many;
     each_sent = λ p parcel got. subst₂ (λ (n : ℕ) (all : List (ℕ × List Operation)). Carries n parcel (slice_index_or all p (0, []))) (sym (length-set sites k new)) (sym sent) (agrees.each_sent p parcel got);
+    bounds = subst (λ n. Bounded n (vectors (slice_set sites k new)) (rows (slice_set sites k new)) parcels v.at v.sent) (sym (length-set sites k new)) bounds;
   }
 
 -- a site settles, and what is known of the others stays
@@ -98,6 +103,17 @@ waits_there w s x t ne = let other = put_there w.waiting s x t ne in
 
 -- ---- what a site does, of which all is known
 module _ (sites : List Site) (parcels : List Parcel) (w : Known) (agrees : Agrees sites parcels w) (k s : ℕ) (at_number : s ≡ k + 1) (hi : s ≤ length sites) (old new : Site) (got : slice_get sites k ≡ Some old) (stays : Stays old new) where
+  bounds_issued : (acts : List Act) (v : Known) → Stands (length sites) s old (about w s) → Same (issue_all s acts (state_in old)) (state_in new) → v.at s ≡ (issues w s acts).at s
+      → ((t : ℕ) → t ≢ s → about v t ≡ about (issues w s acts) t) → v.sent ≡ (issues w s acts).sent → Bounded (length sites) (vectors (slice_set sites k new)) (rows (slice_set sites k new)) parcels v.at v.sent
+  bounds_issued acts v st same ops others sent =
+      let n = length sites in
+      let V' = vectors (slice_set sites k new) in
+      let i = issues w s acts in
+      let issued = bounded_issues n s (rows sites) parcels (omega (arith, at_number)) hi acts w (state_in old) (vectors sites) V' agrees.bounds st.state (vector_was sites k s at_number hi old new got)
+      (vector_here sites k s at_number hi old new got ∙ same.vector) (λ t ne. vector_there sites k s at_number hi old new got t ne) in
+      bounded_same n V' V' (rows sites) (rows (slice_set sites k new)) parcels i.at v.at i.sent v.sent (λ t. refl) (rows_stay sites k s at_number hi old new got stays.2)
+      (λ t. elim (cases_eq t s) [ inl e ↦ ap v.at e ∙ ops ∙ ap i.at (sym e) | inr ne ↦ ap (λ (x : SiteKnown). x.ops) (others t ne) ]) sent issued
+
   -- it issues operations, and counts and waits as is known then
   pub agrees_issued : (acts : List Act) (v : Known) → HasIssued old new acts → v.at s ≡ (issues w s acts).at s → v.held s ≡ (issues w s acts).held s
       → counts_in new ≡ v.counts s → waiting_in new ≡ v.waiting s → v.limits s ≡ w.limits s → ((t : ℕ) → t ≢ s → about v t ≡ about (issues w s acts) t) → v.sent ≡ (issues w s acts).sent
@@ -113,8 +129,10 @@ module _ (sites : List Site) (parcels : List Parcel) (w : Known) (agrees : Agree
         counts = counts;
         waiting = waiting;
         limits = stays.1 ∙ st.limits ∙ sym limits;
+        rows = λ other lo most. ap (λ h. length (row_of h other)) stays.2 ∙ st.rows other lo most;
       })
       (λ t ne. others t ne ∙ issues_others w s acts t ne) (sent ∙ issues_sent w s acts)
+      (bounds_issued acts v st same ops others sent)
 
   -- it changes nothing
   pub agrees_still : Same (state_in old) (state_in new) → Rests old new → Agrees (slice_set sites k new) parcels w

@@ -6,8 +6,9 @@ use Rattle.std.proofs.lemmas.Option.{slice_get_within}
 use Rattle.std.proofs.lemmas.List.{get_or_append_left, length-append}
 use Rattle.std.proofs.Math.Seq.{get_or-append_seam}
 use Rattle.geo_stamp.specs.Stamps.{Moment}
-use Rattle.geo_stamp.specs.Vectors.{zeros, entry_of, vector_joined}
-use Rattle.geo_versions.specs.Operations.{Operation, Register, Record, winner, latest_expiry}
+use Rattle.geo_stamp.specs.Acks.{row_of, heard}
+use Rattle.geo_stamp.specs.Vectors.{entry_of, vector_joined, raised, greatest_of}
+use Rattle.geo_versions.specs.Operations.{Operation, Register, Record, latest, winner, latest_expiry}
 use Rattle.geo_versions.specs.Maps.{Rec, rec_means, listed_at, is_unknown, since, Rising}
 use Rattle.geo_versions.specs.declared.body.Body.{Body}
 use Rattle.geo_delta.specs.declared.parcel.Parcel.{Parcel}
@@ -22,13 +23,16 @@ use Rattle.geo_site.specs.declared.refusal.TakeError.TheVariants.{NotForMe, Unkn
 use Rattle.geo_site.specs.declared.refusal.TakeError.TheVariants as takes
 use Rattle.geo_site.specs.Entries.{Held}
 use Rattle.geo_site.specs.Machine.{SiteState, Same, take, knows_record, knows_floor}
-use Rattle.geo_site.specs.Sites.{state_in, delta_of, knows_all, is_sound, Rests, Stays, Takes, RefusesFor, IsSent, SendRefuses}
+use Rattle.geo_site.specs.Sites.{Remains, heard_in, state_in, delta_of, knows_all, is_sound, Rests, Stays, Takes, RefusesFor, IsSent, SendRefuses}
 use Rattle.geo_site.specs.Schedule.{Known, settles, still_held, carried, addressee, happens, Lawful, TakeRefusedFor, SendRefusedFor}
 use Rattle.geo_site.specs.Agreement.{Kept, Holds, NoTime, Tells, StateOf}
 use Rattle.geo_versions.proofs.InOrder.{each_listed}
-use Rattle.geo_site.proofs.Sound.{here, held_here}
+use Rattle.geo_site.proofs.Sound.{here, there, held_here}
 use Rattle.geo_site.proofs.Steps.{state_takes, state_same, zeros_length, told_positive_body, told_positive_expiry}
 use Rattle.geo_world.specs.Agreement.{SiteKnown, about, Stands, Carries, Agrees}
+use Rattle.geo_site.proofs.Entries.{length_joined}
+use Rattle.geo_world.specs.Bounds.{Bounded, vectors, rows, IsAbove}
+use Rattle.geo_world.proofs.Bounding.{left_known, bounded_takes, bounded_sends, vector_was, vector_here, vector_there, row_was, row_here, row_there, heard_here, heard_there}
 use Rattle.geo_world.proofs.Worlds.{some_none, get_appended}
 use Rattle.geo_world.proofs.Changing.{agrees_changed, agrees_still, settled_about}
 
@@ -47,63 +51,34 @@ since_known v base r h = by (is_unknown base r.0 || is_unknown base r.1)
     by true = h
     by false = refl
 
--- ---- of what is sent, nothing is left out
-index_zeros : (n k : ℕ) → slice_index (zeros n) k ≡ 0
-index_zeros zero k = refl
-index_zeros (suc n) zero = refl
-index_zeros (suc n) (suc k) = index_zeros n k
-
-entry_zeros : (n j : ℕ) → entry_of (zeros n) j ≡ 0
-entry_zeros n zero = refl
-entry_zeros n (suc k) = index_zeros n k
-
-unknown_positive : {A : Type 0} (n : ℕ) (x : Moment × A) → 0 < x.0.time → is_unknown (zeros n) (Some x) ≡ true
-unknown_positive n x lt =
-    let e = entry_zeros n x.0.site in
-    let h : nat_le x.0.time (entry_of (zeros n) x.0.site) ≡ false = grind (arith, nat_tests) in
-    ap not h
-
-since_all : (n : ℕ) (r : Record) → ((y : Moment × Body) → r.0 ≡ Some y → 0 < y.0.time) → ((y : Moment × ℕ) → r.1 ≡ Some y → 0 < y.0.time) → since (zeros n) r ≡ r
-since_all n (None, None) p q = refl
-since_all n (Some x, e) p q = ap (λ t. cond {A = Record} (t || is_unknown (zeros n) e) (Some x, e) (None, None)) (unknown_positive n x (p x refl))
-since_all n (None, Some y) p q = ap (λ t. cond {A = Record} t (None, Some y) (None, None)) (unknown_positive n y (q y refl))
-
-kept_positive : {A : Type 0} (m r : Register A) → Kept NoTime m r → ((y : Moment × A) → r ≡ Some y → 0 < y.0.time) → (y : Moment × A) → m ≡ Some y → 0 < y.0.time
-kept_positive m r (inl e) h y is = h y (sym e ∙ is)
-kept_positive m r (inr e) h y is = absurd (some_none (sym is ∙ e.0))
-
-module _ (n s : ℕ) (st : SiteState) (ops : List Operation) (held : Held) (ok : StateOf n s st ops held) where
-  sends_all : (key : List ℕ) → since (zeros n) (st.map key) ≡ st.map key
-  sends_all key = since_all n (st.map key)
-      (kept_positive (st.map key).0 (winner ops key) (ok.holds key).body (told_positive_body s st.vector st.floor ops ok.tells key))
-      (kept_positive (st.map key).1 (latest_expiry ops key) (ok.holds key).expiry (told_positive_expiry s st.vector st.floor ops ok.tells key))
-
 -- ---- a send
-pub carries_sent : (n s to : ℕ) (site : Site) (parcel : Parcel) (known_of : SiteKnown) → Stands n s site known_of → 1 ≤ s → s ≤ n → to ≢ site.number → IsSent site to parcel → Carries n parcel (to, known_of.ops)
-carries_sent n s to site parcel known_of st lo hi ne sent =
+pub carries_sent : (n s to : ℕ) (site : Site) (parcel : Parcel) (known_of : SiteKnown) → Stands n s site known_of → 1 ≤ s → s ≤ n → 1 ≤ to → to ≤ n → to ≢ site.number → IsSent site to parcel → Carries n parcel (to, known_of.ops)
+carries_sent n s to site parcel known_of st lo hi to_first to_last ne sent =
     let ops = known_of.ops in
-    let held = known_of.held in
     let many : length site.vector ≡ n = st.state.many in
     let from : parcel.from ≡ s = sent.sender ∙ st.own in
     let known : (q : List ℕ) → knows_record parcel.upto (listed_at parcel.records q) ≡ true =
-    λ q. (λ i. knows_record (sent.upto i) (sent.records q i)) ∙ since_known site.vector (zeros (length site.vector)) ((state_in site).map q) (site.covered q) in
+    λ q. (λ i. knows_record (sent.upto i) (sent.records q i)) ∙ since_known site.vector (row_of (heard_in site) to) ((state_in site).map q) (site.covered q) in
     record {
       addressee = sent.addressee;
       other = λ e. ne (sym (sym sent.sender ∙ e ∙ sent.addressee));
       from_first = subst (λ k. 1 ≤ k) (sym from) lo;
       from_last = subst (λ k. k ≤ n) (sym from) hi;
-      base = sent.base ∙ ap zeros many;
+      base = ap length sent.base ∙ st.rows to to_first to_last;
       floor_known = (λ i. knows_floor (sent.upto i) (sent.floor i)) ∙ site.floor_known;
       records_known = rising_known parcel.upto parcel.records sent.rising known;
       delta = record {
         many = ap length sent.upto ∙ many;
         tells = subst (λ k. Tells k parcel.upto parcel.floor ops) (sym from) (subst₂ (λ (v : List ℕ) (f : Option Moment). Tells s v f ops) (sym sent.upto) (sym sent.floor) st.state.tells);
-        holds = λ key. subst (λ (m : Record). Holds NoTime m ops key) (sym (sent.records key ∙ ap (λ m. since (zeros m) ((state_in site).map key)) many ∙ sends_all n s (state_in site) ops held st.state key)) (st.state.holds key);
+        kept = (state_in site).map;
+        holds = st.state.holds;
+        lacking = λ key. sent.records key ∙ ap (λ base. since base ((state_in site).map key)) (sym sent.base);
       };
     }
 
-pub agrees_sent : (sites : List Site) (parcels : List Parcel) (w : Known) (s to : ℕ) (parcel : Parcel) → Agrees sites parcels w → Carries (length sites) parcel (to, w.at s) → Agrees sites (parcels ++ parcel ∷ []) (record { at = w.at; held = w.held; counts = w.counts; waiting = w.waiting; limits = w.limits; sent = w.sent ++ (to, w.at s) ∷ [] })
-agrees_sent sites parcels w s to parcel agrees c =
+pub agrees_sent : (sites : List Site) (parcels : List Parcel) (w : Known) (k s to : ℕ) (site : Site) (parcel : Parcel) → Agrees sites parcels w → s ≡ k + 1 → slice_get sites k ≡ Some site → s ≤ length sites → 1 ≤ to → to ≤ length sites → IsSent site to parcel → Carries (length sites) parcel (to, w.at s)
+    → Agrees sites (parcels ++ parcel ∷ []) (record { at = w.at; held = w.held; counts = w.counts; waiting = w.waiting; limits = w.limits; sent = w.sent ++ (to, w.at s) ∷ [] })
+agrees_sent sites parcels w k s to site parcel agrees at_number got hi to_first to_last sent c =
     let d : ℕ × List Operation = (0, []) in
     let x0 : ℕ × List Operation = (to, w.at s) in
     record {
@@ -115,15 +90,11 @@ agrees_sent sites parcels w s to parcel agrees c =
         | inr q ↦ let seam = get_or-append_seam w.sent x0 [] d in
             subst₂ (λ (x : Parcel) (sent : ℕ × List Operation). Carries (length sites) x sent) (sym q.1) (sym (ap (λ p. get_or (w.sent ++ x0 ∷ []) p d) (q.0 ∙ sym agrees.as_many) ∙ seam)) c
       ];
+      bounds = bounded_sends (length sites) s to (vectors sites) (rows sites) parcels w.at w.sent parcel agrees.bounds agrees.as_many (sent.sender ∙ (agrees.each k s site at_number got).own) sent.addressee
+          (sent.upto ∙ sym (vector_was sites k s at_number hi site site got)) (sent.base ∙ sym (row_was sites k s at_number hi site site got to)) to_first to_last;
     }
 
 -- ---- a take
-joined_zeros : (xs : List ℕ) (n : ℕ) → length xs ≡ n → vector_joined xs (zeros n) ≡ xs
-joined_zeros [] zero e = refl
-joined_zeros [] (suc n) e = absurd (omega arith)
-joined_zeros (x ∷ xs) zero e = refl
-joined_zeros (x ∷ xs) (suc n) e = let h : max x 0 ≡ x = omega arith in λ i. h i ∷ joined_zeros xs n (omega arith) i
-
 all_true : (a b c d e f : Bool) → a ≡ true → b ≡ true → c ≡ true → d ≡ true → e ≡ true → f ≡ true → a && b && c && d && e && f ≡ true
 all_true a b c d e f p q r s t u = λ i. p i && q i && r i && s i && t i && u i
 
@@ -141,12 +112,12 @@ sound_parcel n number parcel sent c to =
     all_true (nat_le 1 parcel.from && nat_le parcel.from n) (not (parcel.from == number)) (length parcel.base == n) (length parcel.upto == n) (knows_floor parcel.upto parcel.floor) (knows_all parcel.upto parcel.records)
     (λ i. at_most 1 parcel.from c.from_first i && at_most parcel.from n c.from_last i)
     (is_other parcel.from number (λ e. c.other (e ∙ sym to)))
-    (is_equal (length parcel.base) n (ap length c.base ∙ zeros_length n))
+    (is_equal (length parcel.base) n c.base)
     (is_equal (length parcel.upto) n c.delta.many)
     c.floor_known c.records_known
 
 module _ (sites : List Site) (parcels : List Parcel) (w : Known) (agrees : Agrees sites parcels w) (k s p : ℕ) (at_number : s ≡ k + 1) (hi : s ≤ length sites) (old new : Site) (got : slice_get sites k ≡ Some old)
-    (parcel : Parcel) (got_parcel : slice_get parcels p ≡ Some parcel) (rests : Rests old new) (stays : Stays old new) where
+    (parcel : Parcel) (got_parcel : slice_get parcels p ≡ Some parcel) (rests : Rests old new) (remains : Remains old new) where
   carries : Carries (length sites) parcel (slice_index_or w.sent p (0, []))
   carries = agrees.each_sent p parcel got_parcel
 
@@ -156,8 +127,42 @@ module _ (sites : List Site) (parcels : List Parcel) (w : Known) (agrees : Agree
   pub taken_lawful : Takes old parcel → Lawful w (Take s p) Taken
   taken_lawful t = sym (agrees.each_sent p parcel got_parcel).addressee ∙ t.0 ∙ (agrees.each k s old at_number got).own
 
-  pub taken_agrees : Same (take old.number (delta_of parcel) (state_in old)) (state_in new) → Agrees (slice_set sites k new) parcels (happens w (Take s p) Taken)
-  taken_agrees same =
+  -- what it heard of the sender is longer known
+  rows_taken : heard_in new ≡ heard (heard_in old) parcel.from parcel.upto → (other : ℕ) → 1 ≤ other → other ≤ length sites → length (row_of (heard_in new) other) ≡ length sites
+  rows_taken heard_now other lo most =
+      let row = stands.rows other lo most in
+      ap (λ h. length (row_of h other)) heard_now ∙ elim (cases_eq other parcel.from) [
+        | inl e ↦ ap (λ t. length (row_of (heard (heard_in old) t parcel.upto) other)) (sym e)
+            ∙ ap length (heard_here (heard_in old) other parcel.upto (omega (arith, row, lo, most)))
+            ∙ length_joined (row_of (heard_in old) other) parcel.upto (row ∙ sym carries.delta.many) ∙ row
+        | inr ne ↦ ap length (heard_there (heard_in old) parcel.from other parcel.upto ne) ∙ row
+      ]
+
+  bounds_taken : Takes old parcel → StateOf (length sites) s (state_in new) (w.at s ++ carried w p) (still_held (w.at s ++ carried w p) (w.held s)) → Same (take s (delta_of parcel) (state_in old)) (state_in new) → heard_in new ≡ heard (heard_in old) parcel.from parcel.upto
+      → Bounded (length sites) (vectors (slice_set sites k new)) (rows (slice_set sites k new)) parcels (settles w s (w.at s ++ carried w p) (w.held s)).at w.sent
+  bounds_taken takes ok same heard_now =
+      let ops = w.at s ++ carried w p in
+      let v = settles w s ops (w.held s) in
+      let was = vector_was sites k s at_number hi old new got in
+      let now = vector_here sites k s at_number hi old new got in
+      let gains = here w s ops (w.held s) in
+      let own = ok.tells.own in
+      let first = carries.from_first in
+      let last = carries.from_last in
+      let row = stands.rows parcel.from first last in
+      bounded_takes (length sites) s p (vectors sites) (vectors (slice_set sites k new)) (rows sites) (rows (slice_set sites k new)) parcels w.at v.at w.sent parcel agrees.bounds got_parcel (omega (arith, at_number)) hi
+      (now ∙ same.vector ∙ ap (λ x. raised (vector_joined x parcel.upto) s (greatest_of (vector_joined x parcel.upto))) (sym was))
+      (λ t ne. vector_there sites k s at_number hi old new got t ne) gains (λ t ne. there w s ops (w.held s) t ne)
+      (let e = ap (λ x. entry_of x s) now in let l = ap latest gains in omega (arith, own, e, l))
+      (row_here sites k s at_number hi old new got parcel.from ∙ ap (λ h. row_of h parcel.from) heard_now ∙ heard_here (heard_in old) parcel.from parcel.upto (omega (arith, row, first, last)) ∙ ap (λ r. vector_joined r parcel.upto) (sym (row_was sites k s at_number hi old new got parcel.from)))
+      (λ r q other. elim (cases_eq r s) [
+        | inl e ↦ ap (λ t. rows (slice_set sites k new) t q) e ∙ row_here sites k s at_number hi old new got q ∙ ap (λ h. row_of h q) heard_now ∙ heard_there (heard_in old) parcel.from q parcel.upto (λ f. other e f)
+            ∙ sym (row_was sites k s at_number hi old new got q) ∙ ap (λ t. rows sites t q) (sym e)
+        | inr ne ↦ row_there sites k s at_number hi old new got r q ne
+      ])
+
+  pub taken_agrees : Takes old parcel → Same (take old.number (delta_of parcel) (state_in old)) (state_in new) → heard_in new ≡ heard (heard_in old) parcel.from parcel.upto → Agrees (slice_set sites k new) parcels (happens w (Take s p) Taken)
+  taken_agrees takes same heard_now =
       let st = agrees.each k s old at_number got in
       let c = agrees.each_sent p parcel got_parcel in
       let n = length sites in
@@ -165,17 +170,19 @@ module _ (sites : List Site) (parcels : List Parcel) (w : Known) (agrees : Agree
       let v = settles w s ops (w.held s) in
       let same2 : Same (take s (delta_of parcel) (state_in old)) (state_in new) = subst (λ m. Same (take m (delta_of parcel) (state_in old)) (state_in new)) st.own same in
       let many = st.state.many in
-      let takes_it = state_takes n s parcel.from (state_in old) (delta_of parcel) (w.at s) (carried w p) (w.held s) st.state c.delta (record { above = omega arith; below = omega (arith, many) }) in
+      let known = left_known n s p (vectors sites) (vectors sites) (rows sites) (rows sites) parcels w.at w.at w.sent parcel agrees.bounds got_parcel (omega (arith, at_number)) hi (takes.0 ∙ st.own) in
+      let takes_it = state_takes n s parcel.from parcel.base (state_in old) (delta_of parcel) (w.at s) (carried w p) (w.held s) st.state c.delta (record { above = omega arith; below = omega (arith, many) }) known in
+      let ok = state_same n s (take s (delta_of parcel) (state_in old)) (state_in new) ops (still_held ops (w.held s)) takes_it same2 in
       agrees_changed sites parcels w v agrees k s at_number new
       (record {
-        own = stays.0 ∙ st.own;
-        state = subst₂ (λ (ops : List Operation) (h : Held). StateOf n s (state_in new) ops h) (sym (here w s ops (w.held s))) (sym (held_here w s ops (w.held s)))
-            (state_same n s (take s (delta_of parcel) (state_in old)) (state_in new) ops (still_held ops (w.held s)) takes_it same2);
+        own = remains.0 ∙ st.own;
+        state = subst₂ (λ (ops : List Operation) (h : Held). StateOf n s (state_in new) ops h) (sym (here w s ops (w.held s))) (sym (held_here w s ops (w.held s))) ok;
         counts = rests.0 ∙ st.counts;
         waiting = rests.1 ∙ st.waiting;
-        limits = stays.1 ∙ st.limits;
+        limits = remains.1 ∙ st.limits;
+        rows = rows_taken heard_now;
       })
-      (λ t ne. settled_about w s ops (w.held s) t ne) refl
+      (λ t ne. settled_about w s ops (w.held s) t ne) refl (bounds_taken takes ok same2 heard_now)
 
   pub refused_lawful : (why : TakeError) → RefusesFor old parcel why → Lawful w (Take s p) (TakeRefused why)
   refused_lawful why r =
@@ -186,12 +193,12 @@ module _ (sites : List Site) (parcels : List Parcel) (w : Known) (agrees : Agree
       by : (why : TakeError) → RefusesFor old parcel why → Stands (length sites) s old (about w s) → Carries (length sites) parcel (slice_index_or w.sent p (0, [])) → TakeRefusedFor s (addressee w p) why
       by NotForMe r st c = λ e. r (c.addressee ∙ e ∙ sym st.own)
       by UnknownSite r st c = absurd (true≢false (sym (sound_parcel (length old.vector) old.number parcel _ (subst (λ n. Carries n parcel (slice_index_or w.sent p (0, []))) (sym st.state.many) c) r.0) ∙ r.1))
-      by Gap r st c = absurd (r.2 (ap (vector_joined old.vector) c.base ∙ joined_zeros old.vector (length sites) st.state.many))
+      by Gap r st c = absurd (r.2 (subst (λ v. IsAbove v parcel.base) (vector_was sites k s at_number hi old new got) (subst (λ t. IsAbove (vectors sites t) parcel.base) (r.0 ∙ st.own) (agrees.bounds.sent_base p parcel got_parcel))))
       by takes.Memory r st c = sym c.addressee ∙ r.0 ∙ st.own
 
-  pub refused_agrees : (why : TakeError) → Same (state_in old) (state_in new) → Agrees (slice_set sites k new) parcels (happens w (Take s p) (TakeRefused why))
-  refused_agrees why same =
-      agrees_still sites parcels w agrees k s at_number hi old new got stays same rests
+  pub refused_agrees : (why : TakeError) → Same (state_in old) (state_in new) → heard_in new ≡ heard_in old → Agrees (slice_set sites k new) parcels (happens w (Take s p) (TakeRefused why))
+  refused_agrees why same heard_now =
+      agrees_still sites parcels w agrees k s at_number hi old new got (remains.0, remains.1, heard_now) same rests
 
 pub send_refused : (n s to : ℕ) (site : Site) (known_of : SiteKnown) → Stands n s site known_of → 1 ≤ to → to ≤ n → (why : SendError) → SendRefuses site to why → SendRefusedFor s to why
 send_refused n s to site known_of st lo hi NoSuchSite r = elim (cases_eq to s) [

@@ -1,4 +1,6 @@
 pub mod Worlds
+pub mod Bounding
+pub mod Opening
 pub mod Changing
 pub mod Answering
 pub mod Exchanging

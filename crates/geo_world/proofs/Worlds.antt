@@ -60,34 +60,11 @@ get_appended [] x (suc p) y h = absurd (some_none (sym h))
 get_appended (a ∷ xs) x zero y h = inl h
 get_appended (a ∷ xs) x (suc p) y h = elim (get_appended xs x p y h) [ inl q ↦ inl q | inr q ↦ inr (ap suc q.0, q.1) ]
 
-pub each_more : (limits : ℕ → Limits) (n k : ℕ) (xs : List Site) (x : Site) → length xs ≡ k → ((j number : ℕ) (site : Site) → number ≡ j + 1 → slice_get xs j ≡ Some site → Stands n number site (nothing_about (limits number))) → Stands n (k + 1) x (nothing_about (limits (k + 1)))
-    → (j number : ℕ) (site : Site) → number ≡ j + 1 → slice_get (xs ++ x ∷ []) j ≡ Some site → Stands n number site (nothing_about (limits number))
-each_more limits n k xs x len each new j number site e at = elim (get_appended xs x j site at) [
-  | inl old ↦ each j number site e old
-  | inr p ↦ let m : k + 1 ≡ number = let q = p.0 in omega arith in subst₂ (λ (m : ℕ) (s : Site). Stands n m s (nothing_about (limits m))) m (sym p.1) new
-]
-
 pub numbered_all : (xs : List Setup) → are_setups xs ≡ true → are_numbered (length xs) 1 xs ≡ true
 numbered_all xs h = (both (nat_le 1 (length xs) && nat_le (length xs) 16) (are_numbered (length xs) 1 xs) h).1
 
-pub agrees_open : (limits : ℕ → Limits) (sites : List Site) (parcels : List Parcel) (n : ℕ) → length sites ≡ n → parcels ≡ [] → ((k number : ℕ) (site : Site) → number ≡ k + 1 → slice_get sites k ≡ Some site → Stands n number site (nothing_about (limits number))) → Agrees sites parcels (nothing_known limits)
-agrees_open limits sites parcels n many none each = record {
-  each = λ k number site e at. subst (λ m. Stands m number site (nothing_about (limits number))) (sym many) (each k number site e at);
-  as_many = sym (ap length none);
-  each_sent = λ p parcel at. absurd (some_none (sym (sym (ap (λ ps. slice_get ps p) none) ∙ at)));
-}
-
 pub numbered_get : (n number : ℕ) (xs : List Setup) (i : ℕ) (d : Setup) → are_numbered n number xs ≡ true → i < length xs → GoodSetup n (number + i) (get_or xs i d)
 numbered_get n number xs i d h lt = numbered_at n number xs i (get_or xs i d) h (slice_get-get_or xs i d lt)
-
-pub stands_of : (n number a b : ℕ) (limits most : Limits) (site : Site) → site.number ≡ a → limits_of site ≡ most → counts_in site ≡ none_counted → waiting_in site ≡ None → Same (fresh b) (state_in site) → a ≡ number → b ≡ n → most ≡ limits → Stands n number site (nothing_about limits)
-stands_of n number a b limits most site is at_most none waits same p q r = record {
-  own = is ∙ p;
-  state = state_same n number (fresh n) (state_in site) [] (λ _. None) (state_fresh n number) (subst (λ m. Same (fresh m) (state_in site)) q same);
-  counts = none;
-  waiting = waits;
-  limits = at_most ∙ r;
-}
 
 -- what the setup that an index reads tells
 pub limits_read : (xs : List Setup) (i : ℕ) (d : Setup) → i < length xs → ◌≡◌ {A = Limits} (record { max_records = (get_or xs i d).max_records; reap_after = (get_or xs i d).reap_after }) (limits_at xs i)

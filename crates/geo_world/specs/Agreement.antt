@@ -1,12 +1,12 @@
 -- Sites and parcels of the code are what is known of them.
 use Rattle.std.specs.Prelude.{Result, Ok, Err, ◌≡◌, ◌≢◌, ℕ, ◌+◌, ◌≤◌, true, false, List, [], length, Option, Some, None, slice_get, slice_index_or}
-use Rattle.geo_stamp.specs.Vectors.{zeros}
+use Rattle.geo_stamp.specs.Acks.{row_of}
 use Rattle.geo_versions.specs.Operations.{Operation, version_in, version_of, floor_of}
 use Rattle.geo_delta.specs.declared.parcel.Parcel.{Parcel}
 use Rattle.geo_site.specs.declared.site.Site.{Site}
 use Rattle.geo_site.specs.Entries.{Held, Counts, none_counted}
 use Rattle.geo_site.specs.Machine.{knows_floor}
-use Rattle.geo_site.specs.Sites.{state_in, counts_in, waiting_in, limits_of, delta_of, knows_all}
+use Rattle.geo_site.specs.Sites.{state_in, counts_in, waiting_in, limits_of, heard_in, delta_of, knows_all}
 use Rattle.geo_site.specs.Schedule.{Known, happens, Lawful}
 use Rattle.geo_site.specs.declared.setup.Setup.{Setup}
 use Rattle.geo_site.specs.declared.setup.Limits.{Limits}
@@ -18,6 +18,7 @@ use Rattle.geo_world.specs.declared.outcome.WorldError.TheVariants.{Setups, BadE
 use Rattle.geo_world.specs.declared.world.World.{World}
 use Rattle.geo_world.specs.Setups.{are_setups, start}
 use Rattle.geo_world.specs.There.{is_there, IsMissing}
+use Rattle.geo_world.specs.Bounds.{Bounded, vectors, rows}
 
 -- what is known of one site
 pub record SiteKnown : Type 0 where
@@ -40,23 +41,25 @@ pub record Stands (sites number : ℕ) (site : Site) (known : SiteKnown) : Type 
   pub counts : counts_in site ≡ known.counts
   pub waiting : waiting_in site ≡ known.waiting
   pub limits : limits_of site ≡ known.limits
+  pub rows : (other : ℕ) → 1 ≤ other → other ≤ sites → length (row_of (heard_in site) other) ≡ sites
 
--- the parcel is for its addressee, from another site, knows all its stamps, and is what its sender knew
+-- the parcel is for its addressee, from another site, knows all its stamps, and is what its sender knew and the base does not
 pub record Carries (sites : ℕ) (parcel : Parcel) (sent : ℕ × List Operation) : Type 0 where
   pub addressee : parcel.to ≡ sent.0
   pub other : parcel.from ≢ parcel.to
   pub from_first : 1 ≤ parcel.from
   pub from_last : parcel.from ≤ sites
-  pub base : parcel.base ≡ zeros sites
+  pub base : length parcel.base ≡ sites
   pub floor_known : knows_floor parcel.upto parcel.floor ≡ true
   pub records_known : knows_all parcel.upto parcel.records ≡ true
-  pub delta : DeltaOf sites parcel.from (delta_of parcel) sent.1
+  pub delta : DeltaOf sites parcel.from parcel.base (delta_of parcel) sent.1
 
--- each site and each parcel is what is known of it
+-- each site and each parcel is what is known of it, and no vector promises more than is known
 pub record Agrees (sites : List Site) (parcels : List Parcel) (w : Known) : Type 0 where
   pub each : (k number : ℕ) (site : Site) → number ≡ k + 1 → slice_get sites k ≡ Some site → Stands (length sites) number site (about w number)
   pub as_many : length w.sent ≡ length parcels
   pub each_sent : (p : ℕ) (parcel : Parcel) → slice_get parcels p ≡ Some parcel → Carries (length sites) parcel (slice_index_or w.sent p (0, []))
+  pub bounds : Bounded (length sites) (vectors sites) (rows sites) parcels w.at w.sent
 
 -- the site's floor and versions are those that the operations name
 pub record ShowsVersions (site : Site) (ops : List Operation) : Type 0 where

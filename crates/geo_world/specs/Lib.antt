@@ -1,4 +1,5 @@
 pub mod Setups
 pub mod There
+pub mod Bounds
 pub mod Agreement
 pub mod Plain

@@ -18,7 +18,7 @@ returns-then-has_due_flush c =
         flush = c.tick.ensures.flush;
         recorded = subst (λ n. IsRecordCount (state_in mid).map n) c.records-records.ensures.count c.records-records.ensures.records;
         held = subst (λ n. IsHeldCount (state_in mid).held n) c.items-items.ensures.count c.items-items.ensures.held;
-        does = subst (λ t. RequestDoesBy t mid mid c.args.now c.args.request.now ClockEnded) (sym stuck) (refl, unchanged (state_in mid), (refl, refl), (refl, refl));
+        does = subst (λ t. RequestDoesBy t mid mid c.args.now c.args.request.now ClockEnded) (sym stuck) (refl, unchanged (state_in mid), (refl, refl), (refl, refl, refl));
       };
     }
 

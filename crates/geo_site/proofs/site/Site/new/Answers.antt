@@ -14,8 +14,8 @@ invariant_of-result c =
     let len = ap length c.new.ensures in
     record {
       numbered = (omega arith, omega (arith, z, len), omega (arith, z, len));
-      floor_known = ap (knows_floor c.new.result) c.new-2.ensures.floor;
-      covered = λ key. ap (knows_record c.new.result) (c.new-2.ensures.records key);
-      ends = λ q st e h ne. absurd (none_some (sym (ap (λ (r : Record). r.1) (c.new-2.ensures.records q)) ∙ h));
+      floor_known = ap (knows_floor c.new.result) c.new-3.ensures.floor;
+      covered = λ key. ap (knows_record c.new.result) (c.new-3.ensures.records key);
+      ends = λ q st e h ne. absurd (none_some (sym (ap (λ (r : Record). r.1) (c.new-3.ensures.records q)) ∙ h));
       named = λ key bytes h. absurd (some_none (sym h ∙ ap (lookup (same_key key)) c.with_hasher.ensures.empty));
     }

@@ -8,7 +8,7 @@ returns-then-not-is_to_reap c = record {
   flush = c.tick.ensures.flush;
   does = reaps_nothing c.tick.new.self c.tick.new.self c.args.now c.args.key.now (sym c.if-not-is_to_reap.ensures);
   rests = (refl, refl);
-  stays = (refl, refl);
+  stays = (refl, refl, refl);
 }
 
 pub returns-in_default : goal.returns-in_default
@@ -17,7 +17,7 @@ returns-in_default c = record {
   flush = c.tick.ensures.flush;
   does = reaps_not c.tick.new.self c.tick.new.self c.args.now c.args.key.now (sym c.if-not-is_to_reap.ensures) c.in_default.ensures;
   rests = (refl, refl);
-  stays = (refl, refl);
+  stays = (refl, refl, refl);
 }
 
 pub returns-in-Ok : goal.returns-in-Ok

@@ -5,7 +5,7 @@ use Rattle.geo_versions.specs.Operations.Act.{Touch}
 use Rattle.geo_stamp.specs.Vectors.{greatest_of}
 use Rattle.geo_site.specs.declared.site.Site.{Site}
 use Rattle.geo_site.specs.Machine.{Same, issue, issue_all}
-use Rattle.geo_site.specs.Sites.{state_in, clock_in, counts_in, waiting_in, limits_of}
+use Rattle.geo_site.specs.Sites.{state_in, clock_in, counts_in, waiting_in, limits_of, heard_in}
 use Rattle.geo_site.specs.Entries.{touches_of}
 use Rattle.geo_site.specs.Changes.{HasBody}
 use Rattle.geo_site.proofs.Entries.{Within, greatest_raised}
@@ -15,7 +15,7 @@ use Rattle.geo_site.proofs.site.Site.renew_all.Goals.{in-Some, in_default}
 use Rattle.geo_site.proofs.site.Site.renew_all.Goals as goal
 
 pub loop-entry-init : goal.loop-entry-init
-loop-entry-init c = (unchanged (state_in c.args.self.now), (λ q. refl), omega arith, (refl, refl), (refl, refl))
+loop-entry-init c = (unchanged (state_in c.args.self.now), (λ q. refl), omega arith, (refl, refl), (refl, refl, refl))
 
 pub renew-requires-clause-there : goal.renew-requires-clause-there
 renew-requires-clause-there c = λ none.
@@ -44,7 +44,7 @@ loop-entry-preserved c =
             (λ q. ap (λ (s : Site). ((state_in s).map q).0) is ∙ w.renew.ensures.bodies q ∙ c.loop-entry.invariant.1 q),
             omega (arith, moved, clock, before),
             (ap counts_in is ∙ w.renew.ensures.rests.0 ∙ rests.0, ap waiting_in is ∙ w.renew.ensures.rests.1 ∙ rests.1),
-            (ap (λ (s : Site). s.number) is ∙ w.renew.ensures.stays.0 ∙ stays.0, ap limits_of is ∙ w.renew.ensures.stays.1 ∙ stays.1),
+            (ap (λ (s : Site). s.number) is ∙ w.renew.ensures.stays.0 ∙ stays.0, ap limits_of is ∙ w.renew.ensures.stays.1 ∙ stays.1, ap heard_in is ∙ w.renew.ensures.stays.2 ∙ stays.2),
           )
       | in_default w ↦
           let none = w.in_default.ensures in

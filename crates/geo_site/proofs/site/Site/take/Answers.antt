@@ -1,4 +1,4 @@
-use Rattle.std.proofs.Common.{refl}
+use Rattle.std.proofs.Common.{refl, ◌∙◌}
 use Rattle.geo_site.specs.Sites.{state_in, delta_of}
 use Rattle.geo_site.proofs.Taking.{take_from_same}
 use Rattle.geo_site.proofs.site.Site.take.Goals as goal
@@ -11,4 +11,5 @@ returns-clause-does c =
           (record { vector = refl; floor = ready.floor; map = ready.records; held = λ q. refl }) c.join.ensures.joined,
       c.join.ensures.rose,
       c.join.ensures.dropped,
+      c.join.ensures.stays.2 ∙ c.heard.ensures,
     )

@@ -23,8 +23,11 @@ returns-in_ok-push-in-Ok-clause-kept c = λ w agrees.
     let hi = there.last in
     let got = read_is c.args.self.now.sites.items (c.args.site - 1) c.index-at.result.now (omega arith) c.index-at.ensures in
     let st = agrees.each (c.args.site - 1) c.args.site c.index-at.result.now (omega arith) got in
+    let to_there = there_is n c.args.to c.requires.to_there in
+    let first = to_there.first in
+    let last = to_there.last in
     subst (λ (ps : List Parcel). Agrees c.args.self.now.sites.items ps (record { at = w.at; held = w.held; counts = w.counts; waiting = w.waiting; limits = w.limits; sent = w.sent ++ (c.args.to, w.at c.args.site) ∷ [] })) (sym c.in_ok-push-in-Ok.ensures.items)
-    (agrees_sent _ _ w c.args.site c.args.to c.in-Ok.parcel agrees (carries_sent n c.args.site c.args.to c.index-at.result.now c.in-Ok.parcel (about w c.args.site) st lo hi c.in-Ok.ensures.0.2 c.in-Ok.ensures.1))
+    (agrees_sent _ _ w (c.args.site - 1) c.args.site c.args.to c.index-at.result.now c.in-Ok.parcel agrees (omega arith) got hi first last c.in-Ok.ensures.1 (carries_sent n c.args.site c.args.to c.index-at.result.now c.in-Ok.parcel (about w c.args.site) st lo hi first last c.in-Ok.ensures.0.2 c.in-Ok.ensures.1))
 
 pub returns-in-Err-clause-lawful : goal.returns-in-Err-clause-lawful
 returns-in-Err-clause-lawful c = λ w agrees.

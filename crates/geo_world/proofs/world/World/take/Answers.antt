@@ -11,7 +11,7 @@ returns-in-Ok-clause-lawful c = λ w agrees.
     let hi = there.last in
     let got = read_is c.args.self.now.sites.items (c.args.site - 1) c.index_mut-at.result.now (omega arith) c.index_mut-at.ensures.value in
     let parcel = read_is c.args.self.now.parcels.items c.args.parcel c.index-sent.result.now c.requires.sent c.index-sent.ensures ∙ ap Some (sym c.in_ok-copy.ensures) in
-    taken_lawful _ _ w agrees (c.args.site - 1) c.args.site c.args.parcel (omega arith) hi c.index_mut-at.result.now c.take.new.self got c.in_ok-copy.copy parcel c.in-Ok.ensures.rests c.in-Ok.ensures.stays c.in-Ok.ensures.does.0
+    taken_lawful _ _ w agrees (c.args.site - 1) c.args.site c.args.parcel (omega arith) hi c.index_mut-at.result.now c.take.new.self got c.in_ok-copy.copy parcel c.in-Ok.ensures.rests c.in-Ok.ensures.remains c.in-Ok.ensures.does.0
 
 pub returns-in-Ok-clause-kept : goal.returns-in-Ok-clause-kept
 returns-in-Ok-clause-kept c = λ w agrees.
@@ -21,7 +21,7 @@ returns-in-Ok-clause-kept c = λ w agrees.
     let hi = there.last in
     let got = read_is c.args.self.now.sites.items (c.args.site - 1) c.index_mut-at.result.now (omega arith) c.index_mut-at.ensures.value in
     let parcel = read_is c.args.self.now.parcels.items c.args.parcel c.index-sent.result.now c.requires.sent c.index-sent.ensures ∙ ap Some (sym c.in_ok-copy.ensures) in
-    taken_agrees _ _ w agrees (c.args.site - 1) c.args.site c.args.parcel (omega arith) hi c.index_mut-at.result.now c.take.new.self got c.in_ok-copy.copy parcel c.in-Ok.ensures.rests c.in-Ok.ensures.stays c.in-Ok.ensures.does.1
+    taken_agrees _ _ w agrees (c.args.site - 1) c.args.site c.args.parcel (omega arith) hi c.index_mut-at.result.now c.take.new.self got c.in_ok-copy.copy parcel c.in-Ok.ensures.rests c.in-Ok.ensures.remains c.in-Ok.ensures.does.0 c.in-Ok.ensures.does.1 c.in-Ok.ensures.does.4
 
 pub returns-in-Err-clause-lawful : goal.returns-in-Err-clause-lawful
 returns-in-Err-clause-lawful c = λ w agrees.
@@ -31,7 +31,7 @@ returns-in-Err-clause-lawful c = λ w agrees.
     let hi = there.last in
     let got = read_is c.args.self.now.sites.items (c.args.site - 1) c.index_mut-at.result.now (omega arith) c.index_mut-at.ensures.value in
     let parcel = read_is c.args.self.now.parcels.items c.args.parcel c.index-sent.result.now c.requires.sent c.index-sent.ensures ∙ ap Some (sym c.in_ok-copy.ensures) in
-    refused_lawful _ _ w agrees (c.args.site - 1) c.args.site c.args.parcel (omega arith) hi c.index_mut-at.result.now c.take.new.self got c.in_ok-copy.copy parcel c.in-Err.ensures.rests c.in-Err.ensures.stays c.in-Err.refused.why c.in-Err.ensures.does.0
+    refused_lawful _ _ w agrees (c.args.site - 1) c.args.site c.args.parcel (omega arith) hi c.index_mut-at.result.now c.take.new.self got c.in_ok-copy.copy parcel c.in-Err.ensures.rests c.in-Err.ensures.remains c.in-Err.refused.why c.in-Err.ensures.does.0
 
 pub returns-in-Err-clause-kept : goal.returns-in-Err-clause-kept
 returns-in-Err-clause-kept c = λ w agrees.
@@ -41,4 +41,4 @@ returns-in-Err-clause-kept c = λ w agrees.
     let hi = there.last in
     let got = read_is c.args.self.now.sites.items (c.args.site - 1) c.index_mut-at.result.now (omega arith) c.index_mut-at.ensures.value in
     let parcel = read_is c.args.self.now.parcels.items c.args.parcel c.index-sent.result.now c.requires.sent c.index-sent.ensures ∙ ap Some (sym c.in_ok-copy.ensures) in
-    refused_agrees _ _ w agrees (c.args.site - 1) c.args.site c.args.parcel (omega arith) hi c.index_mut-at.result.now c.take.new.self got c.in_ok-copy.copy parcel c.in-Err.ensures.rests c.in-Err.ensures.stays c.in-Err.refused.why c.in-Err.ensures.does.2
+    refused_agrees _ _ w agrees (c.args.site - 1) c.args.site c.args.parcel (omega arith) hi c.index_mut-at.result.now c.take.new.self got c.in_ok-copy.copy parcel c.in-Err.ensures.rests c.in-Err.ensures.remains c.in-Err.refused.why c.in-Err.ensures.does.2 c.in-Err.ensures.does.3

@@ -7,9 +7,9 @@ use Rattle.geo_cluster.proofs.script.post.Post.take.Goals as goal
 pub returns-in-Ok-clause-takes : goal.returns-in-Ok-clause-takes
 returns-in-Ok-clause-takes c =
     let does = c.in-Ok.ensures.does in
-    let seat : KeepsSeat c.args.self.now.site c.take.new.self = (c.in-Ok.ensures.stays.0, taken_seat c.args.self.now.site c.take.new.self c.args.parcel does.0 does.1, c.in-Ok.ensures.stays.1) in
+    let seat : KeepsSeat c.args.self.now.site c.take.new.self = (c.in-Ok.ensures.remains.0, taken_seat c.args.self.now.site c.take.new.self c.args.parcel does.0 does.1, c.in-Ok.ensures.remains.1) in
     IfOk-weaker c.taken_line.result _ _ (λ text prints. record {
-      outcome = inl (record { prints = prints; may = does.0; state = does.1 });
+      outcome = inl (record { prints = prints; may = does.0; state = does.1; hears = does.4 });
       seat = seat;
       rests = c.in-Ok.ensures.rests;
       reader = refl;
@@ -19,4 +19,4 @@ returns-in-Ok-clause-takes c =
 pub returns-in-Ok-clause-seat : goal.returns-in-Ok-clause-seat
 returns-in-Ok-clause-seat c =
     let does = c.in-Ok.ensures.does in
-    (c.in-Ok.ensures.stays.0, taken_seat c.args.self.now.site c.take.new.self c.args.parcel does.0 does.1, c.in-Ok.ensures.stays.1)
+    (c.in-Ok.ensures.remains.0, taken_seat c.args.self.now.site c.take.new.self c.args.parcel does.0 does.1, c.in-Ok.ensures.remains.1)

@@ -1,0 +1,107 @@
+//! What a parcel leaves out: what its addressee was heard to know.
+use crate::Site;
+use crate::tests::{opened, says, sent, taken, version};
+use geo_delta::Parcel;
+use std::alloc::Global;
+use std::hash::RandomState;
+use std::process::Abort;
+use std::test::Fail;
+
+/// How many records a parcel has, and of the sites 1 to 3 the entries of its base and of what it knows.
+fn shape(parcel: &Parcel) -> (usize, [u64; 3], [u64; 3]) {
+    let entries = |vector: &geo_stamp::Vector| [vector.entry(1), vector.entry(2), vector.entry(3)];
+    (
+        parcel.records.as_slice().len(),
+        entries(&parcel.base),
+        entries(&parcel.upto),
+    )
+}
+
+/// A site writes one byte under a name.
+fn writes(rt: &impl Abort, alloc: Global, site: &mut Site, text: &'static str) -> Result<(), Fail> {
+    says(rt, alloc, site, &[(text, "STORED\r\n")])?;
+    Ok(())
+}
+
+/// One of two sites writes and is acknowledged, and writes again.
+fn acknowledge(rt: &impl Abort, alloc: Global, one: &mut Site, two: &mut Site) -> Result<(), Fail> {
+    writes(rt, alloc, one, "set a 0 0 1\r\nx\r\n")?;
+    let first = sent(alloc, one, 2)?;
+    assert_eq!(rt; shape(&first), (1, [0, 0, 0], [1, 0, 0]));
+    taken(alloc, two, first)?;
+    let back = sent(alloc, two, 1)?;
+    assert_eq!(rt; shape(&back), (0, [1, 0, 0], [1, 1, 0]));
+    taken(alloc, one, back)?;
+    assert_eq!(rt; shape(&sent(alloc, one, 2)?), (0, [1, 1, 0], [1, 1, 0]));
+    writes(rt, alloc, one, "set b 0 0 1\r\ny\r\n")?;
+    Ok(())
+}
+
+/// The second write goes over alone, and both are known then.
+fn go_on(rt: &impl Abort, alloc: Global, one: &Site, two: &mut Site) -> Result<(), Fail> {
+    let second = sent(alloc, one, 2)?;
+    assert_eq!(rt; shape(&second), (1, [1, 1, 0], [2, 1, 0]));
+    assert_eq!(rt; second.records.as_slice()[0].0.bytes(), b"b".as_slice());
+    taken(alloc, two, second)?;
+    assert!(rt; version(alloc, two, b"a")?.is_some());
+    assert!(rt; version(alloc, two, b"b")?.is_some());
+    Ok(())
+}
+
+#[test]
+fn what_is_acknowledged_is_not_told_again(rt: HostRuntime) -> Result<(), Fail> {
+    let alloc = rt.alloc();
+    let mut one = opened(alloc, 1, 2, 100, RandomState::new(&rt)?)?;
+    let mut two = opened(alloc, 2, 2, 100, RandomState::new(&rt)?)?;
+    acknowledge(&rt, alloc, &mut one, &mut two)?;
+    go_on(&rt, alloc, &one, &mut two)
+}
+
+/// A parcel is late, and the next one tells all that it told.
+fn lose(rt: &impl Abort, alloc: Global, one: &mut Site, two: &mut Site) -> Result<(), Fail> {
+    writes(rt, alloc, one, "set a 0 0 1\r\nx\r\n")?;
+    let late = sent(alloc, one, 2)?;
+    writes(rt, alloc, one, "set b 0 0 1\r\ny\r\n")?;
+    let next = sent(alloc, one, 2)?;
+    assert_eq!(rt; shape(&next), (2, [0, 0, 0], [2, 0, 0]));
+    assert!(rt; taken(alloc, two, next)?.rose);
+    assert!(rt; !taken(alloc, two, late)?.rose);
+    assert!(rt; version(alloc, two, b"a")?.is_some());
+    Ok(())
+}
+
+#[test]
+fn what_was_lost_is_told_again(rt: HostRuntime) -> Result<(), Fail> {
+    let alloc = rt.alloc();
+    let mut one = opened(alloc, 1, 2, 100, RandomState::new(&rt)?)?;
+    let mut two = opened(alloc, 2, 2, 100, RandomState::new(&rt)?)?;
+    lose(&rt, alloc, &mut one, &mut two)
+}
+
+/// Site 3 tells both others, and site 1 tells site 2, which has nothing to tell back.
+fn tell_two(
+    rt: &impl Abort,
+    alloc: Global,
+    one: &mut Site,
+    two: &mut Site,
+    three: &mut Site,
+) -> Result<(), Fail> {
+    writes(rt, alloc, three, "set a 0 0 1\r\nx\r\n")?;
+    taken(alloc, one, sent(alloc, three, 1)?)?;
+    taken(alloc, two, sent(alloc, three, 2)?)?;
+    let over = sent(alloc, one, 2)?;
+    assert_eq!(rt; shape(&over), (1, [0, 0, 0], [1, 0, 1]));
+    taken(alloc, two, over)?;
+    assert_eq!(rt; shape(&sent(alloc, two, 1)?), (0, [1, 0, 1], [1, 1, 1]));
+    assert_eq!(rt; shape(&sent(alloc, two, 3)?), (0, [0, 0, 1], [1, 1, 1]));
+    Ok(())
+}
+
+#[test]
+fn what_a_third_site_told_is_left_out_too(rt: HostRuntime) -> Result<(), Fail> {
+    let alloc = rt.alloc();
+    let mut one = opened(alloc, 1, 3, 100, RandomState::new(&rt)?)?;
+    let mut two = opened(alloc, 2, 3, 100, RandomState::new(&rt)?)?;
+    let mut three = opened(alloc, 3, 3, 100, RandomState::new(&rt)?)?;
+    tell_two(&rt, alloc, &mut one, &mut two, &mut three)
+}

@@ -1,0 +1,120 @@
+-- A world that was just opened: no site knows anything.
+use Rattle.std.proofs.Common.{◌≡◌, ℕ, zero, suc, ◌+◌, ◌≤◌, ◌<◌, max, List, [], ◌∷◌, ◌++◌, length, None, Some, refl, sym, ap, ◌∙◌, subst, subst₂, inl, inr, arith, slice_get, Bool, true, false, ◌&&◌, nat_le, true≢false, ◌⊎◌}
+use Rattle.geo_stamp.specs.Acks.{row_of, none_heard}
+use Rattle.geo_stamp.specs.Vectors.{entry_of, zeros, vector_joined}
+use Rattle.std.proofs.lemmas.Bool.Decides.{nat_tests}
+use Rattle.geo_site.specs.declared.setup.Limits.{Limits}
+use Rattle.geo_site.specs.declared.setup.Setup.{Setup}
+use Rattle.geo_world.specs.Setups.{are_numbered, are_setups}
+use Rattle.geo_site.specs.declared.site.Site.{Site}
+use Rattle.geo_site.specs.Entries.{none_counted}
+use Rattle.geo_site.specs.Machine.{Same, fresh}
+use Rattle.geo_site.specs.Sites.{state_in, counts_in, waiting_in, limits_of, heard_in}
+use Rattle.geo_site.specs.Schedule.{nothing_known}
+use Rattle.geo_site.proofs.Entries.{entry_at_most}
+use Rattle.geo_site.proofs.Steps.{state_fresh, state_same, zeros_length}
+use Rattle.geo_delta.specs.declared.parcel.Parcel.{Parcel}
+use Rattle.geo_world.specs.Agreement.{Stands, Agrees, nothing_about}
+use Rattle.geo_world.specs.Bounds.{Bounded, vectors, rows, IsAbove}
+use Rattle.geo_world.proofs.Bounding.{at_cases, at_place, bounded_nothing, none_row}
+use Rattle.geo_world.proofs.Worlds.{some_none, some_same, get_appended}
+
+-- a site that knows nothing, and heard nothing
+pub record Silent (n number : ℕ) (site : Site) (limits : Limits) : Type 0 where
+  pub stands : Stands n number site (nothing_about limits)
+  pub heard_none : heard_in site ≡ none_heard n
+
+pub each_more : (limits : ℕ → Limits) (n k : ℕ) (xs : List Site) (x : Site) → length xs ≡ k → ((j number : ℕ) (site : Site) → number ≡ j + 1 → slice_get xs j ≡ Some site → Silent n number site (limits number)) → Silent n (k + 1) x (limits (k + 1))
+    → (j number : ℕ) (site : Site) → number ≡ j + 1 → slice_get (xs ++ x ∷ []) j ≡ Some site → Silent n number site (limits number)
+each_more limits n k xs x len each new j number site e at = elim (get_appended xs x j site at) [
+  | inl old ↦ each j number site e old
+  | inr p ↦ let m : k + 1 ≡ number = let q = p.0 in omega arith in subst₂ (λ (m : ℕ) (s : Site). Silent n m s (limits m)) m (sym p.1) new
+]
+
+pub silent_of : (n number a b : ℕ) (limits most : Limits) (site : Site) → site.number ≡ a → limits_of site ≡ most → counts_in site ≡ none_counted → waiting_in site ≡ None → heard_in site ≡ none_heard b → Same (fresh b) (state_in site) → b ≤ 16 → a ≡ number → b ≡ n → most ≡ limits → Silent n number site limits
+silent_of n number a b limits most site is at_most none waits heard same few p q r =
+    let heard_none = heard ∙ ap none_heard q in
+    record {
+      stands = record {
+        own = is ∙ p;
+        state = state_same n number (fresh n) (state_in site) [] (λ _. None) (state_fresh n number) (subst (λ m. Same (fresh m) (state_in site)) q same);
+        counts = none;
+        waiting = waits;
+        limits = at_most ∙ r;
+        rows = λ other lo hi. ap (λ h. length (row_of h other)) heard_none ∙ ap length (none_row n other lo (omega (arith, few, q, hi))) ∙ zeros_length n;
+      };
+      heard_none = heard_none;
+    }
+
+joined_zeros : (xs : List ℕ) (n : ℕ) → length xs ≡ n → vector_joined xs (zeros n) ≡ xs
+joined_zeros [] zero e = refl
+joined_zeros [] (suc n) e = absurd (omega arith)
+joined_zeros (x ∷ xs) zero e = refl
+joined_zeros (x ∷ xs) (suc n) e = let h : max x 0 ≡ x = omega arith in λ i. h i ∷ joined_zeros xs n (omega arith) i
+
+joined_nothing : (v : List ℕ) → IsAbove v []
+joined_nothing [] = refl
+joined_nothing (x ∷ xs) = refl
+
+-- no row without a site
+row_nothing : (s : ℕ) → row_of [] s ≡ []
+row_nothing zero = refl
+row_nothing (suc j) = refl
+
+entry_nothing : (s : ℕ) → entry_of [] s ≡ 0
+entry_nothing zero = refl
+entry_nothing (suc j) = refl
+
+module _ (limits : ℕ → Limits) (sites : List Site) (few : length sites ≤ 16) (each : (k number : ℕ) (site : Site) → number ≡ k + 1 → slice_get sites k ≡ Some site → Silent (length sites) number site (limits number)) where
+  no_entry : (r s : ℕ) → entry_of (vectors sites r) s ≡ 0
+  no_entry r s = elim (at_cases (λ site. site.vector) [] sites r) [
+    | inl e ↦ ap (λ v. entry_of v s) e ∙ entry_nothing s
+    | inr p ↦
+        let st = (each p.0 r p.1 p.2 p.3).stands in
+        let clock = st.state.tells.clock in
+        let le = entry_at_most p.1.vector s in
+        ap (λ v. entry_of v s) p.4 ∙ omega (arith, clock, le)
+  ]
+
+  row_zeros : (r s : ℕ) → 1 ≤ s → s ≤ length sites → (rows sites r s ≡ []) ⊎ (rows sites r s ≡ zeros (length sites))
+  row_zeros r s lo hi = elim (at_cases heard_in [] sites r) [
+    | inl e ↦ inl (ap (λ h. row_of h s) e ∙ row_nothing s)
+    | inr p ↦ inr (ap (λ h. row_of h s) (p.4 ∙ (each p.0 r p.1 p.2 p.3).heard_none) ∙ none_row (length sites) s lo (omega (arith, few, hi)))
+  ]
+
+  above_row : (r s : ℕ) → 1 ≤ s → s ≤ length sites → IsAbove (vectors sites s) (rows sites r s)
+  above_row r s lo hi = elim (row_zeros r s lo hi) [
+    | inl e ↦ subst (IsAbove (vectors sites s)) (sym e) (joined_nothing (vectors sites s))
+    | inr e ↦
+        let p = at_place (λ site. site.vector) [] sites s lo hi in
+        subst (IsAbove (vectors sites s)) (sym e) (subst (λ v. IsAbove v (zeros (length sites))) (sym p.4) (joined_zeros p.1.vector (length sites) (each p.0 s p.1 p.2 p.3).stands.state.many))
+  ]
+
+  bounds_open : Bounded (length sites) (vectors sites) (rows sites) [] (λ t. []) []
+  bounds_open = bounded_nothing (length sites) (vectors sites) (rows sites) no_entry above_row
+
+  agrees_none : Agrees sites [] (nothing_known limits)
+  agrees_none = record {
+    each = λ k number site e got. (each k number site e got).stands;
+    as_many = refl;
+    each_sent = λ p parcel got. absurd (some_none (sym got));
+    bounds = bounds_open;
+  }
+
+pub agrees_open : (limits : ℕ → Limits) (sites : List Site) (parcels : List Parcel) (n : ℕ) → length sites ≡ n → n ≤ 16 → parcels ≡ [] → ((k number : ℕ) (site : Site) → number ≡ k + 1 → slice_get sites k ≡ Some site → Silent n number site (limits number)) → Agrees sites parcels (nothing_known limits)
+agrees_open limits sites parcels n many few none each = subst (λ ps. Agrees sites ps (nothing_known limits)) (sym none)
+    (agrees_none limits sites (omega (arith, many, few)) (λ k number site e got. subst (λ m. Silent m number site (limits number)) (sym many) (each k number site e got)))
+
+le_from : (a b : ℕ) → nat_le a b ≡ true → a ≤ b
+le_from a b h = grind (arith, nat_tests)
+
+left : (a b : Bool) → a && b ≡ true → a ≡ true
+left true b h = refl
+left false b h = h
+
+right : (a b : Bool) → a && b ≡ true → b ≡ true
+right true b h = h
+right false b h = absurd (true≢false (sym h))
+
+pub at_most_16 : (setups : List Setup) → are_setups setups ≡ true → length setups ≤ 16
+at_most_16 setups h = le_from (length setups) 16 (right (nat_le 1 (length setups)) (nat_le (length setups) 16) (left (nat_le 1 (length setups) && nat_le (length setups) 16) (are_numbered (length setups) 1 setups) h))

@@ -1,0 +1,46 @@
+-- What vectors promise along a schedule: whoever has an entry of a clock knows all that was issued up to it, and nobody is taken to
+-- know more than it does. (The condition under which a delta may leave out what its base knows: Almeida et al. 2018.)
+use Rattle.std.specs.Prelude.{◌≡◌, ℕ, zero, suc, ◌≤◌, List, [], ◌∷◌, Some, slice_get, slice_index_or}
+use Rattle.geo_stamp.specs.Acks.{row_of}
+use Rattle.geo_stamp.specs.Vectors.{entry_of, vector_joined, Knows}
+use Rattle.geo_versions.specs.Operations.{Operation, Among, latest}
+use Rattle.geo_delta.specs.declared.parcel.Parcel.{Parcel}
+use Rattle.geo_site.specs.declared.site.Site.{Site}
+use Rattle.geo_site.specs.Sites.{heard_in}
+
+-- what the site with a number has, or this where there is none
+abbrev pub at_number : {A : Type 0} → (Site → A) → A → List Site → ℕ → A
+at_number f none sites zero = none
+at_number f none [] (suc k) = none
+at_number f none (site ∷ sites) (suc zero) = f site
+at_number f none (site ∷ sites) (suc (suc k)) = at_number f none sites (suc k)
+
+abbrev pub vectors : List Site → ℕ → List ℕ
+vectors sites number = at_number (λ site. site.vector) [] sites number
+
+-- what a site last heard of another
+abbrev pub rows : List Site → ℕ → ℕ → List ℕ
+rows sites number other = row_of (at_number heard_in [] sites number) other
+
+-- one vector knows all that the other knows
+abbrev pub IsAbove : List ℕ → List ℕ → Type 0
+IsAbove v u = vector_joined v u ≡ v
+
+-- what was known when a parcel was sent
+abbrev pub told_in : List (ℕ × List Operation) → ℕ → List Operation
+told_in sent p = (slice_index_or sent p (0, [])).1
+
+-- so many sites have these vectors, heard this of one another, and know these operations
+pub record Bounded (sites : ℕ) (vector : ℕ → List ℕ) (heard : ℕ → ℕ → List ℕ) (parcels : List Parcel) (at : ℕ → List Operation) (sent : List (ℕ × List Operation)) : Type 0 where
+  -- each operation is known where it was issued
+  pub home : (t : ℕ) (op : Operation) → Among (at t) op → Among (at op.stamp.site) op
+  -- a site knows all that was issued up to its entries, and has no entry past a clock
+  pub complete : (r t : ℕ) (op : Operation) → Among (at t) op → Knows (vector r) op.stamp → Among (at r) op
+  pub past : (r s : ℕ) → entry_of (vector r) s ≤ latest (at s)
+  -- what was heard of a site it knows
+  pub heard_known : (r s : ℕ) → 1 ≤ s → s ≤ sites → IsAbove (vector s) (heard r s)
+  -- a parcel tells what its sender knows, all up to its entries, and its addressee knows the base
+  pub sent_told : (p : ℕ) (parcel : Parcel) (op : Operation) → slice_get parcels p ≡ Some parcel → Among (told_in sent p) op → Among (at parcel.from) op
+  pub sent_complete : (p t : ℕ) (parcel : Parcel) (op : Operation) → slice_get parcels p ≡ Some parcel → Among (at t) op → Knows parcel.upto op.stamp → Among (told_in sent p) op
+  pub sent_upto : (p : ℕ) (parcel : Parcel) → slice_get parcels p ≡ Some parcel → IsAbove (vector parcel.from) parcel.upto
+  pub sent_base : (p : ℕ) (parcel : Parcel) → slice_get parcels p ≡ Some parcel → IsAbove (vector parcel.to) parcel.base
