@@ -125,6 +125,12 @@ impl Vector {
         stamp.time <= self.clocks[stamp.site as usize - 1]
     }
 
+    pub fn join(&mut self, other: &Vector) {
+        for (mine, other) in self.clocks.iter_mut().zip(other.clocks) {
+            *mine = (*mine).max(other);
+        }
+    }
+
     pub fn covers(&self, other: &Vector) -> bool {
         self.clocks.iter().zip(&other.clocks).all(|(a, b)| a >= b)
     }
@@ -166,6 +172,8 @@ pub struct Site {
     pub number: u8,
     pub max_records: usize,
     pub vector: Vector,
+    /// What was heard of each site's vector.
+    pub heard: [Vector; 16],
     pub records: HashMap<Key, Record>,
     pub held: HashMap<Key, Blob>,
     pub hits: u64,
@@ -193,6 +201,7 @@ impl Site {
             number,
             max_records: 1_000_000,
             vector: Vector::new(sites),
+            heard: [Vector::new(sites); 16],
             records: HashMap::new(),
             held: HashMap::new(),
             hits: 0,
@@ -250,7 +259,10 @@ impl Site {
     }
 
     pub fn send(&self, to: u8) -> Parcel {
-        let base = Vector::new(self.vector.sites);
+        let base = self.heard[to as usize - 1];
+        if base.covers(&self.vector) {
+            return Parcel { from: self.number, to, base, upto: self.vector, records: Vec::new() };
+        }
         let mut records: Vec<_> = self
             .records
             .iter()
@@ -289,9 +301,8 @@ impl Site {
                 }
             }
         }
-        for (mine, other) in self.vector.clocks.iter_mut().zip(parcel.upto.clocks) {
-            *mine = (*mine).max(other);
-        }
+        self.vector.join(&parcel.upto);
+        self.heard[parcel.from as usize - 1].join(&parcel.upto);
         self.vector.clocks[self.number as usize - 1] = self.vector.greatest();
         if !few {
             let records = &self.records;
