@@ -1,0 +1,17 @@
+pub mod Names
+pub mod Chunks
+pub mod Counts
+pub mod Linked
+pub mod Taken
+pub mod Relisted
+pub mod Evicted
+pub mod Found
+pub mod Juggled
+pub mod First
+pub mod Evictions
+pub mod Putting
+pub mod Waiting
+pub mod Arrived
+pub mod Stored
+pub mod Staying
+pub mod Retained

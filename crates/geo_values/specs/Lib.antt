@@ -1,0 +1,4 @@
+pub mod Stock
+pub mod Links
+pub mod Steps
+pub mod Held

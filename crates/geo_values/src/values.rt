@@ -1,0 +1,174 @@
+//! Values under keys.
+ghost use Rattle.std.specs.Prelude.{◌≡◌, ◌+◌, ◌<◌, ◌≤◌, ℕ, cond, List, Option, Some, None, IsSome, is_some, IfOk, OnOk, OnErr, length, replicate, option_copied};
+ghost use Rattle.geo_values.specs.Stock.{no_items};
+ghost use Rattle.geo_slabs.specs.Storage.{class_count};
+
+use crate::blob::Blob;
+use crate::parts::{Item, Parts};
+use geo_lattice::Twin;
+use geo_lru::Segments;
+use geo_slabs::{CLASSES, Slabs, SlabsError, class_of};
+use geo_versions::{Digest, Key};
+use indexmap::IndexMap;
+use slab::Slab;
+use std::alloc::{AllocError, Global};
+use std::hash::RandomState;
+use std::marker::Model;
+
+/// A finite map from keys to bytes with their SHA-256, which holds at most as much as its pages have room for: to store more, it
+/// evicts (memcached's doc/new_lru.txt). Each key's bytes are an item of the slab class of their length.
+#[derive(Drop)]
+pub struct Values {
+    pub(crate) parts: Parts,
+}
+
+impl Model for Values {
+    ghost use Rattle.std.specs.Prelude.{◌≡◌, length};
+    ghost use Rattle.geo_slabs.specs.Storage.{class_count};
+    ghost use Rattle.geo_values.specs.Links.{Kept, kept_in, links_in, IsLinked};
+
+    ghost Value = { Kept };
+
+    ghost view = { λ v. kept_in v.parts };
+
+    ghost invariant = { λ v. (length v.parts.classes.items ≡ class_count) × IsLinked (links_in v.parts) };
+}
+
+/// The empty lists of all classes.
+fn empty_classes(alloc: Global) -> Result<Vec<Segments>, AllocError>
+    ensures { IfOk result (λ all. all.items ≡ replicate class_count no_items) }
+{
+    let mut all = Vec::with_capacity(alloc, CLASSES)?;
+    for _ in 0..CLASSES {
+        all.push(Segments::new(alloc)?)?;
+    }
+    Ok(all)
+}
+
+impl Values {
+    ghost use Rattle.std.specs.List.{IsDistinct, list_any};
+    ghost use Rattle.std.specs.Option.{unwrap_or};
+    ghost use Rattle.geo_versions.specs.Keys.{same_key};
+    ghost use Rattle.geo_lru.specs.Rules.{victim_of, juggled_by};
+    ghost use Rattle.geo_values.specs.Stock.{Same, IsStored, IsRetained, Answers, dropped, hit_at, evicted_from, juggled_in, with_digest};
+    ghost use Rattle.geo_values.specs.Held.{stock_in, keys_in, count_in, OpenDoes};
+
+    /// Values with so many pages, of a mebibyte each. Each class has one at first, the others are spare. TooFewPages below 15,
+    /// TooManyPages above 65,536. It takes the memory of all pages.
+    pub fn new(alloc: Global, hasher: RandomState, pages: usize) -> Result<Values, SlabsError>
+        ensures { OpenDoes pages result }
+    {
+        let slabs = Slabs::new(alloc, pages)?;
+        let Ok(classes) = empty_classes(alloc) else {
+            return Err(SlabsError::Memory);
+        };
+        let parts = Parts {
+            items: IndexMap::with_hasher(alloc, hasher),
+            keys: Slab::new(alloc),
+            slabs,
+            classes,
+        };
+        Ok(Values { parts })
+    }
+
+    /// How many keys are held.
+    pub fn len(&self) -> usize
+        ensures len { result ≡ count_in self.now }
+        ensures apart { IsDistinct same_key (keys_in self.now) }
+        ensures held { (q : List ℕ) → list_any (same_key q) (keys_in self.now) ≡ is_some ((stock_in self.now).held q) }
+    {
+        self.parts.items.len()
+    }
+
+    /// Whether a key is held.
+    pub fn holds(&self, key: &Key) -> bool
+        ensures { result ≡ is_some ((stock_in self.now).held key.now) }
+    {
+        self.parts.items.contains_key(key)
+    }
+
+    /// A key's bytes, where they have this SHA-256. Nothing is hashed.
+    pub fn get(&self, key: &Key, digest: &Digest) -> Option<&[u8]>
+        ensures { option_copied result ≡ with_digest digest.now ((stock_in self.now).held key.now) }
+    {
+        let item = self.parts.items.get(key)?;
+        if item.digest != *digest {
+            return None;
+        }
+        Some(self.parts.slabs.bytes(&item.chunk))
+    }
+
+    /// Notes a hit on a key. Where it is not held, nothing changes. It takes no memory.
+    pub fn hit(&mut self, key: &Key)
+        ensures { Same (hit_at key.now (stock_in self.old)) (stock_in self.new) }
+    {
+        self.parts.hit(key)
+    }
+
+    /// Drops a key, and tells whether it was held. It takes no memory.
+    pub fn drop_key(&mut self, key: &Key) -> bool
+        ensures was { result ≡ is_some ((stock_in self.old).held key.now) }
+        ensures dropped { Same (dropped key.now (stock_in self.old)) (stock_in self.new) }
+        ensures counts { count_in self.new + cond result 1 0 ≡ count_in self.old }
+    {
+        self.parts.take_out(key)
+    }
+
+    /// Drops each key that a test does not pass, and keeps the others where they stand. The test sees a key, the SHA-256 of its bytes
+    /// and their length. It takes no memory.
+    pub fn retain<F: Fn(&Key, &Digest, usize) -> bool>(&mut self, keep: F)
+        requires { F.IsAlwaysCallable keep }
+        ensures retained { IsRetained (Answers F.Fn keep) (stock_in self.old) (stock_in self.new) }
+        ensures no_more { count_in self.new ≤ count_in self.old }
+    {
+        self.parts.retain(keep)
+    }
+
+    /// Evicts the next victim of a class, and gives its key: None exactly where the class has no item. It takes no memory.
+    pub fn evict_tail(&mut self, class: usize) -> Option<Key>
+        requires { class < class_count }
+        ensures key { result ≡ victim_of ((stock_in self.old).lists class) }
+        ensures evicted { Same (evicted_from class (stock_in self.old)) (stock_in self.new) }
+    {
+        self.parts.evict(class)
+    }
+
+    /// Moves the one item of a class that is due to move, and tells whether there was one. Only a move to another list asks for
+    /// memory.
+    pub fn juggle(&mut self, class: usize) -> Result<bool, AllocError>
+        requires { class < class_count }
+        ensures told { IfOk result (λ moved. moved ≡ is_some (juggled_by same_key ((stock_in self.old).lists class))) }
+        ensures moved { OnOk result (Same (juggled_in class (stock_in self.old)) (stock_in self.new)) }
+        ensures unchanged { OnErr result (Same (stock_in self.old) (stock_in self.new)) }
+        ensures due { OnErr result (IsSome (juggled_by same_key ((stock_in self.old).lists class))) }
+    {
+        self.parts.juggle(class)
+    }
+
+    /// Stores a key's bytes, at most a mebibyte, and gives the key that was evicted for them, if any. What the key had before is let
+    /// go first. Err only where a growth was refused: then nothing has changed.
+    pub fn store(
+        &mut self,
+        alloc: Global,
+        key: &Key,
+        blob: &Blob,
+    ) -> Result<Option<Key>, AllocError>
+        requires { length blob.now ≤ 1048576 }
+        ensures stored { IfOk result (λ evicted. IsStored (stock_in self.old) (stock_in self.new) key.now blob.now evicted) }
+        ensures unchanged { OnErr result (Same (stock_in self.old) (stock_in self.new)) }
+    {
+        let class = class_of(blob.bytes().len());
+        let own = key.twin(alloc)?;
+        let number = self.parts.admit(key.twin(alloc)?, class)?;
+        let _was = self.parts.take_out(key);
+        let (chunk, evicted) = self.parts.put(class, blob.bytes());
+        let item = Item {
+            number,
+            digest: blob.digest(),
+            class,
+            chunk,
+        };
+        self.parts.place(own, item);
+        Ok(evicted)
+    }
+}
