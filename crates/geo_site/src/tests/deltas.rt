@@ -41,7 +41,8 @@ fn acknowledge(rt: &impl Abort, alloc: Global, one: &mut Site, two: &mut Site) -
 fn go_on(rt: &impl Abort, alloc: Global, one: &Site, two: &mut Site) -> Result<(), Fail> {
     let second = sent(alloc, one, 2)?;
     assert_eq!(rt; shape(&second), (1, [1, 1, 0], [2, 1, 0]));
-    assert_eq!(rt; second.records.as_slice()[0].0.bytes(), b"b".as_slice());
+    let (name, _) = second.records.as_slice().first().ok_or("no record")?;
+    assert_eq!(rt; name.bytes(), b"b".as_slice());
     taken(alloc, two, second)?;
     assert!(rt; version(alloc, two, b"a")?.is_some());
     assert!(rt; version(alloc, two, b"b")?.is_some());
