@@ -1,0 +1,179 @@
+//! The parts of a frame, written at the end of its bytes. Where memory was refused a part may stand there.
+ghost use Rattle.std.specs.Prelude.{◌≡◌, ◌<◌, ◌^◌, ◌++◌, length, OnOk};
+ghost use Rattle.std.specs.List.{flat_map};
+ghost use Rattle.geo_frame.specs.Spelling.{four, eight, stamp_bytes, vector_bytes, floor_bytes, body_bytes, expiry_bytes, key_bytes, rec_bytes, record_bytes, records_bytes, sites_bytes, fields_of, head_bytes};
+
+use crate::limits::{MAGIC, VERSION};
+use geo_delta::Parcel;
+use geo_lattice::Lww;
+use geo_stamp::{Stamp, Vector};
+use geo_versions::{Body, Key, Rec};
+use std::alloc::AllocError;
+
+#[tactic(auto, unfolding(crate::specs::Spelling::four))]
+fn push_u32(out: &mut Vec<u8>, number: u32) -> Result<(), AllocError>
+    ensures { OnOk result (out.new.items ≡ out.old.items ++ four number) }
+{
+    out.extend_from_slice(&number.to_be_bytes())
+}
+
+#[tactic(auto, unfolding(crate::specs::Spelling::eight))]
+fn push_u64(out: &mut Vec<u8>, number: u64) -> Result<(), AllocError>
+    ensures { OnOk result (out.new.items ≡ out.old.items ++ eight number) }
+{
+    out.extend_from_slice(&number.to_be_bytes())
+}
+
+#[tactic(auto, unfolding(crate::specs::Spelling::stamp_bytes))]
+fn push_stamp(out: &mut Vec<u8>, stamp: &Stamp) -> Result<(), AllocError>
+    ensures { OnOk result (out.new.items ≡ out.old.items ++ stamp_bytes stamp.now) }
+{
+    push_u64(out, stamp.time())?;
+    out.push(stamp.site())?;
+    Ok(())
+}
+
+fn push_vector(out: &mut Vec<u8>, vector: &Vector) -> Result<(), AllocError>
+    ensures { OnOk result (out.new.items ≡ out.old.items ++ vector_bytes vector.now) }
+{
+    for before in 0..vector.sites() as u8 {
+        push_u64(out, vector.entry(before + 1))?;
+    }
+    Ok(())
+}
+
+#[tactic(auto, unfolding(crate::specs::Spelling::floor_bytes))]
+fn push_floor(out: &mut Vec<u8>, floor: &Option<Stamp>) -> Result<(), AllocError>
+    ensures { OnOk result (out.new.items ≡ out.old.items ++ floor_bytes floor.now) }
+{
+    match floor {
+        Some(stamp) => push_stamp(out, stamp),
+        None => {
+            push_u64(out, 0)?;
+            out.push(0)?;
+            Ok(())
+        }
+    }
+}
+
+#[tactic(auto, unfolding(crate::specs::Spelling::body_bytes))]
+fn push_body(out: &mut Vec<u8>, body: &Lww<Stamp, Body>) -> Result<(), AllocError>
+    ensures { OnOk result (out.new.items ≡ out.old.items ++ body_bytes body.now.register) }
+{
+    match body.get() {
+        None => {
+            out.push(0)?;
+            Ok(())
+        }
+        Some((stamp, Body::Gone)) => {
+            out.push(1)?;
+            push_stamp(out, stamp)
+        }
+        Some(
+            (
+                stamp,
+                Body::Value {
+                    digest,
+                    flags,
+                    length,
+                },
+            ),
+        ) => {
+            out.push(2)?;
+            push_stamp(out, stamp)?;
+            out.extend_from_slice(digest.bytes().as_slice())?;
+            push_u32(out, *flags)?;
+            push_u32(out, *length)
+        }
+    }
+}
+
+#[tactic(auto, unfolding(crate::specs::Spelling::expiry_bytes))]
+fn push_expiry(out: &mut Vec<u8>, expiry: &Lww<Stamp, u64>) -> Result<(), AllocError>
+    ensures { OnOk result (out.new.items ≡ out.old.items ++ expiry_bytes expiry.now.register) }
+{
+    match expiry.get() {
+        None => {
+            out.push(0)?;
+            Ok(())
+        }
+        Some((stamp, expiry)) => {
+            out.push(1)?;
+            push_stamp(out, stamp)?;
+            push_u64(out, *expiry)
+        }
+    }
+}
+
+#[tactic(auto, unfolding(crate::specs::Spelling::key_bytes))]
+fn push_key(out: &mut Vec<u8>, key: &Key) -> Result<(), AllocError>
+    ensures { OnOk result (out.new.items ≡ out.old.items ++ key_bytes key.now) }
+{
+    let bytes = key.bytes();
+    out.push(bytes.len() as u8)?;
+    out.extend_from_slice(bytes)
+}
+
+#[tactic(auto, unfolding(crate::specs::Spelling::rec_bytes))]
+fn push_rec(out: &mut Vec<u8>, rec: &Rec) -> Result<(), AllocError>
+    ensures { OnOk result (out.new.items ≡ out.old.items ++ rec_bytes rec.now) }
+{
+    push_body(out, &rec.left)?;
+    push_expiry(out, &rec.right)
+}
+
+#[tactic(auto, unfolding(crate::specs::Spelling::record_bytes))]
+fn push_record(out: &mut Vec<u8>, entry: &(Key, Rec)) -> Result<(), AllocError>
+    ensures { OnOk result (out.new.items ≡ out.old.items ++ record_bytes entry.now) }
+{
+    push_key(out, &entry.0)?;
+    push_rec(out, &entry.1)
+}
+
+fn push_each(out: &mut Vec<u8>, records: &[(Key, Rec)]) -> Result<(), AllocError>
+    ensures { OnOk result (out.new.items ≡ out.old.items ++ flat_map record_bytes records.now) }
+{
+    for record in records {
+        push_record(out, record)?;
+    }
+    Ok(())
+}
+
+#[tactic(auto, unfolding(crate::specs::Spelling::records_bytes))]
+fn push_records(out: &mut Vec<u8>, records: &[(Key, Rec)]) -> Result<(), AllocError>
+    requires { length records.now < 2 ^ 32 }
+    ensures { OnOk result (out.new.items ≡ out.old.items ++ records_bytes records.now) }
+{
+    push_u32(out, records.len() as u32)?;
+    push_each(out, records)
+}
+
+#[tactic(auto, unfolding(crate::specs::Spelling::sites_bytes))]
+fn push_sites(out: &mut Vec<u8>, from: u8, to: u8, sites: u8) -> Result<(), AllocError>
+    ensures { OnOk result (out.new.items ≡ out.old.items ++ sites_bytes from to sites) }
+{
+    out.extend_from_slice(&[from, to, sites])
+}
+
+/// The fields of a parcel.
+#[tactic(auto, unfolding(crate::specs::Spelling::fields_of))]
+pub(crate) fn push_fields(out: &mut Vec<u8>, parcel: &Parcel) -> Result<(), AllocError>
+    requires { length parcel.now.records < 2 ^ 32 }
+    ensures { OnOk result (out.new.items ≡ out.old.items ++ fields_of parcel.now) }
+{
+    push_sites(out, parcel.from, parcel.to, parcel.base.sites() as u8)?;
+    push_vector(out, &parcel.base)?;
+    push_vector(out, &parcel.upto)?;
+    push_floor(out, &parcel.floor)?;
+    push_records(out, parcel.records.as_slice())
+}
+
+/// The head of a frame of so many bytes.
+#[tactic(auto, unfolding(crate::specs::Spelling::head_bytes))]
+pub(crate) fn push_head(out: &mut Vec<u8>, size: u32) -> Result<(), AllocError>
+    ensures { OnOk result (out.new.items ≡ out.old.items ++ head_bytes size) }
+{
+    out.extend_from_slice(MAGIC.as_slice())?;
+    out.push(VERSION)?;
+    push_u32(out, size)
+}

@@ -1,0 +1,102 @@
+//! Which parcels have a frame.
+ghost use Rattle.std.specs.Prelude.{◌≡◌, ◌↔◌, IsTrue};
+ghost use Rattle.std.specs.List.{list_all};
+ghost use Rattle.geo_frame.specs.Ranges.{InRange, sites_fit, stamp_fits, floor_fits, content_fits, body_fits, expiry_fits, rec_fits, record_fits};
+
+use crate::limits::LONGEST_VALUE;
+use geo_delta::Parcel;
+use geo_lattice::Lww;
+use geo_stamp::{LAST_TIME, Stamp};
+use geo_versions::{Body, Key, Rec, are_rising};
+
+/// Whether a parcel goes from one of 2 to 16 sites to another.
+#[tactic(auto, unfolding(crate::specs::Ranges::sites_fit))]
+pub(crate) fn sites_fit(from: u8, to: u8, sites: usize) -> bool
+    ensures { result ≡ sites_fit from to sites }
+{
+    let is_one = |site: u8| 1 <= site && site as usize <= sites;
+    2 <= sites && sites <= 16 && is_one(from) && is_one(to) && from != to
+}
+
+#[tactic(auto, unfolding(crate::specs::Ranges::stamp_fits))]
+fn stamp_fits(stamp: Stamp, sites: usize) -> bool
+    ensures { result ≡ stamp_fits sites stamp }
+{
+    stamp.time() <= LAST_TIME && stamp.site() as usize <= sites
+}
+
+#[tactic(auto, unfolding(crate::specs::Ranges::floor_fits))]
+fn floor_fits(floor: Option<Stamp>, sites: usize) -> bool
+    ensures { result ≡ floor_fits sites floor }
+{
+    match floor {
+        None => true,
+        Some(stamp) => stamp_fits(stamp, sites),
+    }
+}
+
+fn content_fits(body: Body) -> bool
+    ensures { result ≡ content_fits body }
+{
+    match body {
+        Body::Gone => true,
+        Body::Value { length, .. } => length <= LONGEST_VALUE,
+    }
+}
+
+#[tactic(auto, unfolding(crate::specs::Ranges::body_fits))]
+fn body_fits(body: &Lww<Stamp, Body>, sites: usize) -> bool
+    ensures { result ≡ body_fits sites body.now.register }
+{
+    match body.get().copied() {
+        None => true,
+        Some((stamp, body)) => stamp_fits(stamp, sites) && content_fits(body),
+    }
+}
+
+#[tactic(auto, unfolding(crate::specs::Ranges::expiry_fits))]
+fn expiry_fits(expiry: &Lww<Stamp, u64>, sites: usize) -> bool
+    ensures { result ≡ expiry_fits sites expiry.now.register }
+{
+    match expiry.get().copied() {
+        None => true,
+        Some((stamp, _)) => stamp_fits(stamp, sites),
+    }
+}
+
+#[tactic(auto, unfolding(crate::specs::Ranges::rec_fits))]
+fn rec_fits(rec: &Rec, sites: usize) -> bool
+    ensures { result ≡ rec_fits sites rec.now }
+{
+    let has_register = rec.left.get().is_some() || rec.right.get().is_some();
+    body_fits(&rec.left, sites) && expiry_fits(&rec.right, sites) && has_register
+}
+
+#[tactic(auto, unfolding(crate::specs::Ranges::record_fits))]
+fn record_fits(entry: &(Key, Rec), sites: usize) -> bool
+    ensures { result ≡ record_fits sites entry.now }
+{
+    Key::is_valid(entry.0.bytes()) && rec_fits(&entry.1, sites)
+}
+
+fn records_fit(records: &[(Key, Rec)], sites: usize) -> bool
+    ensures { result ≡ list_all (record_fits sites) records.now }
+{
+    records.iter().all(|record| record_fits(record, sites))
+}
+
+/// Whether a parcel is within the ranges: both vectors of 2 to 16 sites, from one of them to another, each stamp of one of
+/// them, values of at most a mebibyte, records with a register, by rising key.
+pub fn fits(parcel: &Parcel) -> bool
+    ensures { IsTrue result ↔ InRange parcel.now }
+{
+    let sites = parcel.base.sites();
+    let records = parcel.records.as_slice();
+    parcel.upto.sites() == sites
+        && sites_fit(parcel.from, parcel.to, sites)
+        && parcel.base.greatest() <= LAST_TIME
+        && parcel.upto.greatest() <= LAST_TIME
+        && floor_fits(parcel.floor, sites)
+        && records_fit(records, sites)
+        && are_rising(records)
+}
