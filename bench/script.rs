@@ -8,11 +8,6 @@ mod plain_site;
 
 use plain_site::{Found, Parcel, Reply, Request, Site};
 
-const COMMANDS: u32 = 200_000;
-
-/// Of this many keys, a script of several sites has a command for one once all are set.
-const KEYS_A_COMMAND: u32 = 5;
-
 #[repr(C)]
 #[derive(Clone, Copy, Default)]
 struct Timeval {
@@ -68,10 +63,9 @@ fn site_of(number: u32, sites: u32) -> u32 {
     number % sites + 1
 }
 
-/// A script that sets each key, then sets and gets keys in turn, with or without exptimes; several sites exchange parcels in between,
-/// of as many records for a command whatever the keys, so that the cost of a command can be compared.
-fn make(out: &mut impl Write, keys: u32, sites: u32, ends: bool) -> std::io::Result<()> {
-    let commands = if sites == 1 { COMMANDS } else { keys / KEYS_A_COMMAND };
+/// A script that sets each key, then sets and gets keys in turn, so many of them, with or without exptimes; several sites exchange
+/// parcels in between and at the end.
+fn make(out: &mut impl Write, keys: u32, sites: u32, ends: bool, commands: u32) -> std::io::Result<()> {
     let data = "x".repeat(100);
     let exptime = |number: u32| if ends { 1 + number % 1_000 } else { 0 };
     let mut sent = 0;
@@ -213,7 +207,10 @@ fn main() -> std::io::Result<()> {
     let words: Vec<String> = std::env::args().skip(1).collect();
     let mut out = BufWriter::new(std::io::stdout().lock());
     match words[0].as_str() {
-        "make" => make(&mut out, words[1].parse().expect("keys"), words[2].parse().expect("sites"), words[3] == "ends")?,
+        "make" => {
+            let number = |word: &String| word.parse().expect("a number");
+            make(&mut out, number(&words[1]), number(&words[2]), words[3] == "ends", number(&words[4]))?
+        }
         "play" => {
             let mut text = Vec::new();
             std::io::stdin().lock().read_to_end(&mut text)?;
