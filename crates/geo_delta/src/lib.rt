@@ -4,9 +4,11 @@
 //! stands on versions and stamps, and knows nothing of held values, requests or links.
 #![tactic(auto)]
 
+mod changes;
 mod cutting;
 mod parcel;
 
+pub use changes::{Changes, MOST_CHANGES};
 pub use cutting::cut;
 pub use parcel::Parcel;
 

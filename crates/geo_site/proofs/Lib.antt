@@ -20,3 +20,4 @@ pub mod Filtered
 pub mod Taking
 pub mod Sending
 pub mod Outdated
+pub mod Noting

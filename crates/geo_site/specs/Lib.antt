@@ -5,3 +5,4 @@ pub mod Served
 pub mod Agreement
 pub mod Sites
 pub mod Changes
+pub mod Noting

@@ -5,9 +5,10 @@ use Rattle.geo_stamp.specs.Stamps.{Moment, most_sites}
 use Rattle.geo_stamp.specs.Vectors.{zeros, entry_of, vector_joined, greatest_of, raised}
 use Rattle.geo_versions.specs.Keys.{same_key}
 use Rattle.std.specs.List.{IsDistinct, list_any}
-use Rattle.geo_versions.specs.Maps.{is_unknown, has_register}
+use Rattle.geo_versions.specs.Maps.{has_register}
 use Rattle.geo_versions.specs.Operations.{Act, Operation, Record, record_joined, floor_joined, above_both, body_of, expiry_of, flush_of, version_in}
 use Rattle.geo_versions.specs.Operations.Act.{Write, Delete, Touch, Flush}
+pub use Rattle.geo_delta.specs.Changes.{knows_record}
 use Rattle.geo_site.specs.Entries.{Held, names, named_by, Visible, entry_in}
 
 pub record SiteState : Type 0 where
@@ -96,9 +97,6 @@ is_unknown_floor v (Some floor) = not (nat_le floor.time (entry_of v floor.site)
 
 abbrev pub knows_floor : List ℕ → Option Moment → Bool
 knows_floor v floor = not (is_unknown_floor v floor)
-
-abbrev pub knows_record : List ℕ → Record → Bool
-knows_record v r = not (is_unknown v r.0 || is_unknown v r.1)
 
 -- everything that is kept is known by the vector
 abbrev pub Covers : List ℕ → (List ℕ → Record) → Type 0

@@ -10,6 +10,7 @@ ghost use Rattle.geo_site.specs.Sites.{state_in, Rests, Stays, HasIssued};
 ghost use Rattle.geo_site.specs.Changes.{bytes_in, next_stamp_of, CanWrite, WriteRefuses, HasRecord, EffectDoes, IsShort, IsThere};
 
 use crate::blob::Blob;
+use crate::notes::note;
 use crate::reap::earlier;
 use crate::refusal::WriteError;
 use crate::site::Site;
@@ -100,6 +101,7 @@ impl Site {
         };
         self.versions.write(alloc, key, stamp, body, expiry)?;
         self.vector.raise(self.number, stamp.time());
+        note(&mut self.changes, key, &self.vector);
         self.earliest = earlier(self.earliest, expiry);
         hold(&mut self.held, own_key, blob);
         Ok(())
@@ -116,6 +118,7 @@ impl Site {
     {
         self.versions.write(alloc, key, stamp, Body::Gone, 0)?;
         self.vector.raise(self.number, stamp.time());
+        note(&mut self.changes, key, &self.vector);
         drop_held(&mut self.held, key);
         Ok(())
     }

@@ -12,6 +12,7 @@ ghost use Rattle.geo_site.specs.Sites.{state_in, heard_in, held_count, IsSent, R
 
 use crate::blob::Blob;
 use crate::change::drop_held;
+use crate::notes::note_each;
 use crate::reap::earliest_in;
 use crate::refusal::{SendError, TakeError};
 use crate::site::Site;
@@ -172,7 +173,15 @@ impl Site {
         if base.covers(&self.vector) {
             return Ok(self.nothing_new(alloc, to, base));
         }
-        match cut(alloc, &self.versions, self.number, to, base, &self.vector) {
+        match cut(
+            alloc,
+            &self.versions,
+            &self.changes,
+            self.number,
+            to,
+            base,
+            &self.vector,
+        ) {
             Ok(parcel) => Ok(parcel),
             Err(_) => Err(SendError::Memory),
         }
@@ -242,6 +251,7 @@ impl Site {
         self.vector.join(upto);
         let top = self.vector.greatest();
         self.vector.raise(self.number, top);
+        note_each(&mut self.changes, records.as_slice(), &self.vector);
         let before = self.held.len();
         join_both(&mut self.held, &mut self.versions, floor, records);
         let dropped = before - self.held.len();

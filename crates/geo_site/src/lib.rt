@@ -13,6 +13,7 @@ pub mod event;
 pub mod exchange;
 pub mod fetch;
 pub mod flush;
+pub mod notes;
 pub mod reap;
 pub mod refusal;
 pub mod setup;

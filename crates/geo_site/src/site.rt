@@ -4,11 +4,13 @@ ghost use Rattle.indexmap.specs.IndexMap.{get};
 ghost use Rattle.geo_versions.specs.Keys.{same_key};
 ghost use Rattle.geo_versions.specs.Operations.{version_in};
 ghost use Rattle.geo_versions.specs.Maps.{floor_in, record_in};
+ghost use Rattle.geo_delta.specs.Changes.{Traced, nothing_pending, traced_prop};
 ghost use Rattle.geo_site.specs.Machine.{Numbered, Covers, Settled, EndsFrom, knows_floor};
 
 use crate::blob::Blob;
 use crate::refusal::SetupError;
 use crate::setup::{Limits, Setup};
+use geo_delta::Changes;
 use geo_stamp::{Acks, Stamp, Vector};
 use geo_versions::{Key, Version, Versions};
 use indexmap::IndexMap;
@@ -25,6 +27,8 @@ pub struct Site {
     /// What it last heard of each site's vector.
     pub(crate) heard: Acks,
     pub(crate) versions: Versions,
+    /// The keys whose records changed last, with what it knew then.
+    pub(crate) changes: Changes,
     pub(crate) held: IndexMap<Key, Blob, RandomState>,
     pub(crate) hits: u64,
     pub(crate) misses: u64,
@@ -35,6 +39,7 @@ pub struct Site {
     ghost numbered: { Numbered number vector },
     ghost floor_known: { knows_floor vector (floor_in versions) ≡ true },
     ghost covered: { Covers vector (record_in versions) },
+    ghost traced: { Traced nothing_pending (record_in versions) changes } by { traced_prop nothing_pending (record_in versions) changes },
     ghost ends: { EndsFrom earliest (record_in versions) },
     ghost named: { Settled (record_in versions) (λ key. get same_key held key) },
 }
@@ -61,6 +66,9 @@ impl Site {
         let Ok(hasher) = setup.hasher.clone() else {
             return Err(SetupError::Memory);
         };
+        let Ok(changes) = Changes::new(alloc, setup.sites as usize) else {
+            return Err(SetupError::Memory);
+        };
         Ok(Site {
             number: setup.site,
             limits: Limits {
@@ -70,6 +78,7 @@ impl Site {
             vector: Vector::new(setup.sites as usize),
             heard: Acks::new(setup.sites as usize),
             versions: Versions::new(alloc, setup.hasher),
+            changes,
             held: IndexMap::with_hasher(alloc, hasher),
             hits: 0,
             misses: 0,

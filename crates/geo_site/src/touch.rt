@@ -10,6 +10,7 @@ ghost use Rattle.geo_site.specs.Machine.{clock_of, visible_in};
 ghost use Rattle.geo_site.specs.Sites.{state_in, touched_in, HasIssued, Rests, Stays, FetchTouchDoes};
 ghost use Rattle.geo_site.specs.Changes.{next_stamp_of, HasRecord, HasBody};
 
+use crate::notes::note;
 use crate::reap::earlier;
 use crate::site::Site;
 use geo_grammar::{Found, Reply};
@@ -38,6 +39,7 @@ impl Site {
     {
         self.versions.touch(key, stamp, expiry);
         self.vector.raise(self.number, stamp.time());
+        note(&mut self.changes, key, &self.vector);
         self.earliest = earlier(self.earliest, expiry);
     }
 

@@ -1,8 +1,8 @@
 //! What a parcel leaves out: what its addressee was heard to know.
 use crate::Site;
-use crate::tests::{opened, says, sent, taken, version};
+use crate::tests::{opened, read, says, sent, taken, version};
 use geo_delta::Parcel;
-use std::alloc::Global;
+use std::alloc::{AllocError, Global};
 use std::hash::RandomState;
 use std::process::Abort;
 use std::test::Fail;
@@ -105,4 +105,60 @@ fn what_a_third_site_told_is_left_out_too(rt: HostRuntime) -> Result<(), Fail> {
     let mut two = opened(alloc, 2, 3, 100, RandomState::new(&rt)?)?;
     let mut three = opened(alloc, 3, 3, 100, RandomState::new(&rt)?)?;
     tell_two(&rt, alloc, &mut one, &mut two, &mut three)
+}
+
+/// A site writes so many keys, one after the other.
+fn write_many(alloc: Global, site: &mut Site, count: u32) -> Result<(), AllocError> {
+    for number in 0..count {
+        let text = format!(in alloc; "set k{number} 0 0 1\r\nx\r\n")?;
+        let _stored = read(alloc, site, 100, text.as_bytes())?;
+    }
+    Ok(())
+}
+
+/// Site 1 hears that site 2 knows what it wrote, takes more records from site 3 than it keeps changes, and tells them all to
+/// site 2.
+fn tell_many(
+    rt: &impl Abort,
+    alloc: Global,
+    one: &mut Site,
+    two: &mut Site,
+    three: &mut Site,
+) -> Result<(), Fail> {
+    writes(rt, alloc, one, "set a 0 0 1\r\nx\r\n")?;
+    taken(alloc, two, sent(alloc, one, 2)?)?;
+    taken(alloc, one, sent(alloc, two, 1)?)?;
+    write_many(alloc, three, 5_000)?;
+    taken(alloc, one, sent(alloc, three, 1)?)?;
+    let all = sent(alloc, one, 2)?;
+    assert_eq!(rt; shape(&all), (5_000, [1, 1, 0], [5_000, 1, 5_000]));
+    taken(alloc, two, all)?;
+    Ok(())
+}
+
+/// What comes after that is told by itself.
+fn tell_one_more(
+    rt: &impl Abort,
+    alloc: Global,
+    one: &mut Site,
+    two: &mut Site,
+) -> Result<(), Fail> {
+    taken(alloc, one, sent(alloc, two, 1)?)?;
+    writes(rt, alloc, one, "set b 0 0 1\r\ny\r\n")?;
+    let last = sent(alloc, one, 2)?;
+    assert_eq!(rt;
+        shape(&last),
+        (1, [5_000, 5_000, 5_000], [5_001, 5_000, 5_000])
+    );
+    Ok(())
+}
+
+#[test]
+fn more_changes_than_are_kept_are_told_all_the_same(rt: HostRuntime) -> Result<(), Fail> {
+    let alloc = rt.alloc();
+    let mut one = opened(alloc, 1, 3, 10_000, RandomState::new(&rt)?)?;
+    let mut two = opened(alloc, 2, 3, 10_000, RandomState::new(&rt)?)?;
+    let mut three = opened(alloc, 3, 3, 10_000, RandomState::new(&rt)?)?;
+    tell_many(&rt, alloc, &mut one, &mut two, &mut three)?;
+    tell_one_more(&rt, alloc, &mut one, &mut two)
 }

@@ -11,6 +11,7 @@ use Rattle.geo_site.specs.Machine.{knows_floor, knows_record}
 use Rattle.geo_site.proofs.Entries.{Within, length_raised}
 use Rattle.geo_site.proofs.Ending.{ends_above}
 use Rattle.geo_site.proofs.Flushing.{flush_floor, flush_covers, flush_named, flush_same}
+use Rattle.geo_site.proofs.Noting.{traced_above}
 use Rattle.geo_site.proofs.site.Site.flush.Goals as goal
 
 pub invariant_of-self : goal.invariant_of-self
@@ -33,6 +34,7 @@ invariant_of-self c =
       floor_known = ap (λ v. knows_floor v f') vec ∙ flush_floor v f f' map map' held held' n s.floor_known s.covered num floor c.raise_floor.ensures.records c.keep_named.ensures.kept;
       ends = ends_above s.earliest f' map map' s.ends c.raise_floor.ensures.records;
       covered = λ q. ap (λ v. knows_record v (map' q)) vec ∙ flush_covers v f f' map map' held held' n s.floor_known s.covered num floor c.raise_floor.ensures.records c.keep_named.ensures.kept q;
+      traced = traced_above f' map map' s.changes c.raise_floor.ensures.records s.traced;
       named = flush_named v f f' map map' held held' n s.floor_known s.covered num floor c.raise_floor.ensures.records c.keep_named.ensures.kept;
     }
 

@@ -1,4 +1,4 @@
-use Rattle.std.proofs.Common.{◌≡◌, ℕ, List, subst, arith, ap, sym, ◌∙◌, length}
+use Rattle.std.proofs.Common.{◌≡◌, ℕ, true, List, subst, arith, ap, sym, ◌∙◌, length}
 use Rattle.indexmap.specs.IndexMap.{get}
 use Rattle.geo_stamp.specs.Vectors.{vector_joined, greatest_of, raised}
 use Rattle.geo_versions.specs.Keys.{same_key}
@@ -13,6 +13,9 @@ use Rattle.geo_site.proofs.Ending.{ends_joined, listed_ends}
 use Rattle.geo_site.proofs.Sound.{named_some}
 use Rattle.geo_site.proofs.Writing.{knows_joined, knows_floors, knows_more, knows_floor_more}
 use Rattle.geo_site.proofs.Taking.{left_rises, right_rises, all_listed}
+use Rattle.geo_site.proofs.Noting.{traced_joined}
+use Rattle.geo_site.specs.Noting.{is_listed}
+use Rattle.geo_delta.specs.Changes.{Traced}
 use Rattle.geo_site.proofs.site.Site.join.Goals as goal
 
 pub invariant_of-self : goal.invariant_of-self
@@ -30,11 +33,14 @@ invariant_of-self c =
     let g = c.args.floor in
     let up = left_rises v c.args.upto n num in
     let other = right_rises v c.args.upto n num in
+    let covered : (q : List ℕ) → knows_record c.raise.new.self (record_in c.join_both.new.versions q) ≡ true = λ q. (λ i. knows_record (vec i) ((c.join_both.ensures.records q ∙ ap (λ h. above_both h (record_joined (record_in s.versions q) (listed_at c.args.records q))) c.join_both.ensures.floor) i))
+    ∙ knows_joined new (floor_joined f g) (record_in s.versions q) (listed_at c.args.records q) (knows_more v new up (record_in s.versions q) (s.covered q)) (knows_more c.args.upto new other (listed_at c.args.records q) (all_listed c.args.upto c.args.records q c.requires.records_known)) in
     record {
       numbered = (s.numbered.0, (let h = s.numbered.1 in omega (arith, many, h)), (let h = s.numbered.2 in omega (arith, many, h)));
       floor_known = (λ i. knows_floor (vec i) (c.join_both.ensures.floor i)) ∙ knows_floors new f g (knows_floor_more v new up f s.floor_known) (knows_floor_more c.args.upto new other g c.requires.floor_known);
-      covered = λ q. (λ i. knows_record (vec i) ((c.join_both.ensures.records q ∙ ap (λ h. above_both h (record_joined (record_in s.versions q) (listed_at c.args.records q))) c.join_both.ensures.floor) i))
-          ∙ knows_joined new (floor_joined f g) (record_in s.versions q) (listed_at c.args.records q) (knows_more v new up (record_in s.versions q) (s.covered q)) (knows_more c.args.upto new other (listed_at c.args.records q) (all_listed c.args.upto c.args.records q c.requires.records_known));
+      covered = λ q. covered q;
+      traced = c.note_each.ensures (record_in c.join_both.new.versions) (λ q none. covered q) (subst (λ (es : List (List ℕ × Rec)). Traced (is_listed es) (record_in c.join_both.new.versions) s.changes) (sym c.as_slice-2.ensures)
+          (traced_joined (floor_in c.join_both.new.versions) c.args.records (record_in s.versions) (record_in c.join_both.new.versions) s.changes c.join_both.ensures.records s.traced));
       ends = ends_joined s.earliest c.earliest_in-self.result (floor_in c.join_both.new.versions) (record_in s.versions) (listed_at c.args.records) (record_in c.join_both.new.versions) s.ends c.earliest_in-self.ensures.least
           (listed_ends c.earliest_in-self.result c.args.records (subst (λ (es : List (List ℕ × Rec)). All (EndFrom c.earliest_in-self.result) es) c.as_slice.ensures c.earliest_in-self.ensures.ends))
           c.join_both.ensures.records;

@@ -1,5 +1,5 @@
 use Rattle.std.proofs.Common.{sym, subst, ◌≤◌, ◌≡◌, ◌+◌, ℕ, List, arith, ap, ◌∙◌, length}
-use Rattle.std.specs.Prelude.{cond, Some, None}
+use Rattle.std.specs.Prelude.{cond, Some, None, true}
 use Rattle.indexmap.specs.IndexMap.{get}
 use Rattle.geo_stamp.specs.Stamps.{Moment}
 use Rattle.geo_stamp.specs.Vectors.{raised, greatest_of}
@@ -10,6 +10,7 @@ use Rattle.geo_site.specs.Entries.{Held}
 use Rattle.geo_site.specs.Machine.{knows_floor, knows_record}
 use Rattle.geo_site.proofs.Entries.{Within, length_raised}
 use Rattle.geo_site.proofs.Ending.{ends_put}
+use Rattle.geo_site.proofs.Noting.{traced_put}
 use Rattle.geo_site.proofs.Touching.{touch_floor, touch_covers, touch_bodies, touch_named, touch_same}
 use Rattle.geo_site.proofs.site.Site.renew.Goals as goal
 
@@ -31,11 +32,13 @@ invariant_of-self c =
     = λ q. c.touch.ensures.records q ∙ (λ i. cond {A = Record} (same_key q key) (above_both f (record_joined (map q) (None, Some (c.requires.next i, e)))) (map q)) in
     let norm : (q : List ℕ) → above_both f (map q) ≡ map q = s.versions.above in
     let many = ap length vec ∙ length_raised v n (greatest_of v + 1) in
+    let covered : (q : List ℕ) → knows_record c.raise.new.self (map' q) ≡ true = λ q. ap (λ v. knows_record v (map' q)) vec ∙ touch_covers v f f' map map' held n e key s.floor_known s.covered s.named norm num c.touch.ensures.floor new q in
     record {
       numbered = (s.numbered.0, (let h = s.numbered.1 in omega (arith, many, h)), (let h = s.numbered.2 in omega (arith, many, h)));
       floor_known = ap (λ v. knows_floor v f') vec ∙ touch_floor v f f' map map' held n e key s.floor_known s.covered s.named norm num c.touch.ensures.floor new;
       ends = λ q st x h ne. subst (λ least. least ≤ x) (sym c.earlier-self.ensures) (ends_put s.earliest e (record { time = greatest_of v + 1; site = n }) f map map' key None s.ends new q st x h ne);
-      covered = λ q. ap (λ v. knows_record v (map' q)) vec ∙ touch_covers v f f' map map' held n e key s.floor_known s.covered s.named norm num c.touch.ensures.floor new q;
+      covered = λ q. covered q;
+      traced = c.note.ensures map' (λ q none. covered q) (traced_put key map map' s.changes (λ q apart. new q ∙ ap (λ t. cond {A = Record} t (above_both f (record_joined (map q) (None, Some (record { time = greatest_of v + 1; site = n }, e)))) (map q)) apart) s.traced);
       named = touch_named v f f' map map' held n e key s.floor_known s.covered s.named norm num c.touch.ensures.floor new;
     }
 

@@ -1,5 +1,5 @@
 use Rattle.std.proofs.Common.{sym, subst, ◌≤◌, ◌≡◌, ◌+◌, ℕ, List, arith, ap, ◌∙◌, length}
-use Rattle.std.specs.Prelude.{cond, Some}
+use Rattle.std.specs.Prelude.{cond, Some, true}
 use Rattle.sha2.specs.Sha256.{sha256}
 use Rattle.indexmap.specs.IndexMap.{get}
 use Rattle.geo_stamp.specs.Stamps.{Moment}
@@ -14,6 +14,7 @@ use Rattle.geo_site.specs.Machine.{knows_floor, knows_record}
 use Rattle.geo_site.proofs.Entries.{Within, length_raised}
 use Rattle.geo_versions.specs.Operations.Act.{Write}
 use Rattle.geo_site.proofs.Ending.{ends_put}
+use Rattle.geo_site.proofs.Noting.{traced_put, traced_same, covers_same, ends_same, named_same}
 use Rattle.geo_site.proofs.Written.{write_puts, write_floor, write_covers, write_named, write_same}
 use Rattle.geo_site.proofs.site.Site.write.Goals as goal
 
@@ -41,11 +42,13 @@ invariant_of-self-2 c =
     let floor = write_floor v f f' map map' held held' n c.args.expiry key (Write key bytes c.args.flags c.args.expiry) (Value (sha256 bytes) c.args.flags (length bytes)) (Some bytes) (write_puts key bytes c.args.flags c.args.expiry) s.floor_known s.covered s.named norm num c.in_ok-write.ensures.floor new new_held in
     let covers = write_covers v f f' map map' held held' n c.args.expiry key (Write key bytes c.args.flags c.args.expiry) (Value (sha256 bytes) c.args.flags (length bytes)) (Some bytes) (write_puts key bytes c.args.flags c.args.expiry) s.floor_known s.covered s.named norm num c.in_ok-write.ensures.floor new new_held in
     let many = ap length vec ∙ length_raised v n (greatest_of v + 1) in
+    let covered : (q : List ℕ) → knows_record c.raise.new.self (map' q) ≡ true = λ q. ap (λ v. knows_record v (map' q)) vec ∙ covers q in
     record {
       numbered = (s.numbered.0, (let h = s.numbered.1 in omega (arith, many, h)), (let h = s.numbered.2 in omega (arith, many, h)));
       floor_known = ap (λ v. knows_floor v f') vec ∙ floor;
       ends = λ q st e h ne. subst (λ least. least ≤ e) (sym c.earlier-self.ensures) (ends_put s.earliest c.args.expiry (record { time = greatest_of v + 1; site = n }) f map map' key (Some (record { time = greatest_of v + 1; site = n }, Value (sha256 bytes) c.args.flags (length bytes))) s.ends new q st e h ne);
-      covered = λ q. ap (λ v. knows_record v (map' q)) vec ∙ covers q;
+      covered = λ q. covered q;
+      traced = c.note.ensures map' (λ q none. covered q) (traced_put key map map' s.changes (λ q apart. new q ∙ ap (λ t. cond {A = Record} t (above_both f (record_joined (map q) (Some (record { time = greatest_of v + 1; site = n }, Value (sha256 bytes) c.args.flags (length bytes)), Some (record { time = greatest_of v + 1; site = n }, c.args.expiry)))) (map q)) apart) s.traced);
       named = write_named v f f' map map' held held' n c.args.expiry key (Write key bytes c.args.flags c.args.expiry) (Value (sha256 bytes) c.args.flags (length bytes)) (Some bytes) (write_puts key bytes c.args.flags c.args.expiry) s.floor_known s.covered s.named norm num c.in_ok-write.ensures.floor new new_held;
     }
 
@@ -72,3 +75,18 @@ returns-clause-written c =
     let map' = record_in c.write.new.self in
     let same = write_same v f f' map map' held held' n c.args.expiry key (Write key bytes c.args.flags c.args.expiry) (Value (sha256 bytes) c.args.flags (length bytes)) (Some bytes) (write_puts key bytes c.args.flags c.args.expiry) s.floor_known s.covered s.named norm num c.in_ok-write.ensures.floor new new_held in
     record { vector = vec; floor = same.floor; map = same.map; held = same.held }
+
+pub invariant_of-self-in-Break-branch-3 : goal.invariant_of-self-in-Break-branch-3
+invariant_of-self-in-Break-branch-3 c =
+    let s = c.args.self.now in
+    let map = record_in s.versions in
+    let new = record_in c.write.new.self in
+    let same : (q : List ℕ) → new q ≡ map q = c.in_err-write.ensures.err in
+    record {
+      numbered = s.numbered;
+      floor_known = ap (knows_floor s.vector) c.write.ensures.floor ∙ s.floor_known;
+      covered = covers_same map new same s.vector s.covered;
+      traced = traced_same map new s.changes same s.traced;
+      ends = ends_same map new same s.earliest s.ends;
+      named = named_same map new same (λ q. get same_key s.held q) (λ q. get same_key c.reserve.new.self q) (λ q. ap (lookup (same_key q)) c.in_ok-reserve.ensures.entries) s.named;
+    }
