@@ -1,9 +1,10 @@
 //! A plain Rust site over std's HashMap: the commands, records, parcels and joins of geo_site, without contracts.
-use std::collections::HashMap;
+use std::collections::{HashMap, VecDeque};
 
 const LAST_TIME: u64 = 0xff_ffff_ffff_ffff;
 const LONGEST_VALUE: usize = 1_048_576;
 const THIRTY_DAYS: u64 = 2_592_000;
+const MOST_CHANGES: usize = 4_096;
 
 const K: [u32; 64] = [
     0x428a2f98, 0x71374491, 0xb5c0fbcf, 0xe9b5dba5, 0x3956c25b, 0x59f111f1, 0x923f82a4, 0xab1c5ed5,
@@ -175,6 +176,9 @@ pub struct Site {
     /// What was heard of each site's vector.
     pub heard: [Vector; 16],
     pub records: HashMap<Key, Record>,
+    /// The keys that were changed last, with what was known then, and what was known after the newest of the others.
+    pub changes: VecDeque<(Key, Vector)>,
+    pub reach: Vector,
     pub held: HashMap<Key, Blob>,
     pub hits: u64,
     pub misses: u64,
@@ -203,6 +207,8 @@ impl Site {
             vector: Vector::new(sites),
             heard: [Vector::new(sites); 16],
             records: HashMap::new(),
+            changes: VecDeque::with_capacity(MOST_CHANGES),
+            reach: Vector::new(sites),
             held: HashMap::new(),
             hits: 0,
             misses: 0,
@@ -240,6 +246,7 @@ impl Site {
             }
         }
         self.vector.clocks[self.number as usize - 1] = time;
+        self.note(key);
         self.held.insert(key.clone(), Blob { bytes, digest });
         Reply::Stored
     }
@@ -263,6 +270,12 @@ impl Site {
         if base.covers(&self.vector) {
             return Parcel { from: self.number, to, base, upto: self.vector, records: Vec::new() };
         }
+        let records = if base.covers(&self.reach) { self.recent(&base) } else { self.since(&base) };
+        Parcel { from: self.number, to, base, upto: self.vector, records }
+    }
+
+    /// What a base lacks, by a look at all records.
+    fn since(&self, base: &Vector) -> Vec<(Key, Record)> {
         let mut records: Vec<_> = self
             .records
             .iter()
@@ -270,7 +283,27 @@ impl Site {
             .map(|(key, record)| (key.clone(), *record))
             .collect();
         records.sort_unstable_by(|a, b| a.0.cmp(&b.0));
-        Parcel { from: self.number, to, base, upto: self.vector, records }
+        records
+    }
+
+    /// What a base lacks, by a look at the keys that were changed after what it knows.
+    fn recent(&self, base: &Vector) -> Vec<(Key, Record)> {
+        let news = self.changes.iter().rev().take_while(|(_, after)| !base.covers(after));
+        let mut keys: Vec<Key> = news.map(|(key, _)| key.clone()).collect();
+        keys.sort_unstable();
+        keys.dedup();
+        keys.into_iter()
+            .filter_map(|key| self.records.get(&key).filter(|record| !base.knows_record(record)).copied().map(|record| (key, record)))
+            .collect()
+    }
+
+    fn note(&mut self, key: &Key) {
+        if self.changes.len() == MOST_CHANGES {
+            if let Some((_, after)) = self.changes.pop_front() {
+                self.reach = after;
+            }
+        }
+        self.changes.push_back((key.clone(), self.vector));
     }
 
     /// Whether the vector rose and how many values were dropped; None where the parcel is refused.
@@ -286,6 +319,17 @@ impl Site {
         // As geo_site does, so that the map grows once.
         let missing = parcel.records.iter().filter(|(key, _)| !self.records.contains_key(key)).count();
         self.records.reserve(missing);
+        self.vector.join(&parcel.upto);
+        self.heard[parcel.from as usize - 1].join(&parcel.upto);
+        self.vector.clocks[self.number as usize - 1] = self.vector.greatest();
+        if parcel.records.len() > MOST_CHANGES {
+            self.changes.clear();
+            self.reach = self.vector;
+        } else {
+            for (key, _) in &parcel.records {
+                self.note(key);
+            }
+        }
         let before = self.held.len();
         let few = parcel.records.len() < before;
         for (key, record) in parcel.records {
@@ -301,9 +345,6 @@ impl Site {
                 }
             }
         }
-        self.vector.join(&parcel.upto);
-        self.heard[parcel.from as usize - 1].join(&parcel.upto);
-        self.vector.clocks[self.number as usize - 1] = self.vector.greatest();
         if !few {
             let records = &self.records;
             self.held.retain(|key, blob| records.get(key).is_some_and(|record| names(record, blob)));

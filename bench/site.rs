@@ -6,11 +6,12 @@ mod clock;
 mod plain_site;
 
 use clock::cpu_nanos;
-use plain_site::{Key, Parcel, Reply, Request, Site, sha256};
+use plain_site::{Key, Parcel, Reply, Request, Site, Vector, sha256};
 
 const BATCH: u32 = 1_000;
 const COMMANDS: u32 = 200_000;
 const SMALL_TAKES: u32 = 1_000;
+const SMALL_SENDS: u32 = 1_000;
 
 #[derive(Clone, Copy)]
 enum Kind {
@@ -120,6 +121,21 @@ fn measure_small_take(site: &mut Site, keys: u32) {
     print("take_one", keys, SMALL_TAKES as u64, 0, took, sum);
 }
 
+/// Parcels of one record each: a key is set that is there, and what came before it is acknowledged.
+fn measure_small_send(site: &mut Site, keys: u32) {
+    let (mut took, mut sum) = (0, 0);
+    for number in 0..SMALL_SENDS {
+        let known = Parcel { from: 2, to: 1, base: Vector::new(3), upto: site.vector, records: Vec::new() };
+        site.take(known).expect("taken");
+        site.act(100, &set(spread(number, keys), b"one"));
+        let start = cpu_nanos();
+        let made = black_box(site.send(2));
+        took += cpu_nanos() - start;
+        sum += made.records.len() as u64;
+    }
+    print("send_one", keys, SMALL_SENDS as u64, 0, took, sum);
+}
+
 /// The bytes of memory that the process has resident.
 fn resident() -> u64 {
     let text = std::fs::read_to_string("/proc/self/statm").expect("statm");
@@ -140,6 +156,7 @@ fn measure_site(keys: u32) {
     measure_send(&site, keys, times);
     measure_takes(&site, keys, times);
     measure_small_take(&mut site, keys);
+    measure_small_send(&mut site, keys);
 }
 
 fn measure_sha(length: u32, times: u32) {
