@@ -1,7 +1,6 @@
 -- Maps as functions: what stands at a key, or the least where there is nothing.
 use Rattle.std.specs.Prelude.{◌≡◌, Bool, List, refl, [], ◌∷◌, if◌then◌else◌, not, is_some, count_by}
 use Rattle.std.specs.Prelude.{Option, None, Some, ℕ, ◌<◌, ◌≤◌, slice_get}
-use Rattle.std.specs.List.{list_all}
 use Rattle.std.specs.Map.{lookup}
 use Rattle.std.specs.Coded.{Coded, code_by, coded×, coded_ℕ, coded_list}
 
@@ -35,10 +34,6 @@ RoomFor R (Some u) (Some v) = R u v
 -- how many of the entries have a key that the map has not
 abbrev pub missing : {K U V : Type 0} → (K → K → Bool) → List (K × U) → List (K × V) → ℕ
 missing {K} {U} {V} eq mine es = count_by (λ (e : K × V). not (is_some (lookup (eq e.0) mine))) es
-
--- the map has each of the keys
-abbrev pub has_each : {K U V : Type 0} → (K → K → Bool) → List (K × U) → List (K × V) → Bool
-has_each {K} {U} {V} eq mine es = list_all (λ (e : K × V). is_some (lookup (eq e.0) mine)) es
 
 -- a map has room for another: for each of its keys that is missing, and in the values that are there
 pub record HasRoomFor {K V : Type 0} (R : V → V → Type 0) (eq : K → K → Bool) (mine other : Entries K V) : Type 0 where

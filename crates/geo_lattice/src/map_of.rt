@@ -4,7 +4,7 @@ ghost use Rattle.std.specs.Map.{keys_of, lookup};
 ghost use Rattle.std.specs.List.Sorted.{IsStrictlySortedBy};
 ghost use Rattle.std.specs.Option.{option_and_then};
 ghost use Rattle.std.specs.List.{IsDistinct};
-ghost use Rattle.geo_lattice.specs.Maps.{get, meaning_or, meaning_at, RoomFor, HasRoomFor, HasRoomForList, missing, EachFound, all_joined, has_each};
+ghost use Rattle.geo_lattice.specs.Maps.{get, meaning_or, meaning_at, RoomFor, HasRoomFor, HasRoomForList, missing, EachFound, all_joined};
 
 use crate::change::{Change, Show, Test};
 use crate::lattice::{Bottom, Flat, Lattice};
@@ -249,19 +249,48 @@ impl<K: Twin + Eq + Hash, L: Bottom> MapOf<K, L> {
 }
 
 impl<K: Twin + Eq + Hash, L: Bottom + Flat> MapOf<K, L> {
-    fn has_each(&self, values: &[(K, L)]) -> bool
-        ensures { result ≡ has_each K.eq self.now.entries values.now }
-    {
-        values.iter().all(|(key, _)| self.entries.contains_key(key))
+    /// Where one of several keys stands, from which the others may be found without a look-up.
+    fn place_of(&self, values: &[(K, L)], index: usize) -> usize {
+        match values.get(index) {
+            Some((key, _)) if values.len() > 1 => self.entries.get_index_of(key).unwrap_or(0),
+            _ => 0,
+        }
     }
 
-    fn count_lacking(&self, values: &[(K, L)]) -> usize
-        ensures { result ≡ missing K.eq self.now.entries values.now }
+    /// Whether a key is there, and the place before it where it was found at this place.
+    fn finds(&self, place: usize, key: &K) -> (bool, usize)
+        ensures { result.0 ≡ is_some (get K.eq self.now key.now) }
     {
-        values
-            .iter()
-            .filter(|(key, _)| !self.entries.contains_key(key))
-            .count()
+        match self.entries.get_index(place) {
+            Some((other, _)) if other == key => (true, place.saturating_sub(1)),
+            _ => (self.entries.contains_key(key), place),
+        }
+    }
+
+    /// For how many of these values a place may be wanted: no more than there are places for exactly where places for all are there.
+    fn wanted(&self, values: &[(K, L)], places: usize) -> usize
+        ensures enough { missing K.eq self.now.entries values.now ≤ result }
+        ensures exact { missing K.eq self.now.entries values.now ≤ places → result ≤ places }
+    {
+        if values.len() <= places {
+            return values.len();
+        }
+        // What came together once stands together, the greatest key first.
+        let mut place = self.place_of(values, 0);
+        let mut lacking = 0;
+        for (index, (key, _)) in values.iter().enumerate() {
+            let most = lacking + (values.len() - index);
+            // The others need no look-up where all of them fit, and where places have to be made in any case.
+            if most <= places || lacking > places {
+                return most;
+            }
+            let (is_there, before) = self.finds(place, key);
+            place = before;
+            if !is_there {
+                lacking += 1;
+            }
+        }
+        lacking
     }
 
     /// Makes room to join these values: for each that has a key which is not there. It changes no value, and takes no memory where
@@ -271,14 +300,19 @@ impl<K: Twin + Eq + Hash, L: Bottom + Flat> MapOf<K, L> {
         ensures room { OnOk result (HasRoomForList K.eq self.new values.now) }
         ensures succeeds { HasRoomForList K.eq self.old values.now → IsOk result }
     {
-        // As many as there are places for are not looked up, where all others are there.
         let places = self.entries.capacity() - self.entries.len();
-        let (others, _) = values.split_at(values.len().saturating_sub(places));
-        if self.has_each(others) {
-            return Ok(());
+        let wanted = self.wanted(values, places);
+        self.entries.reserve(wanted)
+    }
+
+    /// Whether joining a value changes nothing, which is found only where its key stands at this place, and the place behind it.
+    fn look_at(&self, place: usize, key: &K, value: &L) -> (bool, usize)
+        ensures { result.0 ≡ true → (q : K) → meaning_at L.least L.meaning K.eq self.now q ≡ cond (K.eq key.now q) (L.joined (meaning_at L.least L.meaning K.eq self.now q) (L.meaning value.now)) (meaning_at L.least L.meaning K.eq self.now q) }
+    {
+        match self.entries.get_index(place) {
+            Some((other, mine)) if other == key => (mine.covers(value), place.saturating_add(1)),
+            _ => (false, place),
         }
-        let missing = self.count_lacking(values);
-        self.entries.reserve(missing)
     }
 
     /// Changes each of these values and joins it. A key may be named more than once. It takes no memory.
@@ -287,9 +321,15 @@ impl<K: Twin + Eq + Hash, L: Bottom + Flat> MapOf<K, L> {
         ensures { (q : K) → meaning_at L.least L.meaning K.eq self.new q ≡ L.joined (meaning_at L.least L.meaning K.eq self.old q) (all_joined L.least (λ v. L.meaning (C.changed by.now v)) L.joined K.eq values.items q) }
     {
         let mut values = values;
+        // A value that is there already is found without a look-up where it stands behind the one before it.
+        let mut place = self.place_of(values.as_slice(), values.len().saturating_sub(1));
         while let Some((key, mut value)) = values.pop() {
             by.change(&mut value);
-            self.join_one(key, value);
+            let (is_covered, next) = self.look_at(place, &key, &value);
+            place = next;
+            if !is_covered {
+                self.join_one(key, value);
+            }
         }
     }
 

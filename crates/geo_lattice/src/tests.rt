@@ -197,6 +197,45 @@ fn lists_join_and_are_listed_by_rising_key(rt: HostRuntime) -> Result<(), Fail> 
     Ok(())
 }
 
+/// Registers at the keys from 1 to 5, with a stamp for each.
+fn five(alloc: Global, stamps: [u64; 5]) -> Result<Vec<(Name, Register)>, AllocError> {
+    let [first, second, third, fourth, fifth] = stamps;
+    let mut values = Vec::new(alloc);
+    values.push((Name(1), Register::of(first, first)))?;
+    values.push((Name(2), Register::of(second, second)))?;
+    values.push((Name(3), Register::of(third, third)))?;
+    values.push((Name(4), Register::of(fourth, fourth)))?;
+    values.push((Name(5), Register::of(fifth, fifth)))?;
+    Ok(values)
+}
+
+/// The stamps at the keys from 1 to 3.
+fn first_three(map: &MapOf<Name, Register>) -> [Option<u64>; 3] {
+    let stamp = |name: u32| content(map.get(&Name(name))).map(|(stamp, _)| stamp);
+    [stamp(1), stamp(2), stamp(3)]
+}
+
+#[test]
+fn a_list_that_comes_again_changes_what_is_newer_alone(rt: HostRuntime) -> Result<(), Fail> {
+    let alloc = rt.alloc();
+    let mut map = MapOf::with_hasher(alloc, RandomState::new(&rt)?);
+    map.put(alloc, &Name(9), Register::of(1, 1))?;
+    let rows = [
+        ([4, 4, 4, 4, 4], [Some(4), Some(4), Some(4)]),
+        ([4, 4, 4, 4, 4], [Some(4), Some(4), Some(4)]),
+        ([4, 6, 4, 4, 4], [Some(4), Some(6), Some(4)]),
+        ([5, 5, 5, 4, 4], [Some(5), Some(6), Some(5)]),
+    ];
+    for (stamps, want) in rows {
+        let values = five(alloc, stamps)?;
+        map.ready_list(values.as_slice())?;
+        map.join_list(values, &AsItIs);
+        assert_eq!(rt; first_three(&map), want);
+        assert_eq!(rt; map.len(), 6);
+    }
+    Ok(())
+}
+
 #[test]
 fn a_key_is_found_whose_value_passes(rt: HostRuntime) -> Result<(), Fail> {
     let alloc = rt.alloc();
