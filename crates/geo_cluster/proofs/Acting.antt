@@ -4,9 +4,9 @@ use Rattle.geo_grammar.specs.declared.request.Request.{Request}
 use Rattle.geo_grammar.specs.declared.reply.Reply.{Reply}
 use Rattle.geo_grammar.specs.declared.reply.Reply.TheVariants.{OutOfMemory}
 use Rattle.geo_versions.specs.Operations.{Act}
-use Rattle.geo_site.specs.Entries.{is_done, due_acts}
-use Rattle.geo_site.specs.Machine.{Same}
-use Rattle.geo_site.specs.Sites.{state_in, issued_in, clock_in, waiting_in, reaped_in, HasIssued, FlushDoes, RequestDoesBy, ActDoes, ReapResult, ReapDoes}
+use Rattle.geo_site.specs.Entries.{accesses, is_done, due_acts}
+use Rattle.geo_site.specs.Machine.{Same, accessed, visible_in}
+use Rattle.geo_site.specs.Sites.{state_in, issued_in, clock_in, waiting_in, reaped_in, HasIssued, HasIssuedAfter, FlushDoes, RequestDoesBy, ActDoes, ReapResult, ReapDoes, EvictDoes}
 use Rattle.geo_site.specs.declared.refusal.ReapError.{ReapError}
 use Rattle.geo_site.specs.declared.refusal.ReapError.TheVariants.{ClockEnded, Memory}
 use Rattle.geo_site.specs.declared.site.Site.{Site}
@@ -17,9 +17,9 @@ use Rattle.geo_cluster.proofs.Seats.{length-issue_all, kept_on}
 pub issued_sites : (old new : Site) (acts : List Act) → HasIssued old new acts → sites_of new ≡ sites_of old
 issued_sites old new acts h = ap (λ (v : List ℕ). length v) h.vector ∙ length-issue_all old.number acts (state_in old)
 
-acted_sites : (old new : Site) (acts : List Act) (done : Bool) → (done ≡ true → HasIssued old new acts) → (done ≡ false → Same (state_in old) (state_in new)) → sites_of new ≡ sites_of old
-acted_sites old new acts true h k = issued_sites old new acts (h refl)
-acted_sites old new acts false h k = ap (λ (v : List ℕ). length v) (k refl).vector
+acted_sites : (old new : Site) (keys : List (List ℕ)) (acts : List Act) (done : Bool) → (done ≡ true → HasIssuedAfter keys old new acts) → (done ≡ false → Same (state_in old) (state_in new)) → sites_of new ≡ sites_of old
+acted_sites old new keys acts true h k = ap (λ (v : List ℕ). length v) (h refl).vector ∙ length-issue_all old.number acts (accessed keys (state_in old))
+acted_sites old new keys acts false h k = ap (λ (v : List ℕ). length v) (k refl).vector
 
 -- a due flush, a request behind it, and both
 flush_seat : (old new : Site) (now : ℕ) → FlushDoes old new now → KeepsSeat old new
@@ -27,7 +27,7 @@ flush_seat old new now h = (h.stays.0, issued_sites old new (due_acts (waiting_i
 
 request_seat : (stuck : Bool) (old new : Site) (now : ℕ) (request : Request) (said : Reply) → RequestDoesBy stuck old new now request said → KeepsSeat old new
 request_seat true old new now request said h = (h.3.0, ap (λ (v : List ℕ). length v) h.1.vector, h.3.1)
-request_seat false old new now request said h = (h.stays.0, acted_sites old new (issued_in old now request) (is_done said) h.done h.refused, h.stays.1)
+request_seat false old new now request said h = (h.stays.0, acted_sites old new (accesses now (visible_in (state_in old) now) request) (issued_in old now request) (is_done said) h.done h.refused, h.stays.1)
 
 pub act_seat : (old new : Site) (now : ℕ) (request : Request) (said : Reply) → ActDoes old new now request said → KeepsSeat old new
 act_seat old new now request said h = kept_on old h.mid new (flush_seat old h.mid now h.flush) (request_seat (stuck_in old now) h.mid new now request said h.does)
@@ -52,3 +52,7 @@ reaped_sites old new now key (Err Memory) h = absurd h
 
 pub reap_seat : (old new : Site) (now : ℕ) (key : List ℕ) (outcome : Result Bool ReapError) → ReapDoes old new now key outcome → KeepsSeat old new
 reap_seat old new now key outcome h = kept_on old h.mid new (flush_seat old h.mid now h.flush) (h.stays.0, reaped_sites h.mid new now key outcome h.does, h.stays.1)
+
+-- an eviction
+pub evict_seat : (old new : Site) (key : List ℕ) (done : Bool) → EvictDoes old new key done → KeepsSeat old new
+evict_seat old new key done h = (h.stays.0, ap (λ (v : List ℕ). length v) h.left.vector, h.stays.1)

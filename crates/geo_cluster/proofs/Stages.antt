@@ -42,8 +42,8 @@ numbered_set posts i old new numbered below is seat k post e =
     ]
 
 -- new sites are numbered
-pub opened_numbered : (sites most reap : ℕ) (posts : List Post) → length posts ≡ sites → AreOpened sites most reap posts → AreNumbered posts
-opened_numbered sites most reap posts many opened k post e =
+pub opened_numbered : (sites pages most reap : ℕ) (posts : List Post) → length posts ≡ sites → AreOpened sites pages most reap posts → AreNumbered posts
+opened_numbered sites pages most reap posts many opened k post e =
     let o = opened k post e in
     (o.number_is, ap (λ (v : List ℕ). length v) o.state.vector ∙ length-zeros sites ∙ sym many)
 
@@ -54,8 +54,8 @@ get_push (h ∷ xs) x zero y e = inl e
 get_push (h ∷ xs) x (suc k) y e = elim (get_push xs x k y e) [ inl p ↦ inl p | inr p ↦ inr (ap suc p.0, p.1) ]
 
 -- one more site
-pub opened_push : (sites most reap : ℕ) (posts : List Post) (new : Post) → AreOpened sites most reap posts → IsOpened (length posts + 1) sites most reap new → AreOpened sites most reap (posts ++ new ∷ [])
-opened_push sites most reap posts new opened is k post e = elim (get_push posts new k post e) [
+pub opened_push : (sites pages most reap : ℕ) (posts : List Post) (new : Post) → AreOpened sites pages most reap posts → IsOpened (length posts + 1) sites pages most reap new → AreOpened sites pages most reap (posts ++ new ∷ [])
+opened_push sites pages most reap posts new opened is k post e = elim (get_push posts new k post e) [
   | inl before ↦ opened k post before
-  | inr last ↦ subst (λ (p : Post). IsOpened (k + 1) sites most reap p) last.1 (subst (λ (j : ℕ). IsOpened (j + 1) sites most reap new) (sym last.0) is)
+  | inr last ↦ subst (λ (p : Post). IsOpened (k + 1) sites pages most reap p) last.1 (subst (λ (j : ℕ). IsOpened (j + 1) sites pages most reap new) (sym last.0) is)
 ]

@@ -10,10 +10,10 @@ use Rattle.geo_versions.specs.declared.version.Version.{Version}
 use Rattle.geo_site.specs.Entries.{none_counted}
 use Rattle.geo_site.specs.Machine.{Same, fresh, take}
 use Rattle.geo_stamp.specs.Acks.{heard}
-use Rattle.geo_site.specs.Sites.{heard_in, state_in, counts_in, waiting_in, limits_of, delta_of, Takes, RefusesFor, Rests, TickDoes, ReapDoes}
+use Rattle.geo_site.specs.Sites.{heard_in, state_in, counts_in, waiting_in, limits_of, delta_of, Takes, RefusesFor, Rests, TickDoes, ReapDoes, EvictDoes}
 use Rattle.geo_site.specs.declared.refusal.TakeError.{TakeError}
 use Rattle.geo_site.specs.declared.refusal.ReapError.{ReapError}
-use Rattle.geo_cluster.specs.Prints.{taken_text, tick_text, versions_text}
+use Rattle.geo_cluster.specs.Prints.{taken_text, tick_text, evict_text, versions_text}
 use Rattle.geo_cluster.specs.Answering.{number_of, sites_of, KeepsSeat, AnswersItems, has_quit, until_quit, IsRefusalText, IsReapText}
 use Rattle.geo_cluster.specs.declared.script.post.Post.{Post}
 
@@ -21,19 +21,19 @@ use Rattle.geo_cluster.specs.declared.script.post.Post.{Post}
 abbrev pub AreNumbered : List Post → Type 0
 AreNumbered posts = (k : ℕ) (post : Post) → slice_get posts k ≡ Some post → (number_of post.site ≡ k + 1) × (sites_of post.site ≡ length posts)
 
--- a new site knows nothing, may keep so many records and its own writes for so many seconds behind their end, and has counted
--- nothing; no flush waits there, and nothing came from its client
-pub record IsOpened (number sites most reap : ℕ) (post : Post) : Type 0 where
+-- a new site knows nothing, has so many pages for values, may keep so many records and its own writes for so many seconds behind
+-- their end, and has counted nothing; no flush waits there, and nothing came from its client
+pub record IsOpened (number sites pages most reap : ℕ) (post : Post) : Type 0 where
   pub number_is : number_of post.site ≡ number
-  pub state : Same (fresh sites) (state_in post.site)
+  pub state : Same (fresh sites pages) (state_in post.site)
   pub limits : limits_of post.site ≡ record { max_records = most; reap_after = reap }
   pub counts : counts_in post.site ≡ none_counted
   pub waiting : waiting_in post.site ≡ None
   pub reader : post.reader ≡ start_place
   pub ended : post.ended ≡ false
 
-abbrev pub AreOpened : ℕ → ℕ → ℕ → List Post → Type 0
-AreOpened sites most reap posts = (k : ℕ) (post : Post) → slice_get posts k ≡ Some post → IsOpened (k + 1) sites most reap post
+abbrev pub AreOpened : ℕ → ℕ → ℕ → ℕ → List Post → Type 0
+AreOpened sites pages most reap posts = (k : ℕ) (post : Post) → slice_get posts k ≡ Some post → IsOpened (k + 1) sites pages most reap post
 
 -- where the reader stands to which a client's next bytes come: where the last connection has ended they open a new one
 abbrev pub place_in : Post → Place
@@ -81,6 +81,14 @@ pub record ReapsAt (old : Post) (now : ℕ) (key text : List ℕ) (new : Post) :
   pub outcome : Result Bool ReapError
   pub does : ReapDoes old.site new.site now key outcome
   pub prints : IsReapText outcome text
+  pub reader : new.reader ≡ old.reader
+  pub ended : new.ended ≡ old.ended
+
+-- a site drops the bytes of a key, or holds none, whatever the moment: a flush that is due waits on
+pub record EvictsAt (old : Post) (key text : List ℕ) (new : Post) : Type 0 where
+  pub done : Bool
+  pub does : EvictDoes old.site new.site key done
+  pub prints : text ≡ evict_text done
   pub reader : new.reader ≡ old.reader
   pub ended : new.ended ≡ old.ended
 

@@ -28,6 +28,9 @@ tick_text done = if done then codes "flushed\n" else nothing_text
 abbrev pub reap_text : Bool → List ℕ
 reap_text done = if done then codes "reaped\n" else nothing_text
 
+abbrev pub evict_text : Bool → List ℕ
+evict_text done = if done then codes "evicted\n" else nothing_text
+
 abbrev pub clock_ended_text : List ℕ
 clock_ended_text = codes "clock ended\n"
 

@@ -1,27 +1,30 @@
 -- The Rust type of a line as what it stands for, without where it lies in memory.
 use Rattle.std.specs.Prelude.{◌≢◌, ◌≤◌, ◌^◌}
-use Rattle.geo_cluster.specs.Sayings.{Said, SaysSites, SaysAt, SaysClient, SaysSend, SaysTake, SaysTick, SaysReap, SaysVersions}
+use Rattle.geo_cluster.specs.Sayings.{Said, SaysSites, SaysAt, SaysClient, SaysSend, SaysTake, SaysTick, SaysReap, SaysEvict, SaysVersions}
 use Rattle.geo_cluster.specs.declared.script.line.Line.{Line}
-use Rattle.geo_cluster.specs.declared.script.line.Line.TheVariants.{Sites, At, Client, Send, Take, Tick, Reap, Versions}
+use Rattle.geo_cluster.specs.declared.script.line.Line.TheVariants.{Sites, At, Client, Send, Take, Tick, Reap, Evict, Versions}
 
 -- what a line says
 abbrev pub said_by : Line → Said
-said_by (Sites count max reap) = SaysSites count max reap
+said_by (Sites count pages max reap) = SaysSites count pages max reap
 said_by (At moment) = SaysAt moment
 said_by (Client site text) = SaysClient site text.items
 said_by (Send from to) = SaysSend from to
 said_by (Take site parcel) = SaysTake site parcel
 said_by (Tick site) = SaysTick site
 said_by (Reap site key) = SaysReap site key
+said_by (Evict site key) = SaysEvict site key
 said_by (Versions site) = SaysVersions site
 
--- the numbers of sites are 1 to 16, records at most 1 to 1,000,000, seconds of keeping at most 2^31 - 1, and moments 1 to 2^40
+-- the numbers of sites are 1 to 16, pages 15 to 65,536, records at most 1 to 1,000,000, seconds of keeping at most 2^31 - 1, and
+-- moments 1 to 2^40
 abbrev pub IsInRange : Line → Type 0
-IsInRange (Sites count max reap) = (1 ≤ count) × (count ≤ 16) × (1 ≤ max) × (max ≤ 1000000) × (reap ≤ 2147483647)
+IsInRange (Sites count pages max reap) = (1 ≤ count) × (count ≤ 16) × (15 ≤ pages) × (pages ≤ 65536) × (1 ≤ max) × (max ≤ 1000000) × (reap ≤ 2147483647)
 IsInRange (At moment) = (1 ≤ moment) × (moment ≤ 2 ^ 40)
 IsInRange (Client site text) = (1 ≤ site) × (site ≤ 16)
 IsInRange (Send from to) = (1 ≤ from) × (from ≤ 16) × (1 ≤ to) × (to ≤ 16) × (from ≢ to)
 IsInRange (Take site parcel) = (1 ≤ site) × (site ≤ 16)
 IsInRange (Tick site) = (1 ≤ site) × (site ≤ 16)
 IsInRange (Reap site key) = (1 ≤ site) × (site ≤ 16)
+IsInRange (Evict site key) = (1 ≤ site) × (site ≤ 16)
 IsInRange (Versions site) = (1 ≤ site) × (site ≤ 16)

@@ -9,13 +9,14 @@ use Rattle.geo_cluster.specs.Escapes.{unescaped}
 use Rattle.geo_cluster.specs.Cuts.{cut_at}
 
 pub data Said : Type 0 where
-  SaysSites : (count most reap : ℕ) → Said
+  SaysSites : (count pages most reap : ℕ) → Said
   SaysAt : (moment : ℕ) → Said
   SaysClient : (site : ℕ) (text : List ℕ) → Said
   SaysSend : (from to : ℕ) → Said
   SaysTake : (site parcel : ℕ) → Said
   SaysTick : (site : ℕ) → Said
   SaysReap : (site : ℕ) (key : List ℕ) → Said
+  SaysEvict : (site : ℕ) (key : List ℕ) → Said
   SaysVersions : (site : ℕ) → Said
 
 -- what stands before the first space, and what stands behind it
@@ -52,7 +53,11 @@ abbrev pub option_number : List ℕ → ℕ → ℕ → ℕ → Option (List ℕ
 option_number name least most otherwise None = Some (otherwise, None)
 option_number name least most otherwise (Some text) = option_cut name least most otherwise text (cut_of text)
 
--- how many records a site may keep, 1 to 1,000,000, and for how many seconds it keeps a write that has ended, 0 to 2^31 - 1
+-- how many pages a site has for values, 15 to 65,536, how many records it may keep, 1 to 1,000,000, and for how many seconds it
+-- keeps a write that has ended, 0 to 2^31 - 1
+abbrev pub pages_number : Option (List ℕ) → Option FrontNumber
+pages_number text = option_number (codes "pages") 15 65536 15 text
+
 abbrev pub max_number : Option (List ℕ) → Option FrontNumber
 max_number text = option_number (codes "max") 1 1000000 100000 text
 
@@ -64,14 +69,17 @@ abbrev pub unless_more : Option (List ℕ) → Said → Option Said
 unless_more None line = Some line
 unless_more (Some text) line = None
 
-abbrev pub reap_said : ℕ → FrontNumber → Option Said
-reap_said n max = option_and_then (λ (reap : FrontNumber). unless_more reap.1 (SaysSites n max.0 reap.0)) (reap_number max.1)
+abbrev pub reap_said : ℕ → ℕ → FrontNumber → Option Said
+reap_said n pages max = option_and_then (λ (reap : FrontNumber). unless_more reap.1 (SaysSites n pages max.0 reap.0)) (reap_number max.1)
 
-abbrev pub max_said : FrontNumber → Option Said
-max_said count = option_and_then (reap_said count.0) (max_number count.1)
+abbrev pub max_said : ℕ → FrontNumber → Option Said
+max_said n pages = option_and_then (reap_said n pages.0) (max_number pages.1)
+
+abbrev pub pages_said : FrontNumber → Option Said
+pages_said count = option_and_then (max_said count.0) (pages_number count.1)
 
 abbrev pub sites_said : List ℕ → Option Said
-sites_said args = option_and_then max_said (front_number 1 16 args)
+sites_said args = option_and_then pages_said (front_number 1 16 args)
 
 abbrev pub client_said : List ℕ × List ℕ → Option Said
 client_said args = option_and_then (λ s. option_map (λ t. SaysClient s t) (unescaped args.1)) (site_of args.0)
@@ -90,8 +98,21 @@ as_key bytes = if is_key bytes then Some bytes else None
 abbrev pub key_of : List ℕ → Option (List ℕ)
 key_of text = option_and_then as_key (unescaped text)
 
-abbrev pub key_said : List ℕ × List ℕ → Option Said
-key_said args = option_and_then (λ s. option_map (λ k. SaysReap s k) (key_of args.1)) (site_of args.0)
+-- a site's number, and a key behind it
+abbrev pub SiteKey : Type 0
+SiteKey = ℕ × List ℕ
+
+abbrev pub site_key_cut : List ℕ × List ℕ → Option SiteKey
+site_key_cut args = option_and_then (λ s. option_map (λ k. (s, k)) (key_of args.1)) (site_of args.0)
+
+abbrev pub site_key_of : List ℕ → Option SiteKey
+site_key_of args = option_and_then site_key_cut (cut_of args)
+
+abbrev pub said_to_reap : List ℕ → Option Said
+said_to_reap args = option_map (λ (p : SiteKey). SaysReap p.0 p.1) (site_key_of args)
+
+abbrev pub said_to_evict : List ℕ → Option Said
+said_to_evict args = option_map (λ (p : SiteKey). SaysEvict p.0 p.1) (site_key_of args)
 
 abbrev pub said_by_name : List ℕ → List ℕ → Option Said
 said_by_name name args =
@@ -99,11 +120,12 @@ said_by_name name args =
     else (if bytes_eq name (codes "send") then option_and_then send_said (cut_of args)
     else (if bytes_eq name (codes "take") then option_and_then take_said (cut_of args)
     else (if bytes_eq name (codes "tick") then option_map (λ s. SaysTick s) (site_of args)
-    else (if bytes_eq name (codes "reap") then option_and_then key_said (cut_of args)
+    else (if bytes_eq name (codes "reap") then said_to_reap args
+    else (if bytes_eq name (codes "evict") then said_to_evict args
     else (if bytes_eq name (codes "versions") then option_map (λ s. SaysVersions s) (site_of args)
     else (if bytes_eq name (codes "at") then option_map (λ n. SaysAt n) (moment_of args)
     else (if bytes_eq name (codes "sites") then sites_said args
-    else None)))))))
+    else None))))))))
 
 -- what a line says, if it says something
 abbrev pub said : List ℕ → Option Said

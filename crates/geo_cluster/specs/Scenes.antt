@@ -3,9 +3,9 @@ use Rattle.std.specs.Prelude.{◌≡◌, ℕ, ◌-◌, ◌==◌, nat_lt, nat_le,
 use Rattle.std.specs.declared.alloc.Global.{Global}
 use Rattle.geo_delta.specs.declared.parcel.Parcel.{Parcel}
 use Rattle.geo_site.specs.Sites.{IsSent}
-use Rattle.geo_cluster.specs.Sayings.{Said, SaysSites, SaysAt, SaysClient, SaysSend, SaysTake, SaysTick, SaysReap, SaysVersions}
+use Rattle.geo_cluster.specs.Sayings.{Said, SaysSites, SaysAt, SaysClient, SaysSend, SaysTake, SaysTick, SaysReap, SaysEvict, SaysVersions}
 use Rattle.geo_cluster.specs.Prints.{client_text, parcel_text}
-use Rattle.geo_cluster.specs.Posts.{AreOpened, AnswersBytes, TakesParcel, TicksAt, ReapsAt, Lists}
+use Rattle.geo_cluster.specs.Posts.{AreOpened, AnswersBytes, TakesParcel, TicksAt, ReapsAt, EvictsAt, Lists}
 use Rattle.geo_cluster.specs.declared.script.post.Post.{Post}
 use Rattle.geo_cluster.specs.declared.script.stage.Stage.{Stage}
 
@@ -30,24 +30,26 @@ has_parcel scene k = nat_lt k (length scene.parcels)
 
 -- sites are set up once and before anything else, and a line names only sites and parcels that are there
 abbrev pub can_carry : Scene → Said → Bool
-can_carry scene (SaysSites n most reap) = length scene.posts == 0
+can_carry scene (SaysSites n pages most reap) = length scene.posts == 0
 can_carry scene (SaysAt m) = not (length scene.posts == 0)
 can_carry scene (SaysClient s text) = has_site scene s
 can_carry scene (SaysSend s t) = has_site scene s && has_site scene t
 can_carry scene (SaysTake s k) = has_site scene s && has_parcel scene k
 can_carry scene (SaysTick s) = has_site scene s
 can_carry scene (SaysReap s key) = has_site scene s
+can_carry scene (SaysEvict s key) = has_site scene s
 can_carry scene (SaysVersions s) = has_site scene s
 
 -- the site of a number, with its client
 abbrev pub IsPost : Scene → ℕ → Post → Type 0
 IsPost scene s post = slice_get scene.posts (s - 1) ≡ Some post
 
--- so many sites open, and each may keep so many records, and its own writes for so many seconds behind their end
-pub record SetsUp (old : Scene) (sites most reap : ℕ) (text : List ℕ) (new : Scene) : Type 0 where
+-- so many sites open, and each has so many pages, and may keep so many records, and its own writes for so many seconds behind
+-- their end
+pub record SetsUp (old : Scene) (sites pages most reap : ℕ) (text : List ℕ) (new : Scene) : Type 0 where
   pub prints : text ≡ []
   pub many : length new.posts ≡ sites
-  pub opened : AreOpened sites most reap new.posts
+  pub opened : AreOpened sites pages most reap new.posts
   pub rest : new ≡ record old { posts = new.posts }
 
 -- a site's client gets its answer on one line
@@ -95,6 +97,14 @@ pub record Reaps (old : Scene) (s : ℕ) (key text : List ℕ) (new : Scene) : T
   pub reaps : ReapsAt post old.moment key text next
   pub rest : new ≡ record old { posts = slice_set old.posts (s - 1) next }
 
+-- a site evicts a key, whatever the moment
+pub record Evicts (old : Scene) (s : ℕ) (key text : List ℕ) (new : Scene) : Type 0 where
+  pub post : Post
+  pub next : Post
+  pub is_post : IsPost old s post
+  pub evicts : EvictsAt post key text next
+  pub rest : new ≡ record old { posts = slice_set old.posts (s - 1) next }
+
 -- what a site knows is printed, and nothing changes
 pub record Tells (old : Scene) (s : ℕ) (text : List ℕ) (new : Scene) : Type 0 where
   pub post : Post
@@ -104,13 +114,14 @@ pub record Tells (old : Scene) (s : ℕ) (text : List ℕ) (new : Scene) : Type 
 
 -- what a line that can be carried out prints, and what it leaves
 abbrev pub Carries : Scene → Said → List ℕ → Scene → Type 0
-Carries old (SaysSites n most reap) text new = SetsUp old n most reap text new
+Carries old (SaysSites n pages most reap) text new = SetsUp old n pages most reap text new
 Carries old (SaysAt m) text new = (text ≡ []) × (new ≡ record old { moment = m })
 Carries old (SaysClient s bytes) text new = Feeds old s bytes text new
 Carries old (SaysSend s t) text new = CutsParcel old s t text new
 Carries old (SaysTake s k) text new = Brings old s k text new
 Carries old (SaysTick s) text new = Ticks old s text new
 Carries old (SaysReap s key) text new = Reaps old s key text new
+Carries old (SaysEvict s key) text new = Evicts old s key text new
 Carries old (SaysVersions s) text new = Tells old s text new
 
 -- what comes of a line: it is carried out and prints a text, or it can't be and changes nothing

@@ -1,6 +1,7 @@
 //! Whole scripts, with what they write and how they end, worked out by hand.
 mod commands;
 mod connections;
+mod evictions;
 mod examples;
 mod expiries;
 mod flushes;
@@ -11,6 +12,7 @@ mod sites;
 
 use crate::{Line, ScriptFault, escape, is_skipped, parse_line, run_script, unescape};
 use geo_grammar::Device;
+use std::alloc::{AllocError, Global};
 use std::hash::RandomState;
 use std::io::{Error, ErrorKind, Read, Result as IoResult, Write};
 use std::test::Fail;
@@ -77,6 +79,30 @@ fn prints(rt: &HostRuntime, rows: &[Row]) -> Result<bool, Fail> {
             wanted.extend_from_slice(b"\n")?;
         }
     }
+    let (written, outcome) = played(rt, script.as_slice())?;
+    Ok(outcome == Ok(()) && written == wanted)
+}
+
+/// A text that is put together: each piece, and so many `x` behind it.
+fn spelled(alloc: Global, pieces: &[(&str, usize)]) -> Result<Vec<u8>, AllocError> {
+    let mut text = Vec::new(alloc);
+    for (piece, count) in pieces {
+        text.extend_from_slice(piece.as_bytes())?;
+        for _each in 0..*count {
+            text.push(b'x')?;
+        }
+    }
+    Ok(text)
+}
+
+/// Whether a script prints this and no more, and ends well.
+fn writes(
+    rt: &HostRuntime,
+    script: &[(&str, usize)],
+    wanted: &[(&str, usize)],
+) -> Result<bool, Fail> {
+    let script = spelled(rt.alloc(), script)?;
+    let wanted = spelled(rt.alloc(), wanted)?;
     let (written, outcome) = played(rt, script.as_slice())?;
     Ok(outcome == Ok(()) && written == wanted)
 }
@@ -303,9 +329,10 @@ fn reads_a_line(rt: HostRuntime) -> Result<(), Fail> {
         Some(Line::Take { site, parcel }) => assert_eq!(rt; (site, parcel), (2, 13)),
         _ => panic!(rt; "another line was read"),
     }
-    match parse_line(rt.alloc(), b"sites 2")? {
-        Some(Line::Sites { count, max, reap }) => {
-            assert_eq!(rt; (count, max, reap), (2, 100_000, 60))
+    match parse_line(rt.alloc(), b"evict 4 \\x62")? {
+        Some(Line::Evict { site, key }) => {
+            assert_eq!(rt; site, 4);
+            assert_eq!(rt; key.bytes(), b"b".as_slice());
         }
         _ => panic!(rt; "another line was read"),
     }
@@ -315,6 +342,30 @@ fn reads_a_line(rt: HostRuntime) -> Result<(), Fail> {
             assert_eq!(rt; key.bytes(), b"a\xff".as_slice());
         }
         _ => panic!(rt; "another line was read"),
+    }
+    Ok(())
+}
+
+#[test]
+fn reads_the_options(rt: HostRuntime) -> Result<(), Fail> {
+    let rows = [
+        ("sites 2", (2, 15, 100_000, 60)),
+        ("sites 2 pages 65536", (2, 65_536, 100_000, 60)),
+        ("sites 2 pages 16 reap 0", (2, 16, 100_000, 0)),
+        ("sites 3 pages 017 max 5 reap 7", (3, 17, 5, 7)),
+    ];
+    for (text, wanted) in rows {
+        match parse_line(rt.alloc(), text.as_bytes())? {
+            Some(
+                Line::Sites {
+                    count,
+                    pages,
+                    max,
+                    reap,
+                },
+            ) => assert_eq!(rt; (count, pages, max, reap), wanted, "{text}"),
+            _ => panic!(rt; "another line was read"),
+        }
     }
     Ok(())
 }

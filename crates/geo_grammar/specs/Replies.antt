@@ -1,5 +1,5 @@
 -- The text of each fault and each answer (memcached's protocol.txt). All lines end in a return and a newline.
-use Rattle.std.specs.Prelude.{ℕ, Bool, false, List, [], ◌++◌, length, codes, decimal, Option, Some, None, if◌then◌else◌}
+use Rattle.std.specs.Prelude.{ℕ, Bool, true, false, List, [], ◌++◌, length, codes, decimal, Option, Some, None, if◌then◌else◌}
 use Rattle.std.specs.List.{flat_map}
 use Rattle.geo_grammar.specs.declared.fault.Fault.{Fault}
 use Rattle.geo_grammar.specs.declared.fault.Fault.TheVariants as fault
@@ -51,6 +51,26 @@ reply_bytes TooLarge = codes "SERVER_ERROR object too large for cache\r\n"
 reply_bytes MapFull = codes "SERVER_ERROR version map full\r\n"
 reply_bytes ClockEnded = codes "SERVER_ERROR clock ended\r\n"
 reply_bytes OutOfMemory = codes "SERVER_ERROR out of memory\r\n"
+
+-- a reply that shows no values
+abbrev pub is_short : Reply → Bool
+is_short Stored = true
+is_short NotStored = true
+is_short Exists = true
+is_short NotFound = true
+is_short Deleted = true
+is_short Touched = true
+is_short Done = true
+is_short (Number number) = true
+is_short (Values found) = false
+is_short Version = true
+is_short (Stats s) = true
+is_short Closed = true
+is_short NotANumber = true
+is_short TooLarge = true
+is_short MapFull = true
+is_short ClockEnded = true
+is_short OutOfMemory = true
 
 -- the client wants no answer
 abbrev pub is_noreply : Request → Bool

@@ -1,4 +1,7 @@
 //! Replies.
+ghost use Rattle.std.specs.Prelude.{◌≡◌, true, false, MatchOption};
+ghost use Rattle.geo_grammar.specs.Replies.{is_short};
+
 use crate::stats::Stats;
 use crate::value::ValueBytes;
 use geo_lattice::{Items, Twin};
@@ -64,9 +67,13 @@ pub enum Reply {
     OutOfMemory,
 }
 
-impl Twin for Reply {
-    fn twin(&self, alloc: Global) -> Result<Self, AllocError> {
-        Ok(match self {
+impl Reply {
+    /// A copy of a reply that shows no values, which takes no memory; None for one that does.
+    pub fn short_copy(&self) -> Option<Reply>
+        ensures { MatchOption result (is_short self.now ≡ false) (λ copy. (is_short self.now ≡ true) × (copy ≡ self.now)) }
+    {
+        Some(match self {
+            Reply::Values(_) => return None,
             Reply::Stored => Reply::Stored,
             Reply::NotStored => Reply::NotStored,
             Reply::Exists => Reply::Exists,
@@ -75,7 +82,6 @@ impl Twin for Reply {
             Reply::Touched => Reply::Touched,
             Reply::Done => Reply::Done,
             Reply::Number(number) => Reply::Number(*number),
-            Reply::Values(values) => Reply::Values(values.twin(alloc)?),
             Reply::Version => Reply::Version,
             Reply::Stats(stats) => Reply::Stats(*stats),
             Reply::Closed => Reply::Closed,
@@ -85,5 +91,17 @@ impl Twin for Reply {
             Reply::ClockEnded => Reply::ClockEnded,
             Reply::OutOfMemory => Reply::OutOfMemory,
         })
+    }
+}
+
+impl Twin for Reply {
+    fn twin(&self, alloc: Global) -> Result<Self, AllocError> {
+        if let Some(copy) = self.short_copy() {
+            return Ok(copy);
+        }
+        match self {
+            Reply::Values(values) => Ok(Reply::Values(values.twin(alloc)?)),
+            _ => unreachable!(),
+        }
     }
 }

@@ -62,7 +62,7 @@ pub(crate) fn arith(
     let Some(entry) = present else {
         return Ok(Decision::only(Reply::NotFound));
     };
-    let Some(number) = number_of_value(entry.bytes.as_slice()) else {
+    let Some(number) = number_of_value(entry.bytes) else {
         return Ok(Decision::only(Reply::NotANumber));
     };
     become_number(alloc, entry, count(up, number, by))

@@ -88,10 +88,8 @@ pub(crate) fn store(
         (Verb::Set, _) | (Verb::Add, None) | (Verb::Replace, Some(_)) => {
             Ok(keep(flags, exptime, bytes, now))
         }
-        (Verb::Append, Some(entry)) => join(alloc, entry, entry.bytes.as_slice(), bytes.as_slice()),
-        (Verb::Prepend, Some(entry)) => {
-            join(alloc, entry, bytes.as_slice(), entry.bytes.as_slice())
-        }
+        (Verb::Append, Some(entry)) => join(alloc, entry, entry.bytes, bytes.as_slice()),
+        (Verb::Prepend, Some(entry)) => { join(alloc, entry, bytes.as_slice(), entry.bytes) }
         (Verb::Cas, _) => Ok(compare(present, unique, flags, exptime, bytes, now)),
         (Verb::Add, Some(_)) | (Verb::Replace | Verb::Append | Verb::Prepend, None) => {
             Ok(Decision::only(Reply::NotStored))

@@ -22,7 +22,7 @@ fn zeros(alloc: Global, count: usize) -> Result<ValueBytes, AllocError> {
 /// An entry of these bytes, with flags 7, expiry 150 and number 257.
 fn entry(bytes: &ValueBytes) -> Entry<'_> {
     Entry {
-        bytes,
+        bytes: bytes.as_slice(),
         flags: 7,
         expiry: 150,
         unique: 257,

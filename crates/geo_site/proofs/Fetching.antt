@@ -1,5 +1,5 @@
 -- What a fetch that touches finds, key by key.
-use Rattle.std.proofs.Common.{◌≡◌, ℕ, ℤ, suc, ◌+◌, ◌≤◌, ◌<◌, Bool, true, false, cond, not, ◌&&◌, ◌||◌, inl, inr, List, [], ◌∷◌, ◌++◌, length, take, Option, None, Some, refl, sym, ap, ◌∙◌, subst, arith, get_or, append_assoc}
+use Rattle.std.proofs.Common.{◌≡◌, ℕ, ℤ, suc, ◌+◌, ◌≤◌, ◌<◌, Bool, true, false, cond, not, ◌&&◌, ◌||◌, inl, inr, List, [], ◌∷◌, ◌++◌, length, take, Option, None, Some, refl, sym, ap, ◌∙◌, subst, arith, get_or, append_assoc, true≢false}
 use Rattle.std.specs.List.{list_any, All}
 use Rattle.std.specs.Prelude.{nat_le}
 use Rattle.std.proofs.lemmas.Bool.Decides.{nat_tests}
@@ -8,25 +8,24 @@ use Rattle.geo_stamp.specs.Stamps.{last_time}
 use Rattle.geo_versions.specs.Operations.{Register, Record}
 use Rattle.geo_versions.specs.declared.body.Body.{Body}
 use Rattle.geo_site.specs.declared.site.Site.{Site}
-use Rattle.geo_site.specs.Sites.{state_in, clock_in, basis_in, touched_in, FetchTouchDoes}
+use Rattle.geo_site.specs.Sites.{state_in, clock_in, basis_in, touched_in, fetched, victim_in, FirstVictimFits, HasIssuedAfter, FetchDoes, FetchTouchDoes}
 use Rattle.geo_site.specs.Changes.{HasBody}
+use Rattle.geo_site.proofs.Stocking.{state_path}
 use Rattle.geo_site.proofs.Verdicts.{none_some}
 use Rattle.geo_site.proofs.Acting.{and_false}
 use Rattle.std.proofs.lemmas.List.{take_more, append-nil, length-append}
 use Rattle.geo_grammar.specs.declared.reply.Found.{Found}
 use Rattle.geo_grammar.specs.declared.reply.Reply.{Reply}
 use Rattle.geo_grammar.specs.declared.reply.Reply.TheVariants.{Values, MapFull, ClockEnded}
-use Rattle.geo_grammar.specs.declared.request.Request.TheVariants.{FetchTouch}
+use Rattle.geo_grammar.specs.declared.request.Request.TheVariants.{Fetch, FetchTouch}
 use Rattle.geo_versions.specs.Maps.{has_register}
 use Rattle.geo_memcache.specs.Entries.{Entry, is_live, expiry_at}
 use Rattle.geo_versions.specs.Keys.{same_key}
 use Rattle.std.proofs.lemmas.List.{map-append, length-map}
-use Rattle.geo_stamp.specs.Vectors.{greatest_of, raised}
-use Rattle.geo_versions.specs.Operations.{Act, above_both, record_joined, floor_joined, version_in, body_of, expiry_of, flush_of}
+use Rattle.geo_versions.specs.Operations.{Act, version_in}
 use Rattle.geo_versions.specs.Operations.Act.{Touch}
-use Rattle.geo_site.specs.Machine.{SiteState, Same, visible_in, issue, issue_all, next_operation}
-use Rattle.geo_site.proofs.Steps.{act_held_same}
-use Rattle.geo_site.specs.Entries.{Visible, entry_in, lacks, is_crowded, wants_record, is_growth, owed, Answers, named_by, touches_of, found_at, renewed, after_touches, found_after, touched_after, touched_of}
+use Rattle.geo_site.specs.Machine.{SiteState, Same, visible_in, issue, issue_all}
+use Rattle.geo_site.specs.Entries.{Visible, entry_in, lacks, is_crowded, wants_record, is_growth, owed, Answers, is_done, keys_found, touches_of, found_at, renewed, after_touches, found_after, touched_after, touched_of}
 
 module _ (now expiry : ℕ) (numbers : Bool) (seen : Visible) where
   touched_append : (before xs : List (List ℕ)) (k : List ℕ) → touched_after now expiry numbers seen before (xs ++ k ∷ []) ≡ touched_after now expiry numbers seen before xs ++ found_after now expiry numbers seen (before ++ xs) k
@@ -88,12 +87,7 @@ module _ (now expiry : ℕ) (numbers : Bool) (seen : Visible) where
 
 -- an act issued from an equal state
 issue_from_same : (n : ℕ) (act : Act) (a b x : SiteState) → Same a b → Same (issue n act b) x → Same (issue n act a) x
-issue_from_same n act a b x s t = record {
-  vector = t.vector ∙ ap (λ v. raised v n (greatest_of v + 1)) s.vector;
-  floor = t.floor ∙ (λ i. floor_joined (s.floor i) (flush_of (next_operation (greatest_of (s.vector i)) n act)));
-  map = λ q. t.map q ∙ (λ i. above_both (floor_joined (s.floor i) (flush_of (next_operation (greatest_of (s.vector i)) n act))) (record_joined (s.map q i) (body_of q (next_operation (greatest_of (s.vector i)) n act), expiry_of q (next_operation (greatest_of (s.vector i)) n act))));
-  held = λ q. t.held q ∙ (λ i. named_by (version_in (above_both (floor_joined (s.floor i) (flush_of (next_operation (greatest_of (s.vector i)) n act))) (record_joined (s.map q i) (body_of q (next_operation (greatest_of (s.vector i)) n act), expiry_of q (next_operation (greatest_of (s.vector i)) n act))))) (act_held_same act b.held a.held q (s.held q) i));
-}
+issue_from_same n act a b x s t = subst (λ st. Same (issue n act st) x) (state_path a b s) t
 
 issue_all_append : (n : ℕ) (acts : List Act) (act : Act) (st : SiteState) → issue_all n (acts ++ act ∷ []) st ≡ issue n act (issue_all n acts st)
 issue_all_append n [] act st = refl
@@ -155,8 +149,8 @@ module _ (site : Site) (now expiry : ℕ) (numbers : Bool) where
       by : (t : Bool) (o : Option Entry) → visible_in (state_in site) now key ≡ o → (e : Entry) → cond t (renewed now expiry o) o ≡ Some e → HasBody site key
       by true None is e h = absurd (none_some h)
       by false None is e h = absurd (none_some h)
-      by true (Some x) is e h = body_there key ((state_in site).map key) ((state_in site).held key) x is
-      by false (Some x) is e h = body_there key ((state_in site).map key) ((state_in site).held key) x is
+      by true (Some x) is e h = body_there key ((state_in site).map key) ((state_in site).stock.held key) x is
+      by false (Some x) is e h = body_there key ((state_in site).map key) ((state_in site).stock.held key) x is
 
   all_there : (before keys : List (List ℕ)) → All (λ (f : Found). HasBody site f.key) (touched_after now expiry numbers (visible_in (state_in site) now) before keys)
   all_there before [] = (λ k d lt. absurd (omega arith))
@@ -198,4 +192,29 @@ module _ (old new : Site) (now : ℕ) (exptime : ℤ) (keys : List (List ℕ)) (
     | inl (inl d) ↦ inl (d.0 ∙ sym (owed_by false d.1))
     | inl (inr d) ↦ inl (d.0 ∙ sym (owed_by true d.1))
     | inr d ↦ inr (d.0, (λ i. some_or (list_any is_growth (touches_of (expiry_at exptime now) (touched_in old now (expiry_at exptime now) keys numbers))) true refl i && not (crowded i) && not (d.1 i)))
+  ]
+
+  -- what is shown is touched
+  pub touch_done : is_done said ≡ true → HasIssuedAfter (keys_found (touched_in old now (expiry_at exptime now) keys numbers)) old new (touches_of (expiry_at exptime now) (touched_in old now (expiry_at exptime now) keys numbers))
+  touch_done t = elim does [
+    | inl (inl d) ↦ d.2
+    | inl (inr d) ↦ absurd (true≢false (sym t ∙ ap is_done d.0))
+    | inr d ↦ absurd (true≢false (sym t ∙ ap is_done d.0))
+  ]
+
+-- a touch has no victim
+pub touches_keep : (site : Site) (expiry : ℕ) (found : List Found) → victim_in site (touches_of expiry found) ≡ None
+touches_keep site expiry [] = refl
+touches_keep site expiry (f ∷ more) = refl
+
+pub touches_fitting : (site : Site) (expiry : ℕ) (found : List Found) → FirstVictimFits site (touches_of expiry found)
+touches_fitting site expiry [] = tt
+touches_fitting site expiry (f ∷ more) = tt
+
+-- ---- what is owed to a fetch
+module _ (old new : Site) (now : ℕ) (keys : List (List ℕ)) (numbers : Bool) (said : Reply) (does : FetchDoes old new now keys numbers said) where
+  pub fetch_answers : Answers now (basis_in old now) (Fetch keys numbers) said
+  fetch_answers = elim does.2 [
+    | inl d ↦ inl (d.0 ∙ sym (ap (λ t. cond {A = Reply} t MapFull (Values (fetched old now keys numbers))) (and_false (basis_in old now).full)))
+    | inr d ↦ inr (d.0, ap (λ t. not t && true) (and_false (basis_in old now).full))
   ]

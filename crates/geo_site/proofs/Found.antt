@@ -1,9 +1,13 @@
 -- One key more is looked up.
 use Rattle.std.proofs.Common.{◌≡◌, ℕ, ◌+◌, ◌<◌, Bool, List, [], ◌∷◌, ◌++◌, length, take, Option, sym, ap, ◌∙◌, get_or, append_assoc}
-use Rattle.std.proofs.lemmas.List.{take_more, append-nil}
+use Rattle.std.proofs.lemmas.List.{take_more, append-nil, map-append}
 use Rattle.std.specs.Prelude.{option_to_list}
 use Rattle.geo_grammar.specs.declared.reply.Found.{Found}
-use Rattle.geo_site.specs.Entries.{Visible, found_at, found_of}
+use Rattle.geo_values.specs.Stock.{Stock, hit_at}
+use Rattle.geo_values.specs.Stock as stocks
+use Rattle.geo_site.specs.Entries.{Visible, found_at, found_of, keys_found}
+use Rattle.geo_site.specs.Machine.{hit_all}
+use Rattle.geo_site.proofs.Stocking.{stock_path, stock_by, hit_all_more}
 
 found_append : (numbers : Bool) (seen : Visible) (xs : List (List ℕ)) (k : List ℕ) → found_of numbers seen (xs ++ k ∷ []) ≡ found_of numbers seen xs ++ found_at numbers k (seen k)
 found_append numbers seen [] k = append-nil (found_at numbers k (seen k))
@@ -16,3 +20,17 @@ found_more numbers seen keys i key all more extra found lt at done one is ex =
     is ∙ (λ j. done j ++ (ex ∙ one) j) ∙ sym (found_append numbers seen (take i keys) key)
     ∙ ap (λ k. found_of numbers seen (take i keys ++ k ∷ [])) at
     ∙ ap (found_of numbers seen) (sym (take_more keys i key lt))
+
+-- one hit more
+pub hits_more : (found : List Found) (i : ℕ) (f : Found) (first s t : Stock) → i < length found → f ≡ get_or found i f
+    → stocks.Same (hit_all (keys_found (take i found)) first) s → stocks.Same (hit_at f.key s) t → stocks.Same (hit_all (keys_found (take (i + 1) found)) first) t
+hits_more found i f first s t lt at before hit =
+    stock_by (hit_all (keys_found (take (i + 1) found)) first) t
+    (stock_path (hit_at f.key s) t hit ∙ ap (hit_at f.key) (stock_path (hit_all (keys_found (take i found)) first) s before)
+    ∙ sym (hit_all_more (keys_found (take i found)) f.key first) ∙ ap (λ keys. hit_all keys first) (sym keys))
+  where
+    keys : keys_found (take (i + 1) found) ≡ keys_found (take i found) ++ f.key ∷ []
+    keys =
+        ap keys_found (take_more found i f lt)
+        ∙ map-append (λ (f : Found). f.key) (take i found) (get_or found i f ∷ [])
+        ∙ ap (λ (g : Found). keys_found (take i found) ++ g.key ∷ []) (sym at)

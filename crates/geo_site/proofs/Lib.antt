@@ -15,9 +15,10 @@ pub mod Due
 pub mod Reaping
 pub mod Fetching
 pub mod Found
-pub mod Listed
-pub mod Filtered
+pub mod Stocking
 pub mod Taking
 pub mod Sending
 pub mod Outdated
 pub mod Noting
+pub mod Looking
+pub mod Telling

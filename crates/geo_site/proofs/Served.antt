@@ -23,9 +23,9 @@ use Rattle.geo_grammar.specs.declared.stats.Stats.{Stats}
 use Rattle.geo_memcache.specs.Entries.{Entry, is_live, expiry_at}
 use Rattle.geo_memcache.specs.Decisions.{stores, deletes, touches, counts}
 use Rattle.geo_site.specs.declared.event.Event.{Event}
-use Rattle.geo_site.specs.declared.event.Event.TheVariants.{Command, Send, Take, Tick, Reap}
+use Rattle.geo_site.specs.declared.event.Event.TheVariants.{Command, Evict, Send, Take, Tick, Reap}
 use Rattle.geo_site.specs.declared.event.Trace.{Trace}
-use Rattle.geo_site.specs.declared.event.Trace.TheVariants.{Replied, Sent, SendRefused, Taken, TakeRefused, Ticked, Reaped, ReapRefused}
+use Rattle.geo_site.specs.declared.event.Trace.TheVariants.{Replied, Evicted, Sent, SendRefused, Taken, TakeRefused, Ticked, Reaped, ReapRefused}
 use Rattle.geo_site.specs.Entries.{names, entry_in, renewed, found_at, found_of, found_after, touched_after, is_stuck, unique_if, cas_of, Basis, replied, issued, is_crowded, lacks, owed}
 use Rattle.geo_site.specs.Schedule.{Known, visible, basis, flushed, RepliesTo, RepliesBy, happens, known, Lawful, EachLawful}
 use Rattle.geo_site.specs.Served.{Written, NoCollision, ServedBy, EachServed, values_in, ReplyServes, TraceServes, AllServe}
@@ -191,12 +191,13 @@ serve_by : (stuck : Bool) (w : Known) (s now : ℕ) (request : Request) (reply :
 serve_by true w s now request reply sound apart h = subst (λ r. ReplyServes w s r) (sym h) tt
 serve_by false w s now request reply sound apart h = serve_reply w s sound apart now request reply h
 
-written_replied : (w : Known) (s now : ℕ) (request : Request) (reply : Reply) (bytes : List ℕ) → Written (flushed w s now) bytes → Written (happens w (Command s now request) (Replied reply)) bytes
-written_replied w s now request reply bytes h = record { site = h.site; writing = record { op = h.writing.op; among = grown_replied w s now request reply h.site h.writing.op h.writing.among; key = h.writing.key; flags = h.writing.flags; expiry = h.writing.expiry; is = h.writing.is } }
+written_replied : (w : Known) (s now : ℕ) (request : Request) (reply : Reply) (victim : Option (List ℕ)) (bytes : List ℕ) → Written (flushed w s now) bytes → Written (happens w (Command s now request) (Replied reply victim)) bytes
+written_replied w s now request reply victim bytes h = record { site = h.site; writing = record { op = h.writing.op; among = grown_replied w s now request reply victim h.site h.writing.op h.writing.among; key = h.writing.key; flags = h.writing.flags; expiry = h.writing.expiry; is = h.writing.is } }
 
 -- what is known after the event has no collision
 serve_trace : (w : Known) (e : Event) (t : Trace) → Sound w → NoCollision (happens w e t) → Lawful w e t → TraceServes w e t
-serve_trace w (Command s now request) (Replied reply) sound apart h = serve_by (is_stuck (w.waiting s) (latest (w.at s)) now) (flushed w s now) s now request reply (sound_flushed w s now sound) (λ a b x y. apart a b (written_replied w s now request reply a x) (written_replied w s now request reply b y)) h
+serve_trace w (Command s now request) (Replied reply victim) sound apart h = serve_by (is_stuck (w.waiting s) (latest (w.at s)) now) (flushed w s now) s now request reply (sound_flushed w s now sound) (λ a b x y. apart a b (written_replied w s now request reply victim a x) (written_replied w s now request reply victim b y)) h.0
+serve_trace w (Command s now request) (Evicted done) sound apart h = tt
 serve_trace w (Command s now request) Sent sound apart h = tt
 serve_trace w (Command s now request) (SendRefused why) sound apart h = tt
 serve_trace w (Command s now request) Taken sound apart h = tt
@@ -204,7 +205,17 @@ serve_trace w (Command s now request) (TakeRefused why) sound apart h = tt
 serve_trace w (Command s now request) (Ticked done) sound apart h = tt
 serve_trace w (Command s now request) (Reaped done) sound apart h = tt
 serve_trace w (Command s now request) (ReapRefused why) sound apart h = tt
-serve_trace w (Send s to) (Replied reply) sound apart h = absurd h
+serve_trace w (Evict s key) (Replied reply victim) sound apart h = absurd h
+serve_trace w (Evict s key) (Evicted done) sound apart h = tt
+serve_trace w (Evict s key) Sent sound apart h = tt
+serve_trace w (Evict s key) (SendRefused why) sound apart h = tt
+serve_trace w (Evict s key) Taken sound apart h = tt
+serve_trace w (Evict s key) (TakeRefused why) sound apart h = tt
+serve_trace w (Evict s key) (Ticked done) sound apart h = tt
+serve_trace w (Evict s key) (Reaped done) sound apart h = tt
+serve_trace w (Evict s key) (ReapRefused why) sound apart h = tt
+serve_trace w (Send s to) (Replied reply victim) sound apart h = absurd h
+serve_trace w (Send s to) (Evicted done) sound apart h = tt
 serve_trace w (Send s to) Sent sound apart h = tt
 serve_trace w (Send s to) (SendRefused why) sound apart h = tt
 serve_trace w (Send s to) Taken sound apart h = tt
@@ -212,7 +223,8 @@ serve_trace w (Send s to) (TakeRefused why) sound apart h = tt
 serve_trace w (Send s to) (Ticked done) sound apart h = tt
 serve_trace w (Send s to) (Reaped done) sound apart h = tt
 serve_trace w (Send s to) (ReapRefused why) sound apart h = tt
-serve_trace w (Take s p) (Replied reply) sound apart h = absurd h
+serve_trace w (Take s p) (Replied reply victim) sound apart h = absurd h
+serve_trace w (Take s p) (Evicted done) sound apart h = tt
 serve_trace w (Take s p) Sent sound apart h = tt
 serve_trace w (Take s p) (SendRefused why) sound apart h = tt
 serve_trace w (Take s p) Taken sound apart h = tt
@@ -220,7 +232,8 @@ serve_trace w (Take s p) (TakeRefused why) sound apart h = tt
 serve_trace w (Take s p) (Ticked done) sound apart h = tt
 serve_trace w (Take s p) (Reaped done) sound apart h = tt
 serve_trace w (Take s p) (ReapRefused why) sound apart h = tt
-serve_trace w (Tick s now) (Replied reply) sound apart h = absurd h
+serve_trace w (Tick s now) (Replied reply victim) sound apart h = absurd h
+serve_trace w (Tick s now) (Evicted done) sound apart h = tt
 serve_trace w (Tick s now) Sent sound apart h = tt
 serve_trace w (Tick s now) (SendRefused why) sound apart h = tt
 serve_trace w (Tick s now) Taken sound apart h = tt
@@ -228,7 +241,8 @@ serve_trace w (Tick s now) (TakeRefused why) sound apart h = tt
 serve_trace w (Tick s now) (Ticked done) sound apart h = tt
 serve_trace w (Tick s now) (Reaped done) sound apart h = tt
 serve_trace w (Tick s now) (ReapRefused why) sound apart h = tt
-serve_trace w (Reap s now key) (Replied reply) sound apart h = absurd h
+serve_trace w (Reap s now key) (Replied reply victim) sound apart h = absurd h
+serve_trace w (Reap s now key) (Evicted done) sound apart h = tt
 serve_trace w (Reap s now key) Sent sound apart h = tt
 serve_trace w (Reap s now key) (SendRefused why) sound apart h = tt
 serve_trace w (Reap s now key) Taken sound apart h = tt

@@ -8,15 +8,15 @@ use Rattle.geo_versions.specs.Operations.{Operation, Act, Among, version_of, lat
 use Rattle.geo_versions.specs.Operations.Act.{Write, Delete, Touch, Flush}
 use Rattle.geo_versions.specs.declared.version.Version.{Version}
 use Rattle.geo_site.specs.declared.event.Event.{Event}
-use Rattle.geo_site.specs.declared.event.Event.TheVariants.{Command, Send, Take, Tick, Reap}
+use Rattle.geo_site.specs.declared.event.Event.TheVariants.{Command, Evict, Send, Take, Tick, Reap}
 use Rattle.geo_site.specs.declared.event.Trace.{Trace}
-use Rattle.geo_site.specs.declared.event.Trace.TheVariants.{Replied, Sent, SendRefused, Taken, TakeRefused, Ticked, Reaped, ReapRefused}
+use Rattle.geo_site.specs.declared.event.Trace.TheVariants.{Replied, Evicted, Sent, SendRefused, Taken, TakeRefused, Ticked, Reaped, ReapRefused}
 use Rattle.geo_site.specs.declared.setup.Limits.{Limits}
 use Rattle.geo_grammar.specs.declared.request.Request.{Request}
 use Rattle.geo_grammar.specs.declared.reply.Reply.{Reply}
-use Rattle.geo_site.specs.Entries.{Held, Counts, counted, names, named_by, waits_after, due_acts, waits_on, is_done}
-use Rattle.geo_site.specs.Machine.{act_held}
-use Rattle.geo_site.specs.Schedule.{Known, nothing_known, still_held, settles, new_operation, issues, learns, carried, issues_on, counts_keys, carries_out, happens, waits, flushed, visible, reaps_on}
+use Rattle.geo_site.specs.Entries.{Held, Counts, counted, evicted_on, names, named_by, waits_after, due_acts, waits_on, is_done}
+use Rattle.geo_site.specs.Machine.{act_held, is_victim, without}
+use Rattle.geo_site.specs.Schedule.{Known, nothing_known, still_held, settles, new_operation, issues, learns, carried, issues_on, counts_keys, lets_go, evicts, carries_out, happens, waits, flushed, visible, reaps_on}
 use Rattle.geo_site.specs.Served.{Writing}
 use Rattle.geo_site.proofs.Steps.{among_append, at_most_latest}
 
@@ -196,6 +196,33 @@ sound_sends w s to sound = record {
 sound_counts : (w : Known) (s : ℕ) (counts : Counts) → Sound w → Sound (counts_keys w s counts)
 sound_counts w s counts sound = record { home = sound.home; home_sent = sound.home_sent; once = sound.once; written = sound.written; named = sound.named }
 
+-- what is held without a victim was held before
+pub without_some : (victim : Option (List ℕ)) (h : Held) (q bytes : List ℕ) → without victim h q ≡ Some bytes → h q ≡ Some bytes
+without_some victim h q bytes x = by (is_victim victim q) x
+  where
+    by : (t : Bool) → cond {A = Option (List ℕ)} t None (h q) ≡ Some bytes → h q ≡ Some bytes
+    by true x = absurd (some_none (sym x))
+    by false x = x
+
+-- what is held where a victim may have gone was held before
+pub left_some : (w : Known) (s : ℕ) (victim : Option (List ℕ)) (t : ℕ) (q bytes : List ℕ) → (lets_go w s victim).held t q ≡ Some bytes → w.held t q ≡ Some bytes
+left_some w s victim t q bytes x = elim (eqb_tells t s) [
+  | inl p ↦ subst (λ t. w.held t q ≡ Some bytes) (sym p.1) (without_some victim (w.held s) q bytes (sym (ap (λ b. (cond b (without victim (w.held s)) (w.held t)) q) p.0) ∙ x))
+  | inr p ↦ sym (ap (λ b. (cond b (without victim (w.held s)) (w.held t)) q) p.0) ∙ x
+]
+
+pub sound_lets_go : (w : Known) (s : ℕ) (victim : Option (List ℕ)) → Sound w → Sound (lets_go w s victim)
+sound_lets_go w s victim sound = record {
+  home = sound.home;
+  home_sent = sound.home_sent;
+  once = sound.once;
+  written = λ t q bytes x. sound.written t q bytes (left_some w s victim t q bytes x);
+  named = λ t q bytes x. sound.named t q bytes (left_some w s victim t q bytes x);
+}
+
+sound_evicts : (w : Known) (s : ℕ) (key : List ℕ) → Sound w → Sound (evicts w s key)
+sound_evicts w s key sound = sound_counts (lets_go w s (Some key)) s (evicted_on (Some key) (w.counts s)) (sound_lets_go w s (Some key) sound)
+
 sound_done : (t : Bool) (w v : Known) → Sound w → Sound v → Sound (cond t v w)
 sound_done true w v a b = b
 sound_done false w v a b = a
@@ -207,14 +234,16 @@ sound_waits w s waiting sound = record { home = sound.home; home_sent = sound.ho
 pub sound_flushed : (w : Known) (s now : ℕ) → Sound w → Sound (flushed w s now)
 sound_flushed w s now sound = let acts = due_acts (w.waiting s) (latest (w.at s)) now in sound_waits (issues w s acts) s (waits_on (w.waiting s) (latest (w.at s)) now) (sound_issues w s acts sound)
 
-sound_carries : (w : Known) (s now : ℕ) (request : Request) → Sound w → Sound (carries_out w s now request)
-sound_carries w s now request sound =
+sound_carries : (w : Known) (s now : ℕ) (request : Request) (victim : Option (List ℕ)) → Sound w → Sound (carries_out w s now request victim)
+sound_carries w s now request victim sound =
     let acts = issues_on w s now request in
-    let counts = counted (visible w s now) request (w.counts s) in
-    sound_waits (counts_keys (issues w s acts) s counts) s (waits_after now request (w.waiting s)) (sound_counts (issues w s acts) s counts (sound_issues w s acts sound))
+    let left = lets_go w s victim in
+    let counts = evicted_on victim (counted (visible w s now) request (w.counts s)) in
+    sound_waits (counts_keys (issues left s acts) s counts) s (waits_after now request (w.waiting s)) (sound_counts (issues left s acts) s counts (sound_issues left s acts (sound_lets_go w s victim sound)))
 
 pub sound_happens : (w : Known) (e : Event) (t : Trace) → Sound w → Sound (happens w e t)
-sound_happens w (Command s now request) (Replied reply) sound = let v = flushed w s now in let ok = sound_flushed w s now sound in sound_done (is_done reply) v (carries_out v s now request) ok (sound_carries v s now request ok)
+sound_happens w (Command s now request) (Replied reply victim) sound = let v = flushed w s now in let ok = sound_flushed w s now sound in sound_done (is_done reply) v (carries_out v s now request victim) ok (sound_carries v s now request victim ok)
+sound_happens w (Command s now request) (Evicted done) sound = sound
 sound_happens w (Command s now request) Sent sound = sound
 sound_happens w (Command s now request) (SendRefused why) sound = sound
 sound_happens w (Command s now request) Taken sound = sound
@@ -222,7 +251,17 @@ sound_happens w (Command s now request) (TakeRefused why) sound = sound
 sound_happens w (Command s now request) (Ticked done) sound = sound
 sound_happens w (Command s now request) (Reaped done) sound = sound
 sound_happens w (Command s now request) (ReapRefused why) sound = sound
-sound_happens w (Send s to) (Replied reply) sound = sound
+sound_happens w (Evict s key) (Replied reply victim) sound = sound
+sound_happens w (Evict s key) (Evicted done) sound = sound_done done w (evicts w s key) sound (sound_evicts w s key sound)
+sound_happens w (Evict s key) Sent sound = sound
+sound_happens w (Evict s key) (SendRefused why) sound = sound
+sound_happens w (Evict s key) Taken sound = sound
+sound_happens w (Evict s key) (TakeRefused why) sound = sound
+sound_happens w (Evict s key) (Ticked done) sound = sound
+sound_happens w (Evict s key) (Reaped done) sound = sound
+sound_happens w (Evict s key) (ReapRefused why) sound = sound
+sound_happens w (Send s to) (Replied reply victim) sound = sound
+sound_happens w (Send s to) (Evicted done) sound = sound
 sound_happens w (Send s to) Sent sound = sound_sends w s to sound
 sound_happens w (Send s to) (SendRefused why) sound = sound
 sound_happens w (Send s to) Taken sound = sound
@@ -230,7 +269,8 @@ sound_happens w (Send s to) (TakeRefused why) sound = sound
 sound_happens w (Send s to) (Ticked done) sound = sound
 sound_happens w (Send s to) (Reaped done) sound = sound
 sound_happens w (Send s to) (ReapRefused why) sound = sound
-sound_happens w (Take s p) (Replied reply) sound = sound
+sound_happens w (Take s p) (Replied reply victim) sound = sound
+sound_happens w (Take s p) (Evicted done) sound = sound
 sound_happens w (Take s p) Sent sound = sound
 sound_happens w (Take s p) (SendRefused why) sound = sound
 sound_happens w (Take s p) Taken sound = sound_takes w s p sound
@@ -238,7 +278,8 @@ sound_happens w (Take s p) (TakeRefused why) sound = sound
 sound_happens w (Take s p) (Ticked done) sound = sound
 sound_happens w (Take s p) (Reaped done) sound = sound
 sound_happens w (Take s p) (ReapRefused why) sound = sound
-sound_happens w (Tick s now) (Replied reply) sound = sound
+sound_happens w (Tick s now) (Replied reply victim) sound = sound
+sound_happens w (Tick s now) (Evicted done) sound = sound
 sound_happens w (Tick s now) Sent sound = sound
 sound_happens w (Tick s now) (SendRefused why) sound = sound
 sound_happens w (Tick s now) Taken sound = sound
@@ -246,7 +287,8 @@ sound_happens w (Tick s now) (TakeRefused why) sound = sound
 sound_happens w (Tick s now) (Ticked done) sound = sound_flushed w s now sound
 sound_happens w (Tick s now) (Reaped done) sound = sound
 sound_happens w (Tick s now) (ReapRefused why) sound = sound
-sound_happens w (Reap s now key) (Replied reply) sound = sound
+sound_happens w (Reap s now key) (Replied reply victim) sound = sound
+sound_happens w (Reap s now key) (Evicted done) sound = sound
 sound_happens w (Reap s now key) Sent sound = sound
 sound_happens w (Reap s now key) (SendRefused why) sound = sound
 sound_happens w (Reap s now key) Taken sound = sound
@@ -280,11 +322,12 @@ grown_done false w v t op a c = a
 pub grown_flushed : (w : Known) (s now t : ℕ) (op : Operation) → Among (w.at t) op → Among ((flushed w s now).at t) op
 grown_flushed w s now t op a = grown_issues w s (due_acts (w.waiting s) (latest (w.at s)) now) t op a
 
-pub grown_replied : (w : Known) (s now : ℕ) (request : Request) (reply : Reply) (t : ℕ) (op : Operation) → Among ((flushed w s now).at t) op → Among ((happens w (Command s now request) (Replied reply)).at t) op
-grown_replied w s now request reply t op a = let v = flushed w s now in grown_done (is_done reply) v (carries_out v s now request) t op a (grown_issues v s (issues_on v s now request) t op a)
+pub grown_replied : (w : Known) (s now : ℕ) (request : Request) (reply : Reply) (victim : Option (List ℕ)) (t : ℕ) (op : Operation) → Among ((flushed w s now).at t) op → Among ((happens w (Command s now request) (Replied reply victim)).at t) op
+grown_replied w s now request reply victim t op a = let v = flushed w s now in grown_done (is_done reply) v (carries_out v s now request victim) t op a (grown_issues (lets_go v s victim) s (issues_on v s now request) t op a)
 
 pub grown : (w : Known) (e : Event) (t : Trace) (k : ℕ) (op : Operation) → Among (w.at k) op → Among ((happens w e t).at k) op
-grown w (Command s now request) (Replied reply) t op a = grown_replied w s now request reply t op (grown_flushed w s now t op a)
+grown w (Command s now request) (Replied reply victim) t op a = grown_replied w s now request reply victim t op (grown_flushed w s now t op a)
+grown w (Command s now request) (Evicted done) t op a = a
 grown w (Command s now request) Sent t op a = a
 grown w (Command s now request) (SendRefused why) t op a = a
 grown w (Command s now request) Taken t op a = a
@@ -292,7 +335,17 @@ grown w (Command s now request) (TakeRefused why) t op a = a
 grown w (Command s now request) (Ticked done) t op a = a
 grown w (Command s now request) (Reaped done) t op a = a
 grown w (Command s now request) (ReapRefused why) t op a = a
-grown w (Send s to) (Replied reply) t op a = a
+grown w (Evict s key) (Replied reply victim) t op a = a
+grown w (Evict s key) (Evicted done) t op a = grown_done done w (evicts w s key) t op a a
+grown w (Evict s key) Sent t op a = a
+grown w (Evict s key) (SendRefused why) t op a = a
+grown w (Evict s key) Taken t op a = a
+grown w (Evict s key) (TakeRefused why) t op a = a
+grown w (Evict s key) (Ticked done) t op a = a
+grown w (Evict s key) (Reaped done) t op a = a
+grown w (Evict s key) (ReapRefused why) t op a = a
+grown w (Send s to) (Replied reply victim) t op a = a
+grown w (Send s to) (Evicted done) t op a = a
 grown w (Send s to) Sent t op a = a
 grown w (Send s to) (SendRefused why) t op a = a
 grown w (Send s to) Taken t op a = a
@@ -300,7 +353,8 @@ grown w (Send s to) (TakeRefused why) t op a = a
 grown w (Send s to) (Ticked done) t op a = a
 grown w (Send s to) (Reaped done) t op a = a
 grown w (Send s to) (ReapRefused why) t op a = a
-grown w (Take s p) (Replied reply) t op a = a
+grown w (Take s p) (Replied reply victim) t op a = a
+grown w (Take s p) (Evicted done) t op a = a
 grown w (Take s p) Sent t op a = a
 grown w (Take s p) (SendRefused why) t op a = a
 grown w (Take s p) Taken t op a = grows w s (carried w p) (w.held s) t op a
@@ -308,7 +362,8 @@ grown w (Take s p) (TakeRefused why) t op a = a
 grown w (Take s p) (Ticked done) t op a = a
 grown w (Take s p) (Reaped done) t op a = a
 grown w (Take s p) (ReapRefused why) t op a = a
-grown w (Tick s now) (Replied reply) t op a = a
+grown w (Tick s now) (Replied reply victim) t op a = a
+grown w (Tick s now) (Evicted done) t op a = a
 grown w (Tick s now) Sent t op a = a
 grown w (Tick s now) (SendRefused why) t op a = a
 grown w (Tick s now) Taken t op a = a
@@ -316,7 +371,8 @@ grown w (Tick s now) (TakeRefused why) t op a = a
 grown w (Tick s now) (Ticked done) t op a = grown_flushed w s now t op a
 grown w (Tick s now) (Reaped done) t op a = a
 grown w (Tick s now) (ReapRefused why) t op a = a
-grown w (Reap s now key) (Replied reply) t op a = a
+grown w (Reap s now key) (Replied reply victim) t op a = a
+grown w (Reap s now key) (Evicted done) t op a = a
 grown w (Reap s now key) Sent t op a = a
 grown w (Reap s now key) (SendRefused why) t op a = a
 grown w (Reap s now key) Taken t op a = a

@@ -17,7 +17,8 @@ use Rattle.geo_versions.specs.declared.body.Body.TheVariants.{Gone}
 use Rattle.geo_versions.specs.Maps.{is_unknown, since}
 use Rattle.geo_versions.proofs.Meaning.{newest_append, absorbed, latest_append}
 use Rattle.geo_site.specs.Entries.{Held, named_by}
-use Rattle.geo_site.specs.Machine.{SiteState, Delta, fresh, clock_of, next_operation, map_after, issue, act_held, map_with, take, Same}
+use Rattle.geo_site.proofs.Stocking.{settled_held, act_held_is}
+use Rattle.geo_site.specs.Machine.{act_stock, is_victim, without, victim_by, SiteState, Delta, fresh, clock_of, next_operation, map_after, issue, act_held, map_with, take, Same}
 use Rattle.geo_site.specs.Schedule.{still_held}
 use Rattle.geo_site.specs.Agreement.{Kept, Holds, NoTime, Tells, StateOf, DeltaOf}
 use Rattle.geo_site.proofs.Entries.{Within, entry_joined, length_joined, greatest_joined, entry_at_most, greatest_raised, length_raised, entry_raised, entry_rises}
@@ -139,7 +140,7 @@ module _ (n s : ℕ) (st : SiteState) (ops : List Operation) (held : Held) (act 
       (record { body = comes_body key (body_of key op) refl; expiry = comes_expiry key (expiry_of key op) refl }))
 
   -- an operation is issued
-  pub state_issues : StateOf n s (issue s act st) (ops ++ next_operation (latest ops) s act ∷ []) (still_held (ops ++ next_operation (latest ops) s act ∷ []) (act_held act held))
+  pub state_issues : StateOf n s (issue s act st) (ops ++ next_operation (latest ops) s act ∷ []) (still_held (ops ++ next_operation (latest ops) s act ∷ []) (act_held act (without (victim_by act st.stock) held)))
   state_issues =
       let op = next_operation (latest ops) s act in
       let same : next_operation (clock_of st) s act ≡ op = ap (λ c. next_operation c s act) ok.tells.clock in
@@ -161,9 +162,14 @@ module _ (n s : ℕ) (st : SiteState) (ops : List Operation) (held : Held) (act 
           floors = ap (λ o. floor_joined st.floor (flush_of o)) same ∙ (λ i. floor_joined (ok.tells.floors i) (flush_of op)) ∙ ap (floor_joined (floor_of ops)) (sym (newer_none stamp_cmp (flush_of op))) ∙ sym (newest_append stamp_cmp stamps_total exact_stamps flush_of ops (op ∷ []));
         };
         holds = λ key. subst (λ o. Holds NoTime (map_after st o key) (ops ++ op ∷ []) key) (sym same) (holds_after key);
-        same_held = λ key. (λ i. named_by (version_in (map_after st (same i) key)) (act_held_same act st.held held key (ok.same_held key) i)) ∙ ap (λ v. named_by v (act_held act held key)) (holds_version NoTime (map_after st op key) (ops ++ op ∷ []) key (holds_after key));
+        same_held = λ key. settled_held (map_after st (next_operation (clock_of st) s act)) (act_stock act st.stock) key ∙ (λ i. named_by (version_in (map_after st (same i) key)) (act_held_is act st.stock key i))
+            ∙ (λ i. named_by (version_in (map_after st op key)) (act_held_same act (without (victim_by act st.stock) st.stock.held) (without (victim_by act st.stock) held) key (without_same (victim_by act st.stock) key) i))
+            ∙ ap (λ v. named_by v (act_held act (without (victim_by act st.stock) held) key)) (holds_version NoTime (map_after st op key) (ops ++ op ∷ []) key (holds_after key));
       }
     where
+      without_same : (victim : Option (List ℕ)) (key : List ℕ) → without victim st.stock.held key ≡ without victim held key
+      without_same victim key = ap (λ o. cond {A = Option (List ℕ)} (is_victim victim key) None o) (ok.same_held key)
+
       new_covered : (o : Operation) → Among (next_operation (latest ops) s act ∷ []) o → latest ops + 1 ≤ entry_of (raised st.vector s (clock_of st + 1)) s → Knows (raised st.vector s (clock_of st + 1)) o.stamp
       new_covered o (inl e) le = subst (λ (o : Operation). Knows (raised st.vector s (clock_of st + 1)) o.stamp) e le
       new_covered o (inr h) le = absurd h
@@ -278,7 +284,7 @@ module _ (n s sender : ℕ) (base : List ℕ) (st : SiteState) (d : Delta) (ks l
           floors = (λ i. floor_joined (ok.tells.floors i) (comes.tells.floors i)) ∙ sym (newest_append stamp_cmp stamps_total exact_stamps flush_of ks ls);
         };
         holds = holds_with;
-        same_held = λ key. (λ i. named_by (version_in (map_with st d key)) (ok.same_held key i)) ∙ ap (λ v. named_by v (held key)) (holds_version NoTime (map_with st d key) (ks ++ ls) key (holds_with key));
+        same_held = λ key. settled_held (map_with st d) st.stock key ∙ (λ i. named_by (version_in (map_with st d key)) (ok.same_held key i)) ∙ ap (λ v. named_by v (held key)) (holds_version NoTime (map_with st d key) (ks ++ ls) key (holds_with key));
       }
 
 -- a site that knows nothing
@@ -290,8 +296,8 @@ pub zeros_length : (n : ℕ) → length (zeros n) ≡ n
 zeros_length zero = refl
 zeros_length (suc n) = let h = zeros_length n in omega (arith, h)
 
-pub state_fresh : (n s : ℕ) → StateOf n s (fresh n) [] (λ _. None)
-state_fresh n s = record {
+pub state_fresh : (n s pages : ℕ) → StateOf n s (fresh n pages) [] (λ _. None)
+state_fresh n s pages = record {
   many = zeros_length n;
   tells = record {
     clock = zeros_greatest n;
@@ -310,5 +316,5 @@ state_same n s st new ops held ok same = record {
   many = ap length same.vector ∙ ok.many;
   tells = subst₂ (λ (v : List ℕ) (f : Option Moment). Tells s v f ops) (sym same.vector) (sym same.floor) ok.tells;
   holds = λ key. subst (λ (m : Record). Holds NoTime m ops key) (sym (same.map key)) (ok.holds key);
-  same_held = λ key. same.held key ∙ ok.same_held key;
+  same_held = λ key. same.stock.held key ∙ ok.same_held key;
 }

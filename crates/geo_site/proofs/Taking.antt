@@ -1,13 +1,13 @@
 -- What a take leaves: a vector that knows what both knew, and records whose stamps are known.
-use Rattle.std.proofs.Common.{◌≡◌, ℕ, ◌≤◌, Bool, true, false, cond, ◌&&◌, List, [], ◌∷◌, refl, sym, ap, ◌∙◌, arith, true≢false}
+use Rattle.std.proofs.Common.{◌≡◌, ℕ, ◌≤◌, Bool, true, false, cond, ◌&&◌, List, [], ◌∷◌, refl, sym, subst, arith, true≢false}
 use Rattle.geo_stamp.specs.Vectors.{entry_of, greatest_of, vector_joined, raised}
 use Rattle.geo_versions.specs.Keys.{same_key}
-use Rattle.geo_versions.specs.Operations.{Record, record_joined, above_both, floor_joined, version_in}
+use Rattle.geo_versions.specs.Operations.{Record, record_joined}
 use Rattle.geo_versions.specs.Maps.{Rec, rec_means, listed_at}
-use Rattle.geo_site.specs.Entries.{named_by}
 use Rattle.geo_site.specs.Machine.{SiteState, Delta, Same, take, knows_record}
 use Rattle.geo_site.specs.Sites.{knows_all}
 use Rattle.geo_site.proofs.Entries.{Within, entry_joined, entry_rises}
+use Rattle.geo_site.proofs.Stocking.{state_path}
 use Rattle.geo_site.proofs.Writing.{knows_pair}
 
 module _ (v upto : List ℕ) (n : ℕ) (num : Within (vector_joined v upto) n) where
@@ -32,9 +32,4 @@ all_listed v (e ∷ es) q h = by (same_key q e.0) (all_listed v es q (both (know
 
 -- a take from an equal state
 pub take_from_same : (n : ℕ) (d : Delta) (a b x : SiteState) → Same a b → Same (take n d b) x → Same (take n d a) x
-take_from_same n d a b x s t = record {
-  vector = t.vector ∙ ap (λ v. raised (vector_joined v d.upto) n (greatest_of (vector_joined v d.upto))) s.vector;
-  floor = t.floor ∙ ap (λ f. floor_joined f d.floor) s.floor;
-  map = λ q. t.map q ∙ (λ i. above_both (floor_joined (s.floor i) d.floor) (record_joined (s.map q i) (d.map q)));
-  held = λ q. t.held q ∙ (λ i. named_by (version_in (above_both (floor_joined (s.floor i) d.floor) (record_joined (s.map q i) (d.map q)))) (s.held q i));
-}
+take_from_same n d a b x s t = subst (λ st. Same (take n d st) x) (state_path a b s) t

@@ -1,5 +1,5 @@
 -- What a touch leaves: another expiry, and all else as it was.
-use Rattle.std.proofs.Common.{◌≡◌, ℕ, ◌+◌, ◌≤◌, not, Bool, true, false, cond, List, Option, None, Some, refl, sym, ap, ◌∙◌, arith}
+use Rattle.std.proofs.Common.{◌≡◌, ℕ, ◌+◌, ◌≤◌, not, Bool, true, false, cond, List, Option, None, Some, refl, sym, ap, ◌∙◌, subst, arith}
 use Rattle.std.specs.declared.cmp.Ordering.{Ordering}
 use Rattle.geo_lattice.specs.Registers.{newer, by_both}
 use Rattle.geo_stamp.specs.Stamps.{Moment, stamp_cmp}
@@ -10,7 +10,10 @@ use Rattle.geo_versions.specs.Operations.{Register, Record, above, above_both, b
 use Rattle.geo_versions.specs.Operations.Act.{Touch}
 use Rattle.geo_versions.specs.declared.body.Body.{Body}
 use Rattle.geo_versions.specs.declared.body.Body.TheVariants.{Value, Gone}
-use Rattle.geo_site.specs.Entries.{Held, names, named_by}
+use Rattle.geo_site.specs.Entries.{Held, names}
+use Rattle.geo_values.specs.Stock.{Stock}
+use Rattle.geo_values.specs.Stock as stocks
+use Rattle.geo_site.proofs.Stocking.{stock_done, stock_path}
 use Rattle.geo_site.specs.Machine.{Same, issue, Covers, Settled, knows_record, knows_floor}
 use Rattle.geo_site.proofs.Entries.{Within, entry_raised, entry_rises}
 use Rattle.geo_site.proofs.Writing.{knows_joined, knows_more, knows_floor_more, time_known}
@@ -63,22 +66,18 @@ module _ (v : List ℕ) (f f' : Option Moment) (map map' : List ℕ → Record) 
   pub touch_named : Settled map' held
   touch_named q b h = (λ i. names (version_in (touch_bodies q i, (map' q).1)) b) ∙ names_body (map q).0 (map' q).1 (map q).1 b ∙ nam q b h
 
-  map_is : (q : List ℕ) → map' q ≡ above_both (floor_joined f None) (record_joined (map q) (None, cond {A = Register ℕ} (same_key q key) (Some (record { time = greatest_of v + 1; site = number }, expiry)) None))
-  map_is q = new q ∙ by (same_key q key) ∙ ap (λ g. above_both g (record_joined (map q) (None, cond {A = Register ℕ} (same_key q key) (Some (record { time = greatest_of v + 1; site = number }, expiry)) None))) (sym (newer_none stamp_cmp f))
+  pub touch_map : (q : List ℕ) → map' q ≡ above_both (floor_joined f None) (record_joined (map q) (None, cond {A = Register ℕ} (same_key q key) (Some (record { time = greatest_of v + 1; site = number }, expiry)) None))
+  touch_map q = new q ∙ by (same_key q key) ∙ ap (λ g. above_both g (record_joined (map q) (None, cond {A = Register ℕ} (same_key q key) (Some (record { time = greatest_of v + 1; site = number }, expiry)) None))) (sym (newer_none stamp_cmp f))
     where
       by : (t : Bool) → cond {A = Record} t (above_both f (record_joined (map q) (None, Some (record { time = greatest_of v + 1; site = number }, expiry)))) (map q)
           ≡ above_both f (record_joined (map q) (None, cond {A = Register ℕ} t (Some (record { time = greatest_of v + 1; site = number }, expiry)) None))
       by true = refl
       by false = sym (norm q) ∙ ap (above_both f) (sym (joined_none (map q)))
 
-  still : (q : List ℕ) (o : Option (List ℕ)) → held q ≡ o → named_by (version_in (map' q)) o ≡ o
-  still q None h = refl
-  still q (Some b) h = ap (λ t. cond t (Some b) None) (touch_named q b h)
-
-  pub touch_same : Same (issue number (Touch key expiry) (record { vector = v; floor = f; map = map; held = held })) (record { vector = raised v number (greatest_of v + 1); floor = f'; map = map'; held = held })
-  touch_same = record {
+  pub touch_same : (s t : Stock) → s.held ≡ held → stocks.Same s t → Same (issue number (Touch key expiry) (record { vector = v; floor = f; map = map; stock = s })) (record { vector = raised v number (greatest_of v + 1); floor = f'; map = map'; stock = t })
+  touch_same s t is same = record {
     vector = refl;
     floor = same_floor ∙ sym (newer_none stamp_cmp f);
-    map = map_is;
-    held = λ q. sym (still q (held q) refl) ∙ ap (λ r. named_by (version_in r) (held q)) (map_is q);
+    map = touch_map;
+    stock = stock_done map' _ s t touch_map same (subst (Settled map') (sym (ap (λ (s : Stock). s.held) (stock_path s t same) ∙ is)) touch_named);
   }

@@ -20,7 +20,7 @@ use Rattle.geo_site.proofs.Entries.{entry_at_most}
 use Rattle.geo_site.proofs.Registers.{earlier}
 
 -- a list of bytes is itself
-same_bytes : (xs : List ℕ) → bytes_eq xs xs ≡ true
+pub same_bytes : (xs : List ℕ) → bytes_eq xs xs ≡ true
 same_bytes [] = refl
 same_bytes (x ∷ xs) = elim (eqb_tells x x) [ inl p ↦ (λ i. p.0 i && same_bytes xs i) | inr p ↦ absurd (p.1 refl) ]
 

@@ -48,7 +48,7 @@ pub record StateOf (sites number : ℕ) (st : SiteState) (ops : List Operation) 
   pub many : length st.vector ≡ sites
   pub tells : Tells number st.vector st.floor ops
   pub holds : (key : List ℕ) → Holds NoTime (st.map key) ops key
-  pub same_held : (key : List ℕ) → st.held key ≡ held key
+  pub same_held : (key : List ℕ) → st.stock.held key ≡ held key
 
 -- what a parcel brings is what its sender kept, but for what the base knows
 pub record DeltaOf (sites sender : ℕ) (base : List ℕ) (d : Delta) (ops : List Operation) : Type 0 where

@@ -1,5 +1,5 @@
 -- What a request changes at one key, step by step: its stamp, its effect, and the reply.
-use Rattle.std.specs.Prelude.{◌≡◌, ◌⊎◌, ℕ, ◌+◌, ◌≤◌, ◌<◌, Bool, true, false, not, ◌&&◌, nat_le, List, [], length, None, Result, Ok, Err}
+use Rattle.std.specs.Prelude.{◌≡◌, ◌⊎◌, ℕ, ◌+◌, ◌≤◌, ◌<◌, Bool, true, false, not, ◌&&◌, nat_le, List, [], ◌∷◌, length, None, Result, Ok, Err}
 use Rattle.std.specs.List.{list_any}
 use Rattle.geo_stamp.specs.Stamps.{Moment, last_time}
 use Rattle.geo_versions.specs.Maps.{has_register}
@@ -13,11 +13,13 @@ use Rattle.geo_memcache.specs.declared.decision.Effect.{Effect}
 use Rattle.geo_memcache.specs.declared.decision.Effect.TheVariants.{Nothing, Keep, Made, Renew, Tomb}
 use Rattle.geo_grammar.specs.Limits.{longest_value}
 use Rattle.geo_site.specs.declared.site.Site.{Site}
+use Rattle.geo_site.specs.declared.acted.Acted.{Acted}
+use Rattle.geo_site.specs.declared.acted.Beside.{Beside}
 use Rattle.geo_site.specs.declared.refusal.WriteError.{WriteError}
 use Rattle.geo_site.specs.declared.refusal.WriteError.TheVariants.{MapFull, ClockEnded, Memory}
-use Rattle.geo_site.specs.Entries.{acts_of, is_some_act, is_growth}
+use Rattle.geo_site.specs.Entries.{evicted_on, acts_of, made_of, is_some_act, is_growth}
 use Rattle.geo_site.specs.Machine.{Same, clock_of}
-use Rattle.geo_site.specs.Sites.{state_in, most_records, record_count, HasIssued}
+use Rattle.geo_site.specs.Sites.{state_in, most_records, record_count, counts_in, victim_in, FirstVictimFits, HasIssuedAfter, Tells}
 
 -- what asks for more than a look
 abbrev pub is_change : Ask → Bool
@@ -82,6 +84,14 @@ IsThere site key (Made made flags expiry) = Unit {0}
 IsThere site key (Renew expiry) = HasRecord site key
 IsThere site key Tomb = Unit {0}
 
+-- a key whose expiry is renewed was found
+abbrev pub accesses_of : List ℕ → Effect → List (List ℕ)
+accesses_of key Nothing = []
+accesses_of key (Keep flags expiry) = []
+accesses_of key (Made made flags expiry) = []
+accesses_of key (Renew expiry) = key ∷ []
+accesses_of key Tomb = []
+
 -- memory is wanted to write and to delete alone
 abbrev pub is_memory : WriteError → Bool
 is_memory MapFull = false
@@ -90,11 +100,23 @@ is_memory Memory = true
 
 -- what becomes of a site by an effect on a key, by its result
 abbrev pub EffectDoes : Site → Site → List ℕ → List ℕ → Effect → Result (Unit {0}) WriteError → Type 0
-EffectDoes old new key bytes effect (Ok done) = (is_some_act (acts_of key bytes effect) ≡ true → CanWrite old key) × HasIssued old new (acts_of key bytes effect)
-EffectDoes old new key bytes effect (Err why) = (is_some_act (acts_of key bytes effect) ≡ true) × (is_memory why ≡ true → list_any is_growth (acts_of key bytes effect) ≡ true) × WriteRefuses old key why × Same (state_in old) (state_in new)
+EffectDoes old new key bytes effect (Ok done) = (is_some_act (acts_of key bytes effect) ≡ true → CanWrite old key) × HasIssuedAfter (accesses_of key effect) old new (acts_of key bytes effect) × (counts_in new ≡ evicted_on (victim_in old (acts_of key bytes effect)) (counts_in old)) × FirstVictimFits old (acts_of key bytes effect)
+EffectDoes old new key bytes effect (Err why) = (is_some_act (acts_of key bytes effect) ≡ true) × (is_memory why ≡ true → list_any is_growth (acts_of key bytes effect) ≡ true) × WriteRefuses old key why × Same (state_in old) (state_in new) × (counts_in new ≡ counts_in old)
+
+-- what is told of an effect beside the reply
+abbrev pub effect_done : Result Beside WriteError → Result (Unit {0}) WriteError
+effect_done (Ok beside) = Ok tt
+effect_done (Err why) = Err why
+
+abbrev pub TellsEffect : Site → List ℕ → List ℕ → Effect → Beside → Type 0
+TellsEffect old key bytes effect beside = (beside.victim ≡ victim_in old (acts_of key bytes effect)) × (beside.made ≡ made_of effect)
 
 -- the reply is the decision's and its effect was carried out, or it was refused and changes nothing
 abbrev pub ChangeDoes : Site → Site → List ℕ → List ℕ → Decision → Reply → Type 0
 ChangeDoes old new key bytes decision said =
     ((decision.answer ≡ answer.Reply said) × EffectDoes old new key bytes decision.effect (Ok tt))
     ⊎ ((why : WriteError) × (said ≡ refusal_reply why) × EffectDoes old new key bytes decision.effect (Err why))
+
+-- and what is told of the change beside the reply
+abbrev pub TellsChange : Site → ℕ → List ℕ → List ℕ → Decision → Acted → Type 0
+TellsChange old wanted key bytes decision acted = Tells old wanted (acts_of key bytes decision.effect) (made_of decision.effect) acted

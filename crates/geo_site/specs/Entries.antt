@@ -1,5 +1,5 @@
 -- Plain memcached (protocol.txt) over the keys that are visible: what it answers, and what it issues.
-use Rattle.std.specs.Prelude.{◌≡◌, ℕ, ℤ, ◌+◌, ◌-◌, ◌*◌, min, not, Bool, true, false, cond, ◌==◌, ◌&&◌, ◌||◌, nat_lt, List, [], ◌∷◌, ◌++◌, length, Option, None, Some, ◌⊎◌, if◌then◌else◌, nat_le, map}
+use Rattle.std.specs.Prelude.{◌≡◌, ℕ, ℤ, ◌+◌, ◌-◌, ◌*◌, min, not, Bool, true, false, cond, ◌==◌, ◌&&◌, ◌||◌, nat_lt, List, [], ◌∷◌, ◌++◌, length, Option, None, Some, ◌⊎◌, if◌then◌else◌, nat_le, map, is_some}
 use Rattle.std.specs.List.{list_any}
 use Rattle.std.specs.Str.{bytes_eq}
 use Rattle.sha2.specs.Sha256.{sha256}
@@ -116,6 +116,28 @@ acts_of key bytes (Made made flags expiry) = Write key made flags expiry ∷ []
 acts_of key bytes (Renew expiry) = Touch key expiry ∷ []
 acts_of key bytes Tomb = Delete key ∷ []
 
+-- SHA-256 and length of what an effect makes of older bytes
+abbrev pub made_of : Effect → Option (List ℕ × ℕ)
+made_of Nothing = None
+made_of (Keep flags expiry) = None
+made_of (Made made flags expiry) = Some (sha256 made, length made)
+made_of (Renew expiry) = None
+made_of Tomb = None
+
+-- and of what a request makes of older bytes: append, prepend, incr and decr do
+abbrev pub made_on : ℕ → Visible → Request → Option (List ℕ × ℕ)
+made_on now visible (request.Store verb key flags exptime unique bytes noreply) = made_of (stores verb flags exptime unique bytes now (visible key)).1
+made_on now visible (request.Fetch keys numbers) = None
+made_on now visible (request.FetchTouch exptime keys numbers) = None
+made_on now visible (request.Delete key noreply) = None
+made_on now visible (request.Touch key exptime noreply) = None
+made_on now visible (request.Arith up key by noreply) = made_of (counts up by (visible key)).1
+made_on now visible (request.FlushAll delay noreply) = None
+made_on now visible request.ShowVersion = None
+made_on now visible (request.Verbosity noreply) = None
+made_on now visible request.Stats = None
+made_on now visible request.Quit = None
+
 -- and what plain memcached issues
 abbrev pub issued : ℕ → Visible → Request → List Act
 issued now visible (request.Store verb key flags exptime unique bytes noreply) = acts_of key bytes (stores verb flags exptime unique bytes now (visible key)).1
@@ -145,16 +167,39 @@ waits_after now (request.Verbosity noreply) waiting = waiting
 waits_after now request.Stats waiting = waiting
 waits_after now request.Quit waiting = waiting
 
--- how many keys were found, and how many were not; both stay at the greatest number that they can show
+-- the keys that a request finds, which are accesses of what is held (new_lru.txt)
+abbrev pub keys_found : List Found → List (List ℕ)
+keys_found found = map (λ (f : Found). f.key) found
+
+abbrev pub accesses : ℕ → Visible → Request → List (List ℕ)
+accesses now visible (request.Store verb key flags exptime unique bytes noreply) = []
+accesses now visible (request.Fetch keys numbers) = keys_found (found_of numbers visible keys)
+accesses now visible (request.FetchTouch exptime keys numbers) = keys_found (touched_of now (expiry_at exptime now) numbers visible keys)
+accesses now visible (request.Delete key noreply) = []
+accesses now visible (request.Touch key exptime noreply) = cond {A = List (List ℕ)} (is_some (visible key)) (key ∷ []) []
+accesses now visible (request.Arith up key by noreply) = []
+accesses now visible (request.FlushAll delay noreply) = []
+accesses now visible request.ShowVersion = []
+accesses now visible (request.Verbosity noreply) = []
+accesses now visible request.Stats = []
+accesses now visible request.Quit = []
+
+-- how many keys were found, how many were not, and how many values were evicted; each stays at the greatest number that it can show
 pub record Counts : Type 0 where
   pub hits : ℕ
   pub misses : ℕ
+  pub evictions : ℕ
 
 abbrev pub none_counted : Counts
-none_counted = record { hits = 0; misses = 0 }
+none_counted = record { hits = 0; misses = 0; evictions = 0 }
 
 abbrev pub counted_on : Counts → ℕ → ℕ → Counts
-counted_on c found missed = record { hits = min (c.hits + found) most_number; misses = min (c.misses + missed) most_number }
+counted_on c found missed = record { hits = min (c.hits + found) most_number; misses = min (c.misses + missed) most_number; evictions = c.evictions }
+
+-- a victim is counted
+abbrev pub evicted_on : Option (List ℕ) → Counts → Counts
+evicted_on None c = c
+evicted_on (Some key) c = record { hits = c.hits; misses = c.misses; evictions = min (c.evictions + 1) most_number }
 
 -- a fetch that does not touch counts each of its keys, and no other request counts
 abbrev pub counted : Visible → Request → Counts → Counts

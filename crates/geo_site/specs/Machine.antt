@@ -1,6 +1,6 @@
--- One site as a machine: what it knows of each site's clock, its floor, what it keeps of each key and what it holds. Each event
--- is one step of it. (Joins of states and of deltas: Almeida et al. 2018; the clock: Lamport 1978.)
-use Rattle.std.specs.Prelude.{◌≡◌, ◌≢◌, ◌==◌, min, ℕ, ◌+◌, ◌≤◌, Bool, true, false, cond, not, ◌||◌, nat_le, List, [], ◌∷◌, length, Option, None, Some, is_some}
+-- One site as a machine: what it knows of each site's clock, its floor, what it keeps of each key and the stock of values that it
+-- holds. Each event is one step of it. (Joins of states and of deltas: Almeida et al. 2018; the clock: Lamport 1978.)
+use Rattle.std.specs.Prelude.{◌≡◌, ◌≢◌, ◌==◌, min, ℕ, zero, suc, ◌+◌, ◌≤◌, Bool, true, false, cond, not, ◌||◌, nat_le, List, [], ◌∷◌, length, Option, None, Some, is_some, IfSome}
 use Rattle.geo_stamp.specs.Stamps.{Moment, most_sites}
 use Rattle.geo_stamp.specs.Vectors.{zeros, entry_of, vector_joined, greatest_of, raised}
 use Rattle.geo_versions.specs.Keys.{same_key}
@@ -9,17 +9,21 @@ use Rattle.geo_versions.specs.Maps.{has_register}
 use Rattle.geo_versions.specs.Operations.{Act, Operation, Record, record_joined, floor_joined, above_both, body_of, expiry_of, flush_of, version_in}
 use Rattle.geo_versions.specs.Operations.Act.{Write, Delete, Touch, Flush}
 pub use Rattle.geo_delta.specs.Changes.{knows_record}
-use Rattle.geo_site.specs.Entries.{Held, names, named_by, Visible, entry_in}
+use Rattle.geo_versions.specs.declared.version.Version.{Version}
+use Rattle.geo_slabs.specs.Storage.{chunk_bytes}
+use Rattle.geo_values.specs.Stock.{Stock, first_stock, dropped, hit_at, with_room, victim_for, arrived, kept_where, IsHeldIn}
+use Rattle.geo_values.specs.Stock as stocks
+use Rattle.geo_site.specs.Entries.{Held, names, Visible, entry_in}
 
 pub record SiteState : Type 0 where
   pub vector : List ℕ
   pub floor : Option Moment
   pub map : List ℕ → Record
-  pub held : Held
+  pub stock : Stock
 
--- a site that knows nothing
-abbrev pub fresh : ℕ → SiteState
-fresh sites = record { vector = zeros sites; floor = None; map = λ _. (None, None); held = λ _. None }
+-- a site that knows nothing, and has so many pages for values
+abbrev pub fresh : ℕ → ℕ → SiteState
+fresh sites pages = record { vector = zeros sites; floor = None; map = λ _. (None, None); stock = first_stock pages }
 
 -- the greatest time that it knows
 abbrev pub clock_of : SiteState → ℕ
@@ -27,18 +31,77 @@ clock_of st = greatest_of st.vector
 
 -- what is visible at a moment
 abbrev pub visible_in : SiteState → ℕ → Visible
-visible_in st now key = entry_in now (version_in (st.map key)) (st.held key)
+visible_in st now key = entry_in now (version_in (st.map key)) (st.stock.held key)
 
 -- of what is held, what the versions name
-abbrev pub settled : (List ℕ → Record) → Held → Held
-settled map held key = named_by (version_in (map key)) (held key)
+abbrev pub stays_by : Option Version → Option (List ℕ) → Bool
+stays_by version None = true
+stays_by version (Some bytes) = names version bytes
 
--- a site's own write puts its bytes into what is held
+abbrev pub stays_in : (List ℕ → Record) → Stock → List ℕ → Bool
+stays_in map stock key = stays_by (version_in (map key)) (stock.held key)
+
+abbrev pub settled : (List ℕ → Record) → Stock → Stock
+settled map stock = kept_where (stays_in map stock) stock
+
+-- the least slab class whose chunks have room for so many bytes, looked for in so many from one on
+abbrev pub class_from : ℕ → ℕ → ℕ → ℕ
+class_from zero class bytes = class
+class_from (suc more) class bytes = cond (nat_le bytes (chunk_bytes class)) class (class_from more (class + 1) bytes)
+
+abbrev pub class_for : ℕ → ℕ
+class_for bytes = class_from 14 0 bytes
+
+-- bytes are stored under a key: what it had is taken out, then room is made in their class
+abbrev pub stored : List ℕ → List ℕ → Stock → Stock
+stored key bytes stock = let class = class_for (length bytes) in arrived key bytes class (with_room class (dropped key stock))
+
+-- a site's own write stores its bytes
+abbrev pub act_stock : Act → Stock → Stock
+act_stock (Write key bytes flags expiry) stock = stored key bytes stock
+act_stock (Delete key) stock = stock
+act_stock (Touch key expiry) stock = stock
+act_stock Flush stock = stock
+
+-- which key's bytes a write evicts
+abbrev pub victim_by : Act → Stock → Option (List ℕ)
+victim_by (Write key bytes flags expiry) stock = victim_for (class_for (length bytes)) (dropped key stock)
+victim_by (Delete key) stock = None
+victim_by (Touch key expiry) stock = None
+victim_by Flush stock = None
+
+-- a victim is another key than the one that is written, and bytes of the same class were held of it
+abbrev pub VictimFits : Act → Stock → Type 0
+VictimFits (Write key bytes flags expiry) stock = IfSome (victim_by (Write key bytes flags expiry) stock) (λ victim. (same_key victim key ≡ false) × IsHeldIn stock victim (class_for (length bytes)))
+VictimFits (Delete key) stock = Unit {0}
+VictimFits (Touch key expiry) stock = Unit {0}
+VictimFits Flush stock = Unit {0}
+
+-- keys are found, one after the other
+abbrev pub hit_all : List (List ℕ) → Stock → Stock
+hit_all [] stock = stock
+hit_all (key ∷ keys) stock = hit_all keys (hit_at key stock)
+
+abbrev pub with_stock : Stock → SiteState → SiteState
+with_stock stock st = record { vector = st.vector; floor = st.floor; map = st.map; stock = stock }
+
+abbrev pub accessed : List (List ℕ) → SiteState → SiteState
+accessed keys st = with_stock (hit_all keys st.stock) st
+
+-- of what is held, a write puts its bytes in
 abbrev pub act_held : Act → Held → Held
 act_held (Write k bytes flags expiry) held key = cond (same_key key k) (Some bytes) (held key)
 act_held (Delete k) held key = held key
 act_held (Touch k expiry) held key = held key
 act_held Flush held key = held key
+
+-- without the bytes of a victim
+abbrev pub is_victim : Option (List ℕ) → List ℕ → Bool
+is_victim None key = false
+is_victim (Some victim) key = same_key key victim
+
+abbrev pub without : Option (List ℕ) → Held → Held
+without victim held key = cond (is_victim victim key) None (held key)
 
 -- the next operation of a site: its time is one more than the greatest that it knows
 abbrev pub next_operation : ℕ → ℕ → Act → Operation
@@ -55,7 +118,7 @@ issue number act st =
       vector = raised st.vector number (clock_of st + 1);
       floor = floor_joined st.floor (flush_of op);
       map = map_after st op;
-      held = settled (map_after st op) (act_held act st.held);
+      stock = settled (map_after st op) (act_stock act st.stock);
     }
 
 -- one after the other
@@ -80,7 +143,7 @@ take number d st =
       vector = raised vector number (greatest_of vector);
       floor = floor_joined st.floor d.floor;
       map = map_with st d;
-      held = settled (map_with st d) st.held;
+      stock = settled (map_with st d) st.stock;
     }
 
 -- two states are one
@@ -88,7 +151,7 @@ pub record Same (old new : SiteState) : Type 0 where
   pub vector : new.vector ≡ old.vector
   pub floor : new.floor ≡ old.floor
   pub map : (key : List ℕ) → new.map key ≡ old.map key
-  pub held : (key : List ℕ) → new.held key ≡ old.held key
+  pub stock : stocks.Same old.stock new.stock
 
 -- a vector knows a floor, and what is kept of each key
 abbrev pub is_unknown_floor : List ℕ → Option Moment → Bool

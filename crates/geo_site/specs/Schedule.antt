@@ -1,15 +1,15 @@
 -- Schedules: what each site knows and holds after the events, and what was known when each parcel was sent. (A state is the
 -- join of what was seen: Almeida et al. 2018.)
-use Rattle.std.specs.Prelude.{◌≡◌, ◌≢◌, ℕ, Bool, true, false, cond, if◌then◌else◌, ◌==◌, nat_le, List, [], ◌∷◌, ◌++◌, Option, None, slice_index_or}
+use Rattle.std.specs.Prelude.{◌≡◌, ◌≢◌, ℕ, Bool, true, false, cond, if◌then◌else◌, ◌==◌, nat_le, List, [], ◌∷◌, ◌++◌, length, Option, None, Some, is_some, slice_index_or}
 use Rattle.geo_versions.specs.Maps.{has_register}
 use Rattle.geo_versions.specs.Operations.{Operation, Act, latest, record_of, version_of}
 use Rattle.geo_grammar.specs.declared.request.Request.{Request}
 use Rattle.geo_grammar.specs.declared.reply.Reply.{Reply}
 use Rattle.geo_grammar.specs.declared.reply.Reply.TheVariants.{ClockEnded}
 use Rattle.geo_site.specs.declared.event.Event.{Event}
-use Rattle.geo_site.specs.declared.event.Event.TheVariants.{Command, Send, Take, Tick, Reap}
+use Rattle.geo_site.specs.declared.event.Event.TheVariants.{Command, Evict, Send, Take, Tick, Reap}
 use Rattle.geo_site.specs.declared.event.Trace.{Trace}
-use Rattle.geo_site.specs.declared.event.Trace.TheVariants.{Replied, Sent, SendRefused, Taken, TakeRefused, Ticked, Reaped, ReapRefused}
+use Rattle.geo_site.specs.declared.event.Trace.TheVariants.{Replied, Evicted, Sent, SendRefused, Taken, TakeRefused, Ticked, Reaped, ReapRefused}
 use Rattle.geo_site.specs.declared.setup.Limits.{Limits}
 use Rattle.geo_site.specs.declared.refusal.SendError.{SendError}
 use Rattle.geo_site.specs.declared.refusal.TakeError.{TakeError}
@@ -17,10 +17,12 @@ use Rattle.geo_site.specs.declared.refusal.ReapError.{ReapError}
 use Rattle.geo_site.specs.declared.refusal.ReapError.TheVariants as reap
 use Rattle.geo_site.specs.declared.refusal.SendError.TheVariants as send
 use Rattle.geo_site.specs.declared.refusal.TakeError.TheVariants as take
-use Rattle.geo_site.specs.Entries.{Held, Visible, Basis, Counts, none_counted, counted, entry_in, named_by, issued, waits_after, flushes_due, is_stuck, due_acts, waits_on, is_reapable, reap_acts, lacks, Answers, is_done}
-use Rattle.geo_site.specs.Machine.{act_held, next_operation, IsRecordCount, IsHeldCount}
+use Rattle.geo_site.specs.Entries.{Held, Visible, Basis, Counts, none_counted, counted, evicted_on, entry_in, named_by, issued, waits_after, flushes_due, is_stuck, due_acts, waits_on, is_reapable, reap_acts, lacks, Answers, is_done}
+use Rattle.geo_versions.specs.Keys.{same_key}
+use Rattle.geo_versions.specs.Operations.Act.{Write, Delete, Touch, Flush}
+use Rattle.geo_site.specs.Machine.{act_held, without, class_for, next_operation, IsRecordCount, IsHeldCount}
 
--- what each site knows and holds, how many keys it found and did not find, the moment of the flush that waits there, what it
+-- what each site knows and holds, how many keys it found, did not find and evicted, the moment of the flush that waits there, what it
 -- was told at its start, and for whom and with what each parcel was sent
 pub record Known : Type 0 where
   pub at : ℕ → List Operation
@@ -74,6 +76,27 @@ issues_on w site now request = issued now (visible w site now) request
 abbrev pub counts_keys : Known → ℕ → Counts → Known
 counts_keys w site counts = record { at = w.at; held = w.held; counts = λ t. if t == site then counts else w.counts t; waiting = w.waiting; limits = w.limits; sent = w.sent }
 
+-- a site holds the bytes of a victim no longer, if there is one
+abbrev pub lets_go : Known → ℕ → Option (List ℕ) → Known
+lets_go w site victim = record { at = w.at; held = λ t. if t == site then without victim (w.held site) else w.held t; counts = w.counts; waiting = w.waiting; limits = w.limits; sent = w.sent }
+
+-- the bytes of a key are evicted, which is counted
+abbrev pub evicts : Known → ℕ → List ℕ → Known
+evicts w site key = counts_keys (lets_go w site (Some key)) site (evicted_on (Some key) (w.counts site))
+
+-- a victim is another key than the one that is written, and a value of the same class is held of it
+abbrev pub IsVictim : Held → Act → List ℕ → Type 0
+IsVictim held (Write key bytes flags expiry) victim = (same_key victim key ≡ false) × (old : List ℕ) × (held victim ≡ Some old) × (class_for (length old) ≡ class_for (length bytes))
+IsVictim held (Delete key) victim = ⊥
+IsVictim held (Touch key expiry) victim = ⊥
+IsVictim held Flush victim = ⊥
+
+-- there is no victim, or it is one of the first of these acts; no request issues two writes
+abbrev pub VictimOf : Held → List Act → Option (List ℕ) → Type 0
+VictimOf held acts None = Unit {0}
+VictimOf held [] (Some victim) = ⊥
+VictimOf held (act ∷ acts) (Some victim) = IsVictim held act victim
+
 -- a flush waits at a site for its moment, or none does
 abbrev pub waits : Known → ℕ → Option ℕ → Known
 waits w site waiting = record { at = w.at; held = w.held; counts = w.counts; waiting = λ t. if t == site then waiting else w.waiting t; limits = w.limits; sent = w.sent }
@@ -82,10 +105,10 @@ waits w site waiting = record { at = w.at; held = w.held; counts = w.counts; wai
 abbrev pub flushed : Known → ℕ → ℕ → Known
 flushed w site now = waits (issues w site (due_acts (w.waiting site) (latest (w.at site)) now)) site (waits_on (w.waiting site) (latest (w.at site)) now)
 
--- a site carries out a request
-abbrev pub carries_out : Known → ℕ → ℕ → Request → Known
-carries_out w site now request =
-    waits (counts_keys (issues w site (issues_on w site now request)) site (counted (visible w site now) request (w.counts site)))
+-- a site carries out a request, for which the bytes of a victim go first, if there is one
+abbrev pub carries_out : Known → ℕ → ℕ → Request → Option (List ℕ) → Known
+carries_out w site now request victim =
+    waits (counts_keys (issues (lets_go w site victim) site (issues_on w site now request)) site (evicted_on victim (counted (visible w site now) request (w.counts site))))
     site (waits_after now request (w.waiting site))
 
 -- a site deletes a key that is to be reaped
@@ -103,7 +126,7 @@ basis w site now records items = record {
     curr_items = items;
     get_hits = (w.counts site).hits;
     get_misses = (w.counts site).misses;
-    evictions = 0;
+    evictions = (w.counts site).evictions;
     site = site;
     clock = latest (w.at site);
     records = records;
@@ -124,9 +147,14 @@ abbrev pub RepliesBy : Bool → Known → ℕ → ℕ → Request → Reply → 
 RepliesBy true w site now request reply = reply ≡ ClockEnded
 RepliesBy false w site now request reply = RepliesTo w site now request reply
 
+-- what was issued on a request, by its reply
+abbrev pub issues_by : Known → ℕ → ℕ → Request → Reply → List Act
+issues_by w site now request reply = cond {A = List Act} (is_done reply) (issues_on w site now request) []
+
 -- what is known after an event; one that was refused adds nothing but a due flush
 abbrev pub happens : Known → Event → Trace → Known
-happens w (Command site now request) (Replied reply) = let v = flushed w site now in cond (is_done reply) (carries_out v site now request) v
+happens w (Command site now request) (Replied reply victim) = let v = flushed w site now in cond (is_done reply) (carries_out v site now request victim) v
+happens w (Evict site key) (Evicted done) = cond done (evicts w site key) w
 happens w (Send site to) Sent = record { at = w.at; held = w.held; counts = w.counts; waiting = w.waiting; limits = w.limits; sent = w.sent ++ (to, w.at site) ∷ [] }
 happens w (Take site parcel) Taken = learns w site (carried w parcel)
 happens w (Tick site now) (Ticked done) = flushed w site now
@@ -162,7 +190,8 @@ ReapRefusedFor w site now key reap.Memory = ⊥
 
 -- the trace is one that the event can have
 abbrev pub Lawful : Known → Event → Trace → Type 0
-Lawful w (Command site now request) (Replied reply) = RepliesBy (is_stuck (w.waiting site) (latest (w.at site)) now) (flushed w site now) site now request reply
+Lawful w (Command site now request) (Replied reply victim) = let v = flushed w site now in RepliesBy (is_stuck (w.waiting site) (latest (w.at site)) now) v site now request reply × VictimOf (v.held site) (issues_by v site now request reply) victim
+Lawful w (Evict site key) (Evicted done) = done ≡ is_some (w.held site key)
 Lawful w (Send site to) Sent = to ≢ site
 Lawful w (Send site to) (SendRefused why) = SendRefusedFor site to why
 Lawful w (Take site parcel) Taken = addressee w parcel ≡ site

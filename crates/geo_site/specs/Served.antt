@@ -55,7 +55,7 @@ abbrev pub ReplyServes : Known → ℕ → Reply → Type 0
 ReplyServes w site reply = EachServed w (w.at site) (values_in reply)
 
 abbrev pub TraceServes : Known → Event → Trace → Type 0
-TraceServes w (Command site now request) (Replied reply) = ReplyServes (flushed w site now) site reply
+TraceServes w (Command site now request) (Replied reply victim) = ReplyServes (flushed w site now) site reply
 TraceServes w event trace = Unit {0}
 
 abbrev pub AllServe : Known → List Event → List Trace → Type 0

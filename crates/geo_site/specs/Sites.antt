@@ -1,7 +1,11 @@
 -- What a site of the code is, as a state of the machine, and what a parcel of the code brings.
-use Rattle.std.specs.Prelude.{IsTrue, ◌↔◌, ◌≡◌, ◌≢◌, ◌⊎◌, ℕ, ◌+◌, ◌-◌, ◌≤◌, Bool, true, false, cond, not, ◌&&◌, ◌==◌, nat_le, List, length, Option, None, Some, Result, Ok, Err}
+use Rattle.std.specs.Prelude.{IsTrue, ◌↔◌, ◌≡◌, ◌≢◌, ◌⊎◌, [], ◌∷◌, ℕ, ◌+◌, ◌-◌, ◌≤◌, ◌<◌, Bool, true, false, cond, not, ◌&&◌, ◌==◌, nat_le, List, length, Option, None, Some, IsSome, is_some, Result, Ok, Err, replicate}
 use Rattle.std.specs.List.{All, list_all}
-use Rattle.indexmap.specs.IndexMap.{get, index_map_len}
+use Rattle.std.specs.declared.alloc.AllocError.{AllocError}
+use Rattle.geo_slabs.specs.Storage.{class_count, most_pages}
+use Rattle.geo_lru.specs.Rules.{juggled_by}
+use Rattle.geo_values.specs.Stock.{dropped, juggled_in}
+use Rattle.geo_values.specs.Held.{stock_in, count_in as values_count}
 use Rattle.geo_stamp.specs.Acks.{row_of, heard, none_heard}
 use Rattle.geo_stamp.specs.Vectors.{vector_joined}
 use Rattle.geo_versions.specs.Keys.{same_key}
@@ -13,6 +17,7 @@ use Rattle.geo_grammar.specs.declared.stats.Stats.{Stats}
 use Rattle.geo_stamp.specs.Stamps.{Moment, most_sites}
 use Rattle.geo_versions.specs.Operations.{Act, version_in}
 use Rattle.geo_site.specs.declared.site.Site.{Site}
+use Rattle.geo_site.specs.declared.acted.Acted.{Acted}
 use Rattle.geo_site.specs.declared.exchange.Taken.{Taken}
 use Rattle.geo_site.specs.declared.exchange.Refused.{Refused}
 use Rattle.geo_site.specs.declared.refusal.SendError.{SendError}
@@ -23,7 +28,7 @@ use Rattle.geo_site.specs.declared.setup.Limits.{Limits}
 use Rattle.geo_site.specs.declared.refusal.ReapError.{ReapError}
 use Rattle.geo_site.specs.declared.refusal.ReapError.TheVariants as reaps
 use Rattle.geo_site.specs.declared.refusal.SetupError.{SetupError}
-use Rattle.geo_site.specs.declared.refusal.SetupError.TheVariants.{Sites, SiteNumber, Records}
+use Rattle.geo_site.specs.declared.refusal.SetupError.TheVariants.{Sites, SiteNumber, TooFewPages, TooManyPages, Records}
 use Rattle.geo_site.specs.declared.refusal.SetupError.TheVariants as setups
 use Rattle.geo_site.specs.declared.refusal.TakeError.{TakeError}
 use Rattle.geo_site.specs.declared.refusal.TakeError.TheVariants.{NotForMe, UnknownSite, Gap}
@@ -31,8 +36,8 @@ use Rattle.geo_site.specs.declared.refusal.TakeError.TheVariants as takes
 use Rattle.geo_grammar.specs.declared.reply.Reply.{Reply}
 use Rattle.geo_grammar.specs.declared.reply.Reply.TheVariants.{Values, ClockEnded, OutOfMemory}
 use Rattle.geo_grammar.specs.declared.reply.Found.{Found}
-use Rattle.geo_site.specs.Entries.{Basis, Counts, none_counted, counted_on, counted, issued, found_of, touched_of, touches_of, waits_after, lacks, due_acts, waits_on, flushes_due, is_stuck, is_reapable, reap_acts, Answers, is_done}
-use Rattle.geo_site.specs.Machine.{SiteState, Delta, Same, fresh, issue_all, take, clock_of, visible_in, knows_record, knows_floor, IsRecordCount, IsHeldCount}
+use Rattle.geo_site.specs.Entries.{Basis, Counts, none_counted, counted_on, counted, evicted_on, accesses, keys_found, issued, found_of, touched_of, touches_of, waits_after, lacks, due_acts, waits_on, flushes_due, is_stuck, is_reapable, reap_acts, Answers, is_done, made_on}
+use Rattle.geo_site.specs.Machine.{SiteState, Delta, accessed, with_stock, victim_by, VictimFits, Same, fresh, issue_all, take, clock_of, visible_in, knows_record, knows_floor, IsRecordCount, IsHeldCount}
 
 -- a site as a state
 abbrev pub state_in : Site → SiteState
@@ -40,7 +45,7 @@ state_in site = record {
   vector = site.vector;
   floor = floor_in site.versions;
   map = record_in site.versions;
-  held = λ key. get same_key site.held key;
+  stock = stock_in site.values;
 }
 
 -- what it was told at its start, and how many records it may keep by that
@@ -68,7 +73,7 @@ heard_in site = site.heard
 
 -- how many values it holds
 abbrev pub held_count : Site → ℕ
-held_count site = index_map_len site.held
+held_count site = values_count site.values
 
 -- what a parcel brings
 abbrev pub delta_of : Parcel → Delta
@@ -90,9 +95,9 @@ is_sound sites number parcel =
 abbrev pub record_count : Site → ℕ
 record_count site = count_in site.versions
 
--- how many keys it found and did not find
+-- how many keys it found and did not find, and how many values it evicted
 abbrev pub counts_in : Site → Counts
-counts_in site = record { hits = site.hits; misses = site.misses }
+counts_in site = record { hits = site.hits; misses = site.misses; evictions = site.evictions }
 
 -- what it goes by when it answers at a moment
 abbrev pub stats_in : Site → Stats
@@ -100,7 +105,7 @@ stats_in site = record {
   curr_items = held_count site;
   get_hits = site.hits;
   get_misses = site.misses;
-  evictions = 0;
+  evictions = site.evictions;
   site = site.number;
   clock = clock_of (state_in site);
   records = record_count site;
@@ -123,6 +128,19 @@ issued_in site now request = issued now (visible_in (state_in site) now) request
 abbrev pub HasIssued : Site → Site → List Act → Type 0
 HasIssued old new acts = Same (issue_all old.number acts (state_in old)) (state_in new)
 
+-- after accesses of these keys
+abbrev pub HasIssuedAfter : List (List ℕ) → Site → Site → List Act → Type 0
+HasIssuedAfter keys old new acts = Same (issue_all old.number acts (accessed keys (state_in old))) (state_in new)
+
+-- whose bytes the first of these acts evicts; no request issues two writes
+abbrev pub victim_in : Site → List Act → Option (List ℕ)
+victim_in site [] = None
+victim_in site (act ∷ acts) = victim_by act (state_in site).stock
+
+abbrev pub FirstVictimFits : Site → List Act → Type 0
+FirstVictimFits site [] = Unit {0}
+FirstVictimFits site (act ∷ acts) = VictimFits act (state_in site).stock
+
 -- nothing that it was told at its start, and not its number, changes
 abbrev pub Remains : Site → Site → Type 0
 Remains old new = (new.number ≡ old.number) × (limits_of new ≡ limits_of old)
@@ -141,9 +159,9 @@ fetched site now keys numbers = found_of numbers (visible_in (state_in site) now
 
 abbrev pub FetchDoes : Site → Site → ℕ → List (List ℕ) → Bool → Reply → Type 0
 FetchDoes old new now keys numbers reply =
-    Same (state_in old) (state_in new) × Stays old new × (waiting_in new ≡ waiting_in old)
-    × (((reply ≡ Values (fetched old now keys numbers)) × (let found = length (fetched old now keys numbers) in counts_in new ≡ counted_on (counts_in old) found (length keys - found)))
-    ⊎ ((reply ≡ OutOfMemory) × (counts_in new ≡ counts_in old)))
+    Stays old new × (waiting_in new ≡ waiting_in old)
+    × (((reply ≡ Values (fetched old now keys numbers)) × Same (accessed (keys_found (fetched old now keys numbers)) (state_in old)) (state_in new) × (let found = length (fetched old now keys numbers) in counts_in new ≡ counted_on (counts_in old) found (length keys - found)))
+    ⊎ ((reply ≡ OutOfMemory) × Same (state_in old) (state_in new) × (counts_in new ≡ counts_in old)))
 
 -- what a fetch that touches does, by its reply: it shows what is found and touches each of that, or it is refused and changes
 -- nothing
@@ -152,15 +170,15 @@ touched_in site now expiry keys numbers = touched_of now expiry numbers (visible
 
 -- acts are issued where stamps are left for them, and the reply is this; else the reply says that the clock has ended, and nothing
 -- is changed
-abbrev pub IssuesAs : Site → Site → List Act → Reply → Reply → Type 0
-IssuesAs old new acts answer reply =
-    ((reply ≡ answer) × (lacks (clock_in old) acts ≡ false) × HasIssued old new acts)
+abbrev pub IssuesAs : List (List ℕ) → Site → Site → List Act → Reply → Reply → Type 0
+IssuesAs keys old new acts answer reply =
+    ((reply ≡ answer) × (lacks (clock_in old) acts ≡ false) × HasIssuedAfter keys old new acts)
     ⊎ ((reply ≡ ClockEnded) × (lacks (clock_in old) acts ≡ true) × Same (state_in old) (state_in new))
 
 abbrev pub FetchTouchDoes : Site → Site → ℕ → ℕ → List (List ℕ) → Bool → Reply → Type 0
 FetchTouchDoes old new now expiry keys numbers reply =
     let found = touched_in old now expiry keys numbers in
-    IssuesAs old new (touches_of expiry found) (Values found) reply
+    IssuesAs (keys_found found) old new (touches_of expiry found) (Values found) reply
     ⊎ ((reply ≡ OutOfMemory) × (lacks (clock_in old) (touches_of expiry found) ≡ false) × Same (state_in old) (state_in new))
 
 -- what a due flush does: it is carried out where a stamp is left for it
@@ -173,9 +191,10 @@ pub record FlushDoes (old new : Site) (now : ℕ) : Type 0 where
 -- what a request does at a site where no flush is due
 pub record RequestDoes (old new : Site) (now : ℕ) (request : Request) (reply : Reply) : Type 0 where
   pub answer : Answers now (basis_in old now) request reply
-  pub done : is_done reply ≡ true → HasIssued old new (issued_in old now request)
+  pub done : is_done reply ≡ true → HasIssuedAfter (accesses now (visible_in (state_in old) now) request) old new (issued_in old now request)
   pub refused : is_done reply ≡ false → Same (state_in old) (state_in new)
-  pub counts : counts_in new ≡ cond (is_done reply) (counted (visible_in (state_in old) now) request (counts_in old)) (counts_in old)
+  pub counts : counts_in new ≡ cond (is_done reply) (evicted_on (victim_in old (issued_in old now request)) (counted (visible_in (state_in old) now) request (counts_in old))) (counts_in old)
+  pub victim : is_done reply ≡ true → FirstVictimFits old (issued_in old now request)
   pub waiting : waiting_in new ≡ cond (is_done reply) (waits_after now request (waiting_in old)) (waiting_in old)
   pub stays : Stays old new
 
@@ -189,8 +208,38 @@ pub record ActDoes (old new : Site) (now : ℕ) (request : Request) (reply : Rep
   pub mid : Site
   pub flush : FlushDoes old mid now
   pub recorded : IsRecordCount (state_in mid).map (record_count mid)
-  pub held : IsHeldCount (state_in mid).held (held_count mid)
+  pub held : IsHeldCount (state_in mid).stock.held (held_count mid)
   pub does : RequestDoesBy (is_stuck (waiting_in old) (clock_in old) now) mid new now request reply
+
+-- the reply in which a client is told what came of a request
+abbrev pub reply_in : Result Acted AllocError → Reply
+reply_in (Ok acted) = acted.reply
+reply_in (Err refused) = OutOfMemory
+
+-- what is told beside a reply: so many copies of it, whose bytes went for what was stored, and what was made of older bytes
+pub record Tells (site : Site) (wanted : ℕ) (acts : List Act) (bytes : Option (List ℕ × ℕ)) (acted : Acted) : Type 0 where
+  pub said : acted.reply ≡ OutOfMemory → ⊥
+  pub copies : acted.copies.items ≡ replicate wanted acted.reply
+  pub victim : acted.victim ≡ cond (is_done acted.reply) (victim_in site acts) None
+  pub made : acted.made ≡ cond (is_done acted.reply) bytes None
+
+-- where nothing is stored
+pub record TellsPlain (wanted : ℕ) (acted : Acted) : Type 0 where
+  pub said : acted.reply ≡ OutOfMemory → ⊥
+  pub copies : acted.copies.items ≡ replicate wanted acted.reply
+  pub victim : acted.victim ≡ None
+  pub made : acted.made ≡ None
+
+-- what a command does and tells, with so many copies of its reply
+pub record ActTells (old new : Site) (now : ℕ) (request : Request) (wanted : ℕ) (acted : Acted) : Type 0 where
+  pub does : ActDoes old new now request acted.reply
+  pub told : Tells does.mid wanted (issued_in does.mid now request) (made_on now (visible_in (state_in does.mid) now) request) acted
+
+-- by its result: where memory is wanted for what it does, the command is answered so; where it is wanted for the copies alone,
+-- nothing changes
+abbrev pub ActFullDoes : Site → Site → ℕ → Request → ℕ → Result Acted AllocError → Type 0
+ActFullDoes old new now request wanted (Ok acted) = ActTells old new now request wanted acted
+ActFullDoes old new now request wanted (Err refused) = ActDoes old new now request OutOfMemory ⊎ ((wanted ≢ 0) × Same (state_in old) (state_in new) × Rests old new × Stays old new)
 
 -- a tick is a due flush alone, and says whether there was one
 pub record TickDoes (old new : Site) (now : ℕ) (done : Bool) : Type 0 where
@@ -256,12 +305,29 @@ abbrev pub SendDoes : Site → ℕ → Result Parcel SendError → Type 0
 SendDoes site to (Ok parcel) = IsOther site to × IsSent site to parcel
 SendDoes site to (Err why) = SendRefuses site to why
 
--- what a site can be made of: 1 to 16 sites, a number of one of them, and 1 to a million records at most
+-- what an eviction does: a key's bytes are held no longer, and are counted where they were; no version changes
+pub record EvictDoes (old new : Site) (key : List ℕ) (done : Bool) : Type 0 where
+  pub told : done ≡ is_some ((state_in old).stock.held key)
+  pub left : Same (with_stock (dropped key (state_in old).stock) (state_in old)) (state_in new)
+  pub counts : counts_in new ≡ cond done (evicted_on (Some key) (counts_in old)) (counts_in old)
+  pub waiting : waiting_in new ≡ waiting_in old
+  pub stays : Stays old new
+
+-- what a juggle does: the one move that is due in a class, if any, or nothing where memory was wanted for it
+abbrev pub JuggleDoes : Site → Site → ℕ → Result Bool AllocError → Type 0
+JuggleDoes old new class (Ok moved) = (moved ≡ is_some (juggled_by same_key ((state_in old).stock.lists class))) × Same (with_stock (juggled_in class (state_in old).stock) (state_in old)) (state_in new)
+JuggleDoes old new class (Err refused) = IsSome (juggled_by same_key ((state_in old).stock.lists class)) × Same (state_in old) (state_in new)
+
+-- what a site can be made of: 1 to 16 sites, a number of one of them, a page for each slab class and not too many, and 1 to a million
+-- records at most
 abbrev pub SitesInRange : Setup → Type 0
 SitesInRange setup = (1 ≤ setup.sites) × (setup.sites ≤ most_sites)
 
 abbrev pub NumberInRange : Setup → Type 0
 NumberInRange setup = (1 ≤ setup.site) × (setup.site ≤ setup.sites)
+
+abbrev pub PagesInRange : Setup → Type 0
+PagesInRange setup = (class_count ≤ setup.pages) × (setup.pages ≤ most_pages)
 
 abbrev pub RecordsInRange : Setup → Type 0
 RecordsInRange setup = (1 ≤ setup.max_records) × (setup.max_records ≤ 1000000)
@@ -270,10 +336,12 @@ RecordsInRange setup = (1 ≤ setup.max_records) × (setup.max_records ≤ 10000
 abbrev pub SetupRefuses : Setup → SetupError → Type 0
 SetupRefuses setup Sites = SitesInRange setup → ⊥
 SetupRefuses setup SiteNumber = SitesInRange setup × (NumberInRange setup → ⊥)
-SetupRefuses setup Records = SitesInRange setup × NumberInRange setup × (RecordsInRange setup → ⊥)
-SetupRefuses setup setups.Memory = SitesInRange setup × NumberInRange setup × RecordsInRange setup
+SetupRefuses setup TooFewPages = SitesInRange setup × NumberInRange setup × (setup.pages < class_count)
+SetupRefuses setup TooManyPages = SitesInRange setup × NumberInRange setup × (most_pages < setup.pages)
+SetupRefuses setup Records = SitesInRange setup × NumberInRange setup × PagesInRange setup × (RecordsInRange setup → ⊥)
+SetupRefuses setup setups.Memory = SitesInRange setup × NumberInRange setup × PagesInRange setup × RecordsInRange setup
 
 -- what opening a site does, by its result
 abbrev pub OpenDoes : Setup → Result Site SetupError → Type 0
-OpenDoes setup (Ok site) = SitesInRange setup × NumberInRange setup × RecordsInRange setup × (site.number ≡ setup.site) × (limits_of site ≡ record { max_records = setup.max_records; reap_after = setup.reap_after }) × (counts_in site ≡ none_counted) × (waiting_in site ≡ None) × (heard_in site ≡ none_heard setup.sites) × Same (fresh setup.sites) (state_in site)
+OpenDoes setup (Ok site) = SitesInRange setup × NumberInRange setup × PagesInRange setup × RecordsInRange setup × (site.number ≡ setup.site) × (limits_of site ≡ record { max_records = setup.max_records; reap_after = setup.reap_after }) × (counts_in site ≡ none_counted) × (waiting_in site ≡ None) × (heard_in site ≡ none_heard setup.sites) × Same (fresh setup.sites setup.pages) (state_in site)
 OpenDoes setup (Err why) = SetupRefuses setup why

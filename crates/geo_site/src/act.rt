@@ -3,16 +3,30 @@ ghost use Rattle.std.specs.Prelude.{◌≡◌, ◌≤◌, ◌^◌, true, false, 
 ghost use Rattle.std.specs.Option.{option_map};
 ghost use Rattle.geo_memcache.specs.Entries.{entry_of};
 ghost use Rattle.geo_memcache.specs.Decisions.{decided, is_made};
-ghost use Rattle.geo_site.specs.Entries.{Answers, counted, waits_after, is_done};
+ghost use Rattle.geo_site.specs.Entries.{Answers, accesses, evicted_on, counted, waits_after, is_done, made_on};
 ghost use Rattle.geo_site.specs.Machine.{Same, visible_in};
-ghost use Rattle.geo_site.specs.Sites.{state_in, basis_in, issued_in, counts_in, waiting_in, stats_in, HasIssued, Rests, Stays, ActDoes};
-ghost use Rattle.geo_site.specs.Changes.{is_change, bytes_in, ChangeDoes};
+ghost use Rattle.geo_site.specs.Sites.{state_in, basis_in, issued_in, counts_in, waiting_in, stats_in, victim_in, FirstVictimFits, HasIssuedAfter, Rests, Stays, ActDoes, ActFullDoes, Tells, TellsPlain, reply_in};
+ghost use Rattle.geo_site.specs.Changes.{is_change, bytes_in, refusal_reply, ChangeDoes, TellsChange};
 
+use crate::acted::{Acted, Copies};
+use crate::refusal::WriteError;
 use crate::site::Site;
 use geo_grammar::{Reply, Request, Stats};
 use geo_memcache::{Answer, Ask, Decision, Entry, ask_of, decide, expiry_of, live};
 use geo_versions::Key;
 use std::alloc::{AllocError, Global};
+
+/// Tells a client why a key is not written.
+fn refused(why: WriteError, copies: Copies) -> Result<Acted, AllocError>
+    ensures reply { reply_in result ≡ refusal_reply why }
+    ensures told { IfOk result (TellsPlain copies.wanted) }
+{
+    match why {
+        WriteError::MapFull => Ok(Acted::plain(Reply::MapFull, copies)),
+        WriteError::ClockEnded => Ok(Acted::plain(Reply::ClockEnded, copies)),
+        WriteError::Memory => Err(AllocError),
+    }
+}
 
 impl Site {
     /// Answers a request at a moment in seconds, 1 to 2^40, as plain memcached does over what is visible (protocol.txt). A flush
@@ -22,44 +36,77 @@ impl Site {
         requires moment { now ≤ 2 ^ 40 }
         ensures does { ActDoes self.old self.new now request.now result }
     {
+        match self.act_full(alloc, now, request, 0) {
+            Ok(acted) => acted.reply,
+            Err(_) => Reply::OutOfMemory,
+        }
+    }
+
+    /// Answers a request as [`Site::act`] does, and tells beside the reply what a history of the site keeps of it: copies of the
+    /// reply, which are made before anything changes, the key whose bytes were evicted, and what was made of older bytes. Want of
+    /// memory is an Err.
+    pub fn act_full(
+        &mut self,
+        alloc: Global,
+        now: u64,
+        request: &Request,
+        copies: usize,
+    ) -> Result<Acted, AllocError>
+        requires moment { now ≤ 2 ^ 40 }
+        ensures does { ActFullDoes self.old self.new now request.now copies result }
+    {
+        let copies = Copies::new(alloc, copies)?;
         self.tick(now);
         // What the contract of a reply counts, though most replies don't show it.
         let _records = self.records();
         let _items = self.items();
         if self.has_due_flush(now) {
-            return Reply::ClockEnded;
+            return Ok(Acted::plain(Reply::ClockEnded, copies));
         }
-        self.answer(alloc, now, request)
+        self.answer(alloc, now, request, copies)
     }
 
     /// Answers a request where no flush is due.
-    fn answer(&mut self, alloc: Global, now: u64, request: &Request) -> Reply
+    fn answer(
+        &mut self,
+        alloc: Global,
+        now: u64,
+        request: &Request,
+        copies: Copies,
+    ) -> Result<Acted, AllocError>
         requires moment { now ≤ 2 ^ 40 }
-        ensures answer { Answers now (basis_in self.old now) request.now result }
-        ensures done { is_done result ≡ true → HasIssued self.old self.new (issued_in self.old now request.now) }
-        ensures refused { is_done result ≡ false → Same (state_in self.old) (state_in self.new) }
-        ensures counts { counts_in self.new ≡ cond (is_done result) (counted (visible_in (state_in self.old) now) request.now (counts_in self.old)) (counts_in self.old) }
-        ensures waiting { waiting_in self.new ≡ cond (is_done result) (waits_after now request.now (waiting_in self.old)) (waiting_in self.old) }
+        ensures answer { Answers now (basis_in self.old now) request.now (reply_in result) }
+        ensures done { is_done (reply_in result) ≡ true → HasIssuedAfter (accesses now (visible_in (state_in self.old) now) request.now) self.old self.new (issued_in self.old now request.now) }
+        ensures refused { is_done (reply_in result) ≡ false → Same (state_in self.old) (state_in self.new) }
+        ensures counts { counts_in self.new ≡ cond (is_done (reply_in result)) (evicted_on (victim_in self.old (issued_in self.old now request.now)) (counted (visible_in (state_in self.old) now) request.now (counts_in self.old))) (counts_in self.old) }
+        ensures victim { is_done (reply_in result) ≡ true → FirstVictimFits self.old (issued_in self.old now request.now) }
+        ensures told { IfOk result (Tells self.old copies.wanted (issued_in self.old now request.now) (made_on now (visible_in (state_in self.old) now) request.now)) }
+        ensures waiting { waiting_in self.new ≡ cond (is_done (reply_in result)) (waits_after now request.now (waiting_in self.old)) (waiting_in self.old) }
         ensures stays { Stays self.old self.new }
     {
         if let Some((key, ask)) = ask_of(request) {
-            return self.change(alloc, now, key, &ask);
+            return self.change(alloc, now, key, &ask, copies);
         }
         match request {
-            Request::Fetch { keys, numbers } => self.fetch(alloc, now, keys.as_slice(), *numbers),
+            Request::Fetch { keys, numbers } => {
+                self.fetch(alloc, now, keys.as_slice(), *numbers, copies)
+            }
             Request::FetchTouch {
                 exptime,
                 keys,
                 numbers,
             } => {
                 let expiry = expiry_of(*exptime, now);
-                self.fetch_touch(alloc, now, expiry, keys.as_slice(), *numbers)
+                self.fetch_touch(alloc, now, expiry, keys.as_slice(), *numbers, copies)
             }
-            Request::FlushAll { delay, .. } => self.flush_all(now, *delay),
-            Request::ShowVersion => Reply::Version,
-            Request::Verbosity { .. } => Reply::Done,
-            Request::Stats => Reply::Stats(self.stats()),
-            Request::Quit => Reply::Closed,
+            Request::FlushAll { delay, .. } => {
+                let reply = self.flush_all(now, *delay);
+                Ok(Acted::plain(reply, copies))
+            }
+            Request::ShowVersion => Ok(Acted::plain(Reply::Version, copies)),
+            Request::Verbosity { .. } => Ok(Acted::plain(Reply::Done, copies)),
+            Request::Stats => Ok(Acted::plain(Reply::Stats(self.stats()), copies)),
+            Request::Quit => Ok(Acted::plain(Reply::Closed, copies)),
             Request::Store { .. }
             | Request::Delete { .. }
             | Request::Touch { .. }
@@ -75,7 +122,7 @@ impl Site {
             curr_items: self.items() as u64,
             get_hits: self.hits,
             get_misses: self.misses,
-            evictions: 0,
+            evictions: self.evictions,
             site: self.number as u64,
             clock: self.vector.greatest(),
             records: self.records() as u64,
@@ -86,13 +133,12 @@ impl Site {
     pub(crate) fn entry(&self, now: u64, key: &Key) -> Option<Entry<'_>>
         ensures { option_map entry_of result ≡ visible_in (state_in self.now) now key.now }
     {
-        let blob = self.held.get(key)?;
         let version = self.versions.version_of(key)?;
         if !live(version.expiry, now) {
             return None;
         }
         Some(Entry {
-            bytes: blob.bytes(),
+            bytes: self.values.get(key, &version.digest)?,
             flags: version.flags,
             expiry: version.expiry,
             unique: version.stamp.cas(),
@@ -116,25 +162,33 @@ impl Site {
     }
 
     /// Decides on one key, and carries the decision out.
-    fn change(&mut self, alloc: Global, now: u64, key: &Key, ask: &Ask<'_>) -> Reply
+    fn change(
+        &mut self,
+        alloc: Global,
+        now: u64,
+        key: &Key,
+        ask: &Ask<'_>,
+        copies: Copies,
+    ) -> Result<Acted, AllocError>
         requires moment { now ≤ 2 ^ 40 }
         requires change { is_change ask.now ≡ true }
-        ensures does { ChangeDoes self.old self.new key.now (bytes_in ask.now) (decided (visible_in (state_in self.old) now key.now) now ask.now) result }
-        ensures rests { Rests self.old self.new }
+        ensures does { ChangeDoes self.old self.new key.now (bytes_in ask.now) (decided (visible_in (state_in self.old) now key.now) now ask.now) (reply_in result) }
+        ensures told { IfOk result (TellsChange self.old copies.wanted key.now (bytes_in ask.now) (decided (visible_in (state_in self.old) now key.now) now ask.now)) }
+        ensures waiting { waiting_in self.new ≡ waiting_in self.old }
         ensures stays { Stays self.old self.new }
     {
         let Ok(Decision { answer, effect }) = self.decision(alloc, now, key, ask) else {
             return match self.next_stamp(key) {
-                Ok(_) => Reply::OutOfMemory,
-                Err(why) => why.reply(),
+                Ok(_) => Err(AllocError),
+                Err(why) => refused(why, copies),
             };
         };
         match self.carry_out(alloc, key, effect, ask) {
-            Ok(()) => match answer {
-                Answer::Reply(reply) => reply,
+            Ok(beside) => match answer {
+                Answer::Reply(reply) => Ok(Acted::short(reply, beside, copies)),
                 Answer::Hit | Answer::Miss => unreachable!(),
             },
-            Err(why) => why.reply(),
+            Err(why) => refused(why, copies),
         }
     }
 }

@@ -1,27 +1,26 @@
 //! What a site writes and deletes.
 ghost use Rattle.std.specs.Prelude.{◌≡◌, ◌≤◌, ◌<◌, ◌+◌, ℕ, List, length, OnOk, OnErr, IsOk, IfOk, IfErr, MatchResult, cond, Some, None, Option};
-ghost use Rattle.indexmap.specs.IndexMap.{get, spare, index_map_len};
 ghost use Rattle.geo_grammar.specs.Limits.{longest_value};
-ghost use Rattle.geo_versions.specs.Keys.{same_key};
+ghost use Rattle.geo_versions.specs.Maps.{rec_means};
 ghost use Rattle.geo_versions.specs.Operations.Act.{Write, Delete};
 ghost use Rattle.std.specs.Prelude.{[], ◌∷◌};
-ghost use Rattle.geo_site.specs.Machine.{Same};
-ghost use Rattle.geo_site.specs.Sites.{state_in, Rests, Stays, HasIssued};
-ghost use Rattle.geo_site.specs.Changes.{bytes_in, next_stamp_of, CanWrite, WriteRefuses, HasRecord, EffectDoes, IsShort, IsThere};
+ghost use Rattle.geo_site.specs.Machine.{Same, victim_by, VictimFits};
+ghost use Rattle.geo_site.specs.Entries.{evicted_on};
+ghost use Rattle.geo_site.specs.Sites.{state_in, counts_in, waiting_in, Rests, Stays, HasIssued};
+ghost use Rattle.geo_site.specs.Changes.{bytes_in, next_stamp_of, CanWrite, WriteRefuses, HasRecord, EffectDoes, TellsEffect, effect_done, IsShort, IsThere};
 
-use crate::blob::Blob;
+use crate::acted::Beside;
 use crate::notes::note;
 use crate::reap::earlier;
 use crate::refusal::WriteError;
 use crate::site::Site;
 use geo_grammar::ValueBytes;
-use geo_lattice::Twin;
+use geo_lattice::{Lww, Pair, Twin};
 use geo_memcache::{Ask, Effect};
 use geo_stamp::Stamp;
-use geo_versions::{Body, Key};
-use indexmap::IndexMap;
+use geo_values::Blob;
+use geo_versions::{Body, Key, Rec};
 use std::alloc::{AllocError, Global};
-use std::hash::RandomState;
 
 /// A copy of the bytes that are asked to be stored; none where none are asked to be.
 pub fn asked_bytes(alloc: Global, ask: &Ask<'_>) -> Result<ValueBytes, AllocError>
@@ -37,21 +36,14 @@ pub fn asked_bytes(alloc: Global, ask: &Ask<'_>) -> Result<ValueBytes, AllocErro
     }
 }
 
-/// Holds a key's bytes, where there is room.
-fn hold(held: &mut IndexMap<Key, Blob, RandomState>, key: Key, blob: Blob)
-    requires { 0 < spare held.old }
-    ensures { (q : List ℕ) → get same_key held.new q ≡ cond (same_key q key) (Some blob) (get same_key held.old q) }
+/// The record of a write.
+fn record_of(stamp: Stamp, body: Body, expiry: u64) -> Rec
+    ensures { rec_means result ≡ (Some (stamp, body), Some (stamp, expiry)) }
 {
-    let placed = held.insert(key, blob).is_ok();
-    prove!(placed);
-}
-
-/// Drops a key's bytes.
-pub(crate) fn drop_held(held: &mut IndexMap<Key, Blob, RandomState>, key: &Key)
-    ensures no_more { index_map_len held.new ≤ index_map_len held.old }
-    ensures dropped { (q : List ℕ) → get same_key held.new q ≡ cond {A = Option (List ℕ)} (same_key q key.now) None (get same_key held.old q) }
-{
-    let _dropped = held.swap_remove(key);
+    Pair {
+        left: Lww::of(stamp, body),
+        right: Lww::of(stamp, expiry),
+    }
 }
 
 impl Site {
@@ -73,7 +65,20 @@ impl Site {
         }
     }
 
-    /// Writes a value, and holds its bytes. The growths come first: an Err changes nothing.
+    /// Counts a victim, if there is one.
+    fn count_victim(&mut self, victim: &Option<Key>)
+        ensures counts { counts_in self.new ≡ evicted_on victim.now (counts_in self.old) }
+        ensures state { Same (state_in self.old) (state_in self.new) }
+        ensures waiting { waiting_in self.new ≡ waiting_in self.old }
+        ensures stays { Stays self.old self.new }
+    {
+        if victim.is_some() {
+            self.evictions = self.evictions.saturating_add(1);
+        }
+    }
+
+    /// Writes a value, holds its bytes, and gives the key whose bytes were evicted for them, if any. The growths come first: an Err
+    /// changes nothing.
     fn write(
         &mut self,
         alloc: Global,
@@ -81,30 +86,32 @@ impl Site {
         key: &Key,
         flags: u32,
         expiry: u64,
-        bytes: ValueBytes,
-    ) -> Result<(), AllocError>
+        value: &Blob,
+    ) -> Result<Option<Key>, AllocError>
         requires next { stamp ≡ next_stamp_of self.old }
-        requires short { length bytes ≤ longest_value }
-        ensures written { OnOk result (HasIssued self.old self.new (Write key.now bytes flags expiry ∷ [])) }
+        requires short { length value.now ≤ longest_value }
+        ensures written { OnOk result (HasIssued self.old self.new (Write key.now value.now flags expiry ∷ [])) }
+        ensures victim { IfOk result (λ victim. victim ≡ victim_by (Write key.now value.now flags expiry) (state_in self.old).stock) }
+        ensures fits { OnOk result (VictimFits (Write key.now value.now flags expiry) (state_in self.old).stock) }
         ensures err { OnErr result (Same (state_in self.old) (state_in self.new)) }
         ensures rests { Rests self.old self.new }
         ensures stays { Stays self.old self.new }
     {
-        let own_key = key.twin(alloc)?;
-        self.held.reserve(1)?;
-        let length = bytes.len() as u32;
-        let blob = Blob::new(bytes);
+        let length = value.bytes().len() as u32;
         let body = Body::Value {
-            digest: blob.digest(),
+            digest: value.digest(),
             flags,
             length,
         };
-        self.versions.write(alloc, key, stamp, body, expiry)?;
+        let mut records = Vec::with_capacity(alloc, 1)?;
+        records.push((key.twin(alloc)?, record_of(stamp, body, expiry)))?;
+        self.versions.ready_records(alloc, &records)?;
+        let victim = self.values.store(alloc, key, value)?;
+        self.versions.join_records(None, records);
         self.vector.raise(self.number, stamp.time());
         note(&mut self.changes, key, &self.vector);
         self.earliest = earlier(self.earliest, expiry);
-        hold(&mut self.held, own_key, blob);
-        Ok(())
+        Ok(victim)
     }
 
     /// Deletes a key: its record says so from now on, and its bytes are dropped. An Err changes nothing.
@@ -119,7 +126,7 @@ impl Site {
         self.versions.write(alloc, key, stamp, Body::Gone, 0)?;
         self.vector.raise(self.number, stamp.time());
         note(&mut self.changes, key, &self.vector);
-        drop_held(&mut self.held, key);
+        self.values.drop_key(key);
         Ok(())
     }
 
@@ -130,20 +137,23 @@ impl Site {
         key: &Key,
         effect: Effect,
         ask: &Ask<'_>,
-    ) -> Result<(), WriteError>
+    ) -> Result<Beside, WriteError>
         requires short { IsShort effect (bytes_in ask.now) }
         requires there { IsThere self.old key.now effect }
-        ensures does { EffectDoes self.old self.new key.now (bytes_in ask.now) effect result }
-        ensures rests { Rests self.old self.new }
+        ensures does { EffectDoes self.old self.new key.now (bytes_in ask.now) effect (effect_done result) }
+        ensures told { IfOk result (TellsEffect self.old key.now (bytes_in ask.now) effect) }
+        ensures waiting { waiting_in self.new ≡ waiting_in self.old }
         ensures stays { Stays self.old self.new }
     {
         match effect {
-            Effect::Nothing => Ok(()),
+            Effect::Nothing => Ok(Beside::nothing()),
             Effect::Keep { flags, expiry } => {
                 let stamp = self.next_stamp(key)?;
                 let bytes = asked_bytes(alloc, ask)?;
-                self.write(alloc, stamp, key, flags, expiry, bytes)?;
-                Ok(())
+                let value = Blob::new(bytes.into_vec());
+                let victim = self.write(alloc, stamp, key, flags, expiry, &value)?;
+                self.count_victim(&victim);
+                Ok(Beside { victim, made: None })
             }
             Effect::Made {
                 bytes,
@@ -151,18 +161,23 @@ impl Site {
                 expiry,
             } => {
                 let stamp = self.next_stamp(key)?;
-                self.write(alloc, stamp, key, flags, expiry, bytes)?;
-                Ok(())
+                let length = bytes.len() as u32;
+                let value = Blob::new(bytes.into_vec());
+                let victim = self.write(alloc, stamp, key, flags, expiry, &value)?;
+                self.count_victim(&victim);
+                let made = Some((value.digest(), length));
+                Ok(Beside { victim, made })
             }
             Effect::Renew { expiry } => {
                 let stamp = self.next_stamp(key)?;
+                self.values.hit(key);
                 self.renew(stamp, key, expiry);
-                Ok(())
+                Ok(Beside::nothing())
             }
             Effect::Tomb => {
                 let stamp = self.next_stamp(key)?;
                 self.bury(alloc, stamp, key)?;
-                Ok(())
+                Ok(Beside::nothing())
             }
         }
     }

@@ -12,6 +12,11 @@ pub enum Event {
         now: u64,
         request: Request,
     },
+    /// The site drops the bytes of a key.
+    Evict {
+        site: u8,
+        key: Key,
+    },
     /// The site makes a parcel for another.
     Send {
         site: u8,
@@ -38,8 +43,10 @@ pub enum Event {
 /// What came of an event.
 #[derive(Drop)]
 pub enum Trace {
-    /// The reply to a command, which may be a refusal.
-    Replied(Reply),
+    /// The reply to a command, which may be a refusal, and the key whose bytes were evicted for what it stored, if any.
+    Replied(Reply, Option<Key>),
+    /// Whether bytes were held.
+    Evicted(bool),
     /// The parcel was made.
     Sent,
     /// No parcel was made.

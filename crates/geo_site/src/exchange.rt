@@ -1,17 +1,16 @@
 //! What a site tells another, and what it is told.
-ghost use Rattle.std.specs.Prelude.{IsTrue, ◌↔◌, ◌≡◌, ◌≢◌, ◌≤◌, ◌<◌, ◌+◌, ℕ, List, Option, Some, None, Bool, true, false, IfOk, MatchOption, MatchResult, length, cond, option_copied};
-ghost use Rattle.indexmap.specs.IndexMap.{get, index_map_len};
-ghost use Rattle.geo_versions.specs.Keys.{same_key};
+ghost use Rattle.std.specs.Prelude.{IsTrue, ◌↔◌, ◌≡◌, ◌≢◌, ◌≤◌, ◌<◌, ◌+◌, ℕ, List, Option, Some, None, Bool, true, false, IfOk, MatchOption, MatchResult, length as count, length, cond, option_copied};
+ghost use Rattle.sha2.specs.Sha256.{sha256};
+ghost use Rattle.geo_values.specs.Stock as stocks;
+ghost use Rattle.geo_values.specs.Held.{stock_in, count_in};
 ghost use Rattle.geo_versions.specs.Operations.{version_in, above_both, record_joined, floor_joined};
 ghost use Rattle.geo_versions.specs.Maps.{rec_means, listed_at, floor_in, record_in, HasRoomFor, Rising};
-ghost use Rattle.geo_site.specs.Entries.{names, named_by};
-ghost use Rattle.geo_site.specs.Machine.{Same, Settled, take, knows_record, knows_floor};
+ghost use Rattle.geo_site.specs.Entries.{names};
+ghost use Rattle.geo_site.specs.Machine.{Same, Settled, settled, stays_by, take, knows_record, knows_floor};
 ghost use Rattle.geo_stamp.specs.Acks.{row_of};
 ghost use Rattle.geo_stamp.specs.Vectors.{vector_joined};
 ghost use Rattle.geo_site.specs.Sites.{state_in, heard_in, held_count, IsSent, Rests, Stays, is_sound, knows_all, Takes, RefusesFor, Remains, SendDoes, TakeDoes};
 
-use crate::blob::Blob;
-use crate::change::drop_held;
 use crate::notes::note_each;
 use crate::reap::earliest_in;
 use crate::refusal::{SendError, TakeError};
@@ -19,10 +18,9 @@ use crate::site::Site;
 use geo_delta::{Parcel, cut};
 use geo_lattice::{Items, Lattice};
 use geo_stamp::{Stamp, Vector};
-use geo_versions::{Key, Rec, Version, Versions, are_rising};
-use indexmap::IndexMap;
+use geo_values::Values;
+use geo_versions::{Digest, Key, Rec, Version, Versions, are_rising};
 use std::alloc::Global;
-use std::hash::RandomState;
 
 /// What a take did.
 #[derive(Clone, Copy, Debug, PartialEq, Eq)]
@@ -72,25 +70,22 @@ fn knows_each(vector: &Vector, records: &[(Key, Rec)]) -> bool
     records.iter().all(|(_, rec)| knows_both(vector, rec))
 }
 
-/// Whether a version names the bytes.
-fn is_named(version: Option<Version>, blob: &Blob) -> bool
-    ensures { result ≡ names version blob.now }
+/// Whether a version names bytes with this SHA-256 and length.
+fn names_such(version: Option<Version>, digest: &Digest, length: usize) -> bool
+    ensures { (bytes : List ℕ) → digest.now ≡ sha256 bytes → length ≡ count bytes → result ≡ names version bytes }
 {
     match version {
         None => false,
-        Some(version) => {
-            version.digest == blob.digest() && version.length as usize == blob.bytes().len()
-        }
+        Some(version) => version.digest == *digest && version.length as usize == length,
     }
 }
 
 /// Drops what the versions no longer name.
-pub(crate) fn keep_named(held: &mut IndexMap<Key, Blob, RandomState>, versions: &Versions)
-    ensures kept { (q : List ℕ) → get same_key held.new q ≡ named_by (version_in (record_in versions.now q)) (get same_key held.old q) }
-    ensures no_more { index_map_len held.new ≤ index_map_len held.old }
+pub(crate) fn keep_named(values: &mut Values, versions: &Versions)
+    ensures kept { stocks.Same (settled (record_in versions.now) (stock_in values.old)) (stock_in values.new) }
+    ensures no_more { count_in values.new ≤ count_in values.old }
 {
-    let _count = held.len();
-    held.retain(|key, blob| is_named(versions.version_of(key), blob));
+    values.retain(|key, digest, length| names_such(versions.version_of(key), digest, length));
 }
 
 /// Whether the greater of two floors is above the first.
@@ -104,22 +99,32 @@ fn rises(mine: Option<Stamp>, theirs: Option<Stamp>) -> bool
     }
 }
 
+/// Whether the bytes that are held of a key, if any, are those that a version names.
+fn is_current(values: &Values, key: &Key, version: Option<Version>) -> bool
+    ensures { result ≡ stays_by version ((stock_in values.now).held key.now) }
+{
+    if !values.holds(key) {
+        return true;
+    }
+    match version {
+        None => false,
+        Some(version) => match values.get(key, &version.digest) {
+            None => false,
+            Some(bytes) => bytes.len() == version.length as usize,
+        },
+    }
+}
+
 /// Drops what records outdate that come by rising key and are about to be joined: only their keys are looked at.
-fn drop_outdated(
-    held: &mut IndexMap<Key, Blob, RandomState>,
-    versions: &Versions,
-    records: &[(Key, Rec)],
-)
+fn drop_outdated(values: &mut Values, versions: &Versions, records: &[(Key, Rec)])
     requires rising { Rising records.now }
-    requires settled { Settled (record_in versions.now) (λ q. get same_key held.old q) }
-    ensures kept { (q : List ℕ) → get same_key held.new q ≡ named_by (version_in (above_both (floor_in versions.now) (record_joined (record_in versions.now q) (listed_at records.now q)))) (get same_key held.old q) }
-    ensures no_more { index_map_len held.new ≤ index_map_len held.old }
+    requires settled { Settled (record_in versions.now) (stock_in values.old).held }
+    ensures kept { stocks.Same (settled (λ q. above_both (floor_in versions.now) (record_joined (record_in versions.now q) (listed_at records.now q))) (stock_in values.old)) (stock_in values.new) }
+    ensures no_more { count_in values.new ≤ count_in values.old }
 {
     for (key, rec) in records {
-        if let Some(blob) = held.get(key) {
-            if !is_named(versions.version_with(key, rec), blob) {
-                drop_held(held, key);
-            }
+        if !is_current(values, key, versions.version_with(key, rec)) {
+            values.drop_key(key);
         }
     }
 }
@@ -137,25 +142,25 @@ fn are_few(held: usize, versions: &Versions, floor: &Option<Stamp>, records: &[(
 /// Joins records to the versions, and drops what these no longer name: of few records only their keys are looked at, unless the
 /// floor rises.
 fn join_both(
-    held: &mut IndexMap<Key, Blob, RandomState>,
+    values: &mut Values,
     versions: &mut Versions,
     floor: Option<Stamp>,
     records: Items<(Key, Rec)>,
 )
     requires room { HasRoomFor versions.old records }
-    requires settled { Settled (record_in versions.old) (λ q. get same_key held.old q) }
+    requires settled { Settled (record_in versions.old) (stock_in values.old).held }
     ensures floor { floor_in versions.new ≡ floor_joined (floor_in versions.old) floor }
     ensures records { (q : List ℕ) → record_in versions.new q ≡ above_both (floor_in versions.new) (record_joined (record_in versions.old q) (listed_at records q)) }
-    ensures kept { (q : List ℕ) → get same_key held.new q ≡ named_by (version_in (record_in versions.new q)) (get same_key held.old q) }
-    ensures no_more { index_map_len held.new ≤ index_map_len held.old }
+    ensures kept { stocks.Same (settled (record_in versions.new) (stock_in values.old)) (stock_in values.new) }
+    ensures no_more { count_in values.new ≤ count_in values.old }
 {
-    let few = are_few(held.len(), versions, &floor, records.as_slice());
+    let few = are_few(values.len(), versions, &floor, records.as_slice());
     if few {
-        drop_outdated(held, versions, records.as_slice());
+        drop_outdated(values, versions, records.as_slice());
     }
     versions.join_records(floor, records.into_vec());
     if !few {
-        keep_named(held, versions);
+        keep_named(values, versions);
     }
 }
 
@@ -252,9 +257,9 @@ impl Site {
         let top = self.vector.greatest();
         self.vector.raise(self.number, top);
         note_each(&mut self.changes, records.as_slice(), &self.vector);
-        let before = self.held.len();
-        join_both(&mut self.held, &mut self.versions, floor, records);
-        let dropped = before - self.held.len();
+        let before = self.values.len();
+        join_both(&mut self.values, &mut self.versions, floor, records);
+        let dropped = before - self.values.len();
         Taken { rose, dropped }
     }
 

@@ -1,11 +1,12 @@
 //! How a site looks keys up.
 ghost use Rattle.std.specs.Prelude.{◌≡◌, ◌++◌, ℕ, List, length, IfOk, option_to_list, cond};
-ghost use Rattle.geo_site.specs.Entries.{found_at, found_of, is_done, counted_on};
-ghost use Rattle.geo_site.specs.Machine.{visible_in};
-ghost use Rattle.geo_site.specs.Sites.{state_in, counts_in, limits_of, waiting_in, FetchDoes};
+ghost use Rattle.geo_site.specs.Entries.{found_at, found_of, keys_found, is_done, counted_on};
+ghost use Rattle.geo_site.specs.Machine.{Same, accessed, visible_in};
+ghost use Rattle.geo_site.specs.Sites.{state_in, counts_in, limits_of, waiting_in, Rests, Stays, FetchDoes, TellsPlain, reply_in};
 
+use crate::acted::{Acted, Copies};
 use crate::site::Site;
-use geo_grammar::{Found, Reply};
+use geo_grammar::{Found, ValueBytes};
 use geo_lattice::{Items, Twin};
 use geo_versions::Key;
 use std::alloc::{AllocError, Global};
@@ -29,7 +30,7 @@ impl Site {
             key: key.twin(alloc)?,
             flags: entry.flags,
             unique,
-            bytes: entry.bytes.twin(alloc)?,
+            bytes: ValueBytes::of(Vec::from_slice(alloc, entry.bytes)?),
         }))
     }
 
@@ -52,16 +53,36 @@ impl Site {
         Ok(all)
     }
 
-    /// Shows what is found of keys, and counts them.
-    pub(crate) fn fetch(&mut self, alloc: Global, now: u64, keys: &[Key], numbers: bool) -> Reply
-        ensures { FetchDoes self.old self.new now keys.now numbers result }
+    /// Notes that these were found.
+    pub(crate) fn note_hits(&mut self, found: &[Found])
+        ensures hits { Same (accessed (keys_found found.now) (state_in self.old)) (state_in self.new) }
+        ensures rests { Rests self.old self.new }
+        ensures stays { Stays self.old self.new }
     {
-        let Ok(found) = self.found(alloc, now, keys, numbers) else {
-            return Reply::OutOfMemory;
-        };
-        let hits = found.len();
+        for entry in found {
+            self.values.hit(&entry.key);
+        }
+    }
+
+    /// Shows what is found of keys, notes that it was, and counts them.
+    pub(crate) fn fetch(
+        &mut self,
+        alloc: Global,
+        now: u64,
+        keys: &[Key],
+        numbers: bool,
+        copies: Copies,
+    ) -> Result<Acted, AllocError>
+        ensures does { FetchDoes self.old self.new now keys.now numbers (reply_in result) }
+        ensures told { IfOk result (TellsPlain copies.wanted) }
+    {
+        let all = self.found(alloc, now, keys, numbers)?;
+        let found = Items::of(all);
+        let copies = copies.of_values(alloc, &found)?;
+        self.note_hits(found.as_slice());
+        let hits = found.as_slice().len();
         self.hits = self.hits.saturating_add(hits as u64);
         self.misses = self.misses.saturating_add((keys.len() - hits) as u64);
-        Reply::Values(Items::of(found))
+        Ok(Acted::values(found, copies))
     }
 }

@@ -32,7 +32,7 @@ impl Site {
     {
         self.versions.raise_floor(stamp);
         self.vector.raise(self.number, stamp.time());
-        keep_named(&mut self.held, &self.versions);
+        keep_named(&mut self.values, &self.versions);
     }
 
     /// Whether the moment of a flush that waits has come.
@@ -65,7 +65,7 @@ impl Site {
     /// both cases. It takes no memory.
     pub(crate) fn flush_all(&mut self, now: u64, delay: i64) -> Reply
         requires moment { now ≤ 2 ^ 40 }
-        ensures issued { IssuesAs self.old self.new (flush_acts delay now) Done result }
+        ensures issued { IssuesAs [] self.old self.new (flush_acts delay now) Done result }
         ensures waiting { waiting_in self.new ≡ cond (is_done result) (cond (flushes_now delay now) None (Some (expiry_at delay now))) (waiting_in self.old) }
         ensures counts { counts_in self.new ≡ counts_in self.old }
         ensures stays { Stays self.old self.new }

@@ -7,9 +7,10 @@
 #![tactic(auto)]
 
 pub mod act;
-pub mod blob;
+pub mod acted;
 pub mod change;
 pub mod event;
+pub mod evict;
 pub mod exchange;
 pub mod fetch;
 pub mod flush;
@@ -20,7 +21,7 @@ pub mod setup;
 pub mod site;
 pub mod touch;
 
-pub use blob::Blob;
+pub use acted::Acted;
 pub use change::asked_bytes;
 pub use event::{Event, Trace};
 pub use exchange::{Refused, Taken};

@@ -13,6 +13,10 @@ pub enum SetupError {
     Sites,
     /// The site's number is not 1 to the number of sites.
     SiteNumber,
+    /// There are fewer than 15 pages, one for each slab class.
+    TooFewPages,
+    /// There are more than 65,536 pages.
+    TooManyPages,
     /// The most records are not 1 to 1,000,000.
     Records,
     /// Memory was wanted.

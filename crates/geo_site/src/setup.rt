@@ -8,6 +8,8 @@ pub struct Setup {
     pub site: u8,
     /// How many sites there are, 1 to 16.
     pub sites: u8,
+    /// How many pages of a mebibyte it has for values, 15 to 65,536.
+    pub pages: u32,
     /// How many records its map may have before local operations on new keys are refused, 1 to 1,000,000.
     pub max_records: u32,
     /// How many seconds after its end a write of its own is kept, until it is deleted for all sites.

@@ -1,19 +1,18 @@
 //! A site's state, and what can be asked of it.
 ghost use Rattle.std.specs.Prelude.{◌≡◌, ◌≢◌, ℕ, ◌≤◌, ◌<◌, List, None, Some, IsTrue, IfOk, ◌↔◌, true};
-ghost use Rattle.indexmap.specs.IndexMap.{get};
+ghost use Rattle.geo_values.specs.Held.{stock_in};
 ghost use Rattle.geo_versions.specs.Keys.{same_key};
 ghost use Rattle.geo_versions.specs.Operations.{version_in};
 ghost use Rattle.geo_versions.specs.Maps.{floor_in, record_in};
 ghost use Rattle.geo_delta.specs.Changes.{Traced, nothing_pending, traced_prop};
 ghost use Rattle.geo_site.specs.Machine.{Numbered, Covers, Settled, EndsFrom, knows_floor};
 
-use crate::blob::Blob;
 use crate::refusal::SetupError;
 use crate::setup::{Limits, Setup};
 use geo_delta::Changes;
 use geo_stamp::{Acks, Stamp, Vector};
+use geo_values::Values;
 use geo_versions::{Key, Version, Versions};
-use indexmap::IndexMap;
 use std::alloc::{AllocError, Global};
 use std::hash::RandomState;
 
@@ -29,9 +28,10 @@ pub struct Site {
     pub(crate) versions: Versions,
     /// The keys whose records changed last, with what it knew then.
     pub(crate) changes: Changes,
-    pub(crate) held: IndexMap<Key, Blob, RandomState>,
+    pub(crate) values: Values,
     pub(crate) hits: u64,
     pub(crate) misses: u64,
+    pub(crate) evictions: u64,
     /// The moment of the flush that waits, in seconds.
     pub(crate) waiting: Option<u64>,
     /// No record has an expiry before this moment, but for 0.
@@ -41,7 +41,7 @@ pub struct Site {
     ghost covered: { Covers vector (record_in versions) },
     ghost traced: { Traced nothing_pending (record_in versions) changes } by { traced_prop nothing_pending (record_in versions) changes },
     ghost ends: { EndsFrom earliest (record_in versions) },
-    ghost named: { Settled (record_in versions) (λ key. get same_key held key) },
+    ghost named: { Settled (record_in versions) (stock_in values).held },
 }
 
 impl Site {
@@ -50,7 +50,8 @@ impl Site {
     ghost use Rattle.geo_site.specs.Machine.{IsRecordCount, IsHeldCount};
     ghost use Rattle.geo_site.specs.Sites.{state_in, record_count, held_count, OpenDoes};
 
-    /// A site that knows nothing. The number of sites is tested first, then the site's number, then the most records.
+    /// A site that knows nothing. The number of sites is tested first, then the site's number, then the pages, then
+    /// the most records. It takes the memory of all pages.
     pub fn new(alloc: Global, setup: Setup) -> Result<Site, SetupError>
         ensures { OpenDoes setup result }
     {
@@ -60,6 +61,12 @@ impl Site {
         if setup.site == 0 || setup.site > setup.sites {
             return Err(SetupError::SiteNumber);
         }
+        if setup.pages < 15 {
+            return Err(SetupError::TooFewPages);
+        }
+        if setup.pages > 65_536 {
+            return Err(SetupError::TooManyPages);
+        }
         if setup.max_records == 0 || setup.max_records > 1_000_000 {
             return Err(SetupError::Records);
         }
@@ -67,6 +74,9 @@ impl Site {
             return Err(SetupError::Memory);
         };
         let Ok(changes) = Changes::new(alloc, setup.sites as usize) else {
+            return Err(SetupError::Memory);
+        };
+        let Ok(values) = Values::new(alloc, hasher, setup.pages as usize) else {
             return Err(SetupError::Memory);
         };
         Ok(Site {
@@ -79,9 +89,10 @@ impl Site {
             heard: Acks::new(setup.sites as usize),
             versions: Versions::new(alloc, setup.hasher),
             changes,
-            held: IndexMap::with_hasher(alloc, hasher),
+            values,
             hits: 0,
             misses: 0,
+            evictions: 0,
             waiting: None,
             earliest: u64::MAX,
         })
@@ -118,9 +129,9 @@ impl Site {
 
     /// Whether it holds the bytes of a key.
     pub fn holds(&self, key: &Key) -> bool
-        ensures { IsTrue result ↔ ((state_in self.now).held key.now ≢ None) }
+        ensures { IsTrue result ↔ ((state_in self.now).stock.held key.now ≢ None) }
     {
-        self.held.get(key).is_some()
+        self.values.holds(key)
     }
 
     /// How many keys have a record: a version, or what is left of one that is gone.
@@ -134,8 +145,8 @@ impl Site {
     /// How many values it holds, expired ones too.
     pub fn items(&self) -> usize
         ensures count { result ≡ held_count self.now }
-        ensures held { IsHeldCount (state_in self.now).held result }
+        ensures held { IsHeldCount (state_in self.now).stock.held result }
     {
-        self.held.len()
+        self.values.len()
     }
 }

@@ -1,7 +1,9 @@
 //! What no clause says: that the calls succeed where there is memory, and what clients read, worked out by hand. Here is what the
 //! tests are made of.
+mod acted;
 mod clients;
 mod deltas;
+mod evictions;
 mod flushes;
 mod moments;
 mod open;
@@ -13,7 +15,7 @@ mod stores;
 
 use crate::{Setup, Site, Taken};
 use geo_delta::Parcel;
-use geo_grammar::{Item, Reader, fault_text, push_answer};
+use geo_grammar::{Item, Reader, Reply, Request, ValueBytes, Verb, fault_text, push_answer};
 use geo_versions::{Key, Version};
 use std::alloc::{AllocError, Global};
 use std::hash::RandomState;
@@ -36,7 +38,19 @@ fn key(alloc: Global, bytes: &[u8]) -> Result<Key, Fail> {
     Ok(Key::new(alloc, bytes)?.ok_or("no key")?)
 }
 
-/// A site with room for so many records.
+/// What a site is told at its start; it keeps its writes for sixty seconds.
+fn setup_of(site: u8, sites: u8, pages: u32, max_records: u32, hasher: RandomState) -> Setup {
+    Setup {
+        site,
+        sites,
+        pages,
+        max_records,
+        reap_after: 60,
+        hasher,
+    }
+}
+
+/// A site with a page for each slab class, and room for so many records.
 fn opened(
     alloc: Global,
     site: u8,
@@ -44,14 +58,29 @@ fn opened(
     max_records: u32,
     hasher: RandomState,
 ) -> Result<Site, Fail> {
-    let setup = Setup {
-        site,
-        sites,
-        max_records,
-        reap_after: 60,
-        hasher,
-    };
+    let setup = setup_of(site, sites, 15, max_records, hasher);
     Ok(Site::new(alloc, setup).ok().ok_or("no site")?)
+}
+
+/// What a site answers to a storage command with so many zeros.
+fn store(
+    alloc: Global,
+    site: &mut Site,
+    name: &[u8],
+    verb: Verb,
+    exptime: i64,
+    count: usize,
+) -> Result<Reply, Fail> {
+    let request = Request::Store {
+        verb,
+        key: key(alloc, name)?,
+        flags: 0,
+        exptime,
+        unique: None,
+        bytes: ValueBytes::of(vec![in alloc; 0u8; count]?),
+        noreply: false,
+    };
+    Ok(site.act(alloc, NOW, &request))
 }
 
 /// What a site answers to one item of a text.

@@ -7,9 +7,10 @@ ghost use Rattle.geo_versions.specs.Keys.{same_key};
 ghost use Rattle.geo_versions.specs.Operations.Act.{Touch};
 ghost use Rattle.geo_site.specs.Entries.{touches_of, found_after};
 ghost use Rattle.geo_site.specs.Machine.{clock_of, visible_in};
-ghost use Rattle.geo_site.specs.Sites.{state_in, touched_in, HasIssued, Rests, Stays, FetchTouchDoes};
+ghost use Rattle.geo_site.specs.Sites.{state_in, touched_in, HasIssued, Rests, Stays, FetchTouchDoes, TellsPlain, reply_in};
 ghost use Rattle.geo_site.specs.Changes.{next_stamp_of, HasRecord, HasBody};
 
+use crate::acted::{Acted, Copies};
 use crate::notes::note;
 use crate::reap::earlier;
 use crate::site::Site;
@@ -129,18 +130,21 @@ impl Site {
         expiry: u64,
         keys: &[Key],
         numbers: bool,
-    ) -> Reply
-        ensures does { FetchTouchDoes self.old self.new now expiry keys.now numbers result }
+        copies: Copies,
+    ) -> Result<Acted, AllocError>
+        ensures does { FetchTouchDoes self.old self.new now expiry keys.now numbers (reply_in result) }
+        ensures told { IfOk result (TellsPlain copies.wanted) }
         ensures rests { Rests self.old self.new }
         ensures stays { Stays self.old self.new }
     {
         if !self.can_touch(now, expiry, keys) {
-            return Reply::ClockEnded;
+            return Ok(Acted::plain(Reply::ClockEnded, copies));
         }
-        let Ok(found) = self.found_to_touch(alloc, now, expiry, keys, numbers) else {
-            return Reply::OutOfMemory;
-        };
-        self.renew_all(expiry, &found);
-        Reply::Values(Items::of(found))
+        let all = self.found_to_touch(alloc, now, expiry, keys, numbers)?;
+        let found = Items::of(all);
+        let copies = copies.of_values(alloc, &found)?;
+        self.note_hits(found.as_slice());
+        self.renew_all(expiry, found.as_slice());
+        Ok(Acted::values(found, copies))
     }
 }

@@ -1,10 +1,12 @@
 -- What a look-up of a key finds.
-use Rattle.std.proofs.Common.{◌≡◌, ℕ, Bool, true, false, not, ◌||◌, cond, is_some, List, [], ◌∷◌, length, Option, Some, None, refl, sym, ap, ◌∙◌}
+use Rattle.std.proofs.Common.{◌≡◌, ℕ, ◌^◌, ◌≤◌, Bool, true, false, not, ◌||◌, cond, is_some, List, [], ◌∷◌, length, Option, Some, None, refl, sym, ap, subst, ◌∙◌, arith}
 use Rattle.std.proofs.lemmas.List.{length-map}
+use Rattle.std.proofs.Math.Nat.{pow-le-pow_right}
 use Rattle.std.specs.List.{list_any}
 use Rattle.std.specs.Map.{lookup, keys_of}
 use Rattle.std.specs.Str.{bytes_eq}
 use Rattle.geo_versions.specs.Keys.{same_key}
+use Rattle.geo_slabs.specs.Chunks.{page_bytes}
 use Rattle.geo_slabs.specs.Storage.{held_in}
 use Rattle.geo_values.specs.Stock.{with_digest}
 use Rattle.geo_values.specs.Held.{count_in}
@@ -36,3 +38,13 @@ digest_tells l h key digest item is =
 -- there are as many keys as items
 pub counted : (k : Kept) → count_in k ≡ length k.items
 counted k = length-map k.items (λ (e : List ℕ × Item). e.0)
+
+-- what an item's chunk holds is no longer than a page
+pub held_fits : (l : Links) → IsLinked l → (key : List ℕ) (item : Item) → l.item key ≡ Some item → (held : List ℕ) → held_in l.storage item.chunk ≡ Some held → length held ≤ page_bytes
+held_fits l h key item is held holds =
+    let s : IsItem l.storage item = h.sound key item is in
+    let both : Some s.bytes ≡ Some held = sym s.holds ∙ holds in
+    let own : s.bytes ≡ held = cc in
+    let least : item.class ≤ 14 = omega (arith, s.fits.0) in
+    let most : 2 ^ item.class ≤ 2 ^ 14 = pow-le-pow_right (omega arith) least in
+    subst (λ (b : List ℕ). length b ≤ page_bytes) own (omega (arith, s.fits.1, most))

@@ -27,6 +27,16 @@ other_keys a b ne = by (same_key a b) refl
     by true t = absurd (ne (same_keys a b t))
     by false t = refl
 
+-- whichever comes first
+pub either_way : (a b : List ℕ) → same_key a b ≡ same_key b a
+either_way a b = by (same_key a b) refl (same_key b a) refl
+  where
+    by : (s : Bool) → same_key a b ≡ s → (t : Bool) → same_key b a ≡ t → s ≡ t
+    by true hs true ht = refl
+    by false hs false ht = refl
+    by true hs false ht = let yes : same_key b a ≡ true = subst (λ k. same_key b k ≡ true) (sym (same_keys a b hs)) (same_self b) in cc
+    by false hs true ht = let yes : same_key a b ≡ true = subst (λ k. same_key a k ≡ true) (sym (same_keys b a ht)) (same_self a) in cc
+
 pub other_numbers : (a b : ℕ) → a ≢ b → nat_eq a b ≡ false
 other_numbers a b ne = by (nat_eq a b) refl
   where
@@ -111,6 +121,13 @@ module _ {l : Links} (h : IsLinked l) where
       by : (o : Option Item) → l.item key ≡ o → is_some (bytes_of l.storage o) ≡ is_some o
       by None e = refl
       by (Some item) e = ap is_some (h.sound key item e).holds
+
+  pub no_item : (key : List ℕ) → bytes_of l.storage (l.item key) ≡ None → l.item key ≡ None
+  no_item key none = by (l.item key) (sym (held_some key) ∙ ap is_some none)
+    where
+      by : (o : Option Item) → is_some o ≡ false → o ≡ None
+      by None e = refl
+      by (Some item) e = cc
 
   -- a key without an item is no number's
   pub misses : (key : List ℕ) → l.item key ≡ None → (m class : ℕ) → 1 ≤ places m (l.lists class) → same_key key (key_of l m) ≡ false

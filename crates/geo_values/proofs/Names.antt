@@ -135,15 +135,5 @@ module _ (name : ℕ → List ℕ) (key : List ℕ) where
   touched-misses : (es : List (ℕ × Access)) → Misses es → touched_in_by same_key key (named_list name es) ≡ named_list name es
   touched-misses es h = ap (λ o. option_map_or (λ a. set_value (same_key key) (named_list name es) (touched a)) o (named_list name es)) (lookup-misses es h)
 
-  without-misses : (es : List (ℕ × Access)) → Misses es → without_by same_key key (named_list name es) ≡ named_list name es
-  without-misses [] h = refl
-  without-misses (e ∷ es) h =
-      ap (λ b. cond b (named_list name es) ((name e.0, e.1) ∷ without_by same_key key (named_list name es))) (h e.0 (present-first e es))
-      ∙ ap (λ l. (name e.0, e.1) ∷ l) (without-misses es (λ m p. h m (present-later m e es p)))
-
-  module _ (l : Lists) (h : (m : ℕ) → 1 ≤ places m l → same_key key (name m) ≡ false) where
-    pub left-misses : left_by same_key key (named name l) ≡ named name l
-    left-misses = rw (without-misses l.hot (λ m p. h m (omega (arith, p))), without-misses l.warm (λ m p. h m (omega (arith, p))), without-misses l.cold (λ m p. h m (omega (arith, p)))) refl
-
-    pub touched_by-misses : touched_by same_key key (named name l) ≡ named name l
-    touched_by-misses = rw (touched-misses l.hot (λ m p. h m (omega (arith, p))), touched-misses l.warm (λ m p. h m (omega (arith, p))), touched-misses l.cold (λ m p. h m (omega (arith, p)))) refl
+  pub touched_by-misses : (l : Lists) → ((m : ℕ) → 1 ≤ places m l → same_key key (name m) ≡ false) → touched_by same_key key (named name l) ≡ named name l
+  touched_by-misses l h = rw (touched-misses l.hot (λ m p. h m (omega (arith, p))), touched-misses l.warm (λ m p. h m (omega (arith, p))), touched-misses l.cold (λ m p. h m (omega (arith, p)))) refl

@@ -11,9 +11,10 @@ use Rattle.geo_values.specs.Stock.{Same, dropped, hit_at}
 use Rattle.geo_values.specs.Links.{Links, IsLinked, bytes_of, key_of, named, held_count, pages_in, stock_of}
 use Rattle.geo_values.specs.Steps.{SameLinks, TakesOut, Hits, hit_on}
 use Rattle.geo_values.specs.declared.parts.Item.{Item}
-use Rattle.geo_values.proofs.Names.{named-agree_all, named-touched, left-misses, touched_by-misses}
+use Rattle.geo_values.proofs.Names.{named-agree_all, named-touched, touched_by-misses}
 use Rattle.geo_values.proofs.Counts.{count-touched}
-use Rattle.geo_values.proofs.Linked.{same_keys, matches, misses}
+use Rattle.geo_values.proofs.Linked.{same_keys, matches, no_item, misses}
+use Rattle.geo_values.proofs.Staying.{staying-misses}
 use Rattle.geo_values.proofs.Taken.{linked-out, stock-out}
 
 -- each item stands as often in lists of each class, which have as many items
@@ -93,13 +94,16 @@ module _ {l : Links} (l' : Links) (h : IsLinked l) (key : List ℕ) where
       let s = stock-same same in
       record {
         held = λ q. s.held q ∙ nothing_held e q;
-        lists = λ class. s.lists class ∙ sym (left-misses (key_of l) key (l.lists class) (λ m p. misses h key e m class p));
+        lists = λ class. s.lists class ∙ sym (staying-misses (key_of l) key (l.lists class) (λ m p. misses h key e m class p));
         pages = s.pages;
         spare = s.spare;
       }
 
   pub stock-takes_out : TakesOut l l' key (l.item key) → Same (dropped key (stock_of l)) (stock_of l')
   stock-takes_out out = stock_if_any (l.item key) refl out
+
+  pub absent-takes_out : bytes_of l.storage (l.item key) ≡ None → TakesOut l l' key (l.item key) → Same (stock_of l) (stock_of l')
+  absent-takes_out none out = stock-same (subst (TakesOut l l' key) (no_item h key none) out)
 
 pub touched_at-absent : (n : ℕ) (l : Lists) → places n l ≡ 0 → touched_at n l ≡ l
 touched_at-absent n l h = rw (touched-absent n l.hot (omega (arith, h)), touched-absent n l.warm (omega (arith, h)), touched-absent n l.cold (omega (arith, h))) refl
@@ -146,3 +150,6 @@ module _ {l : Links} (l' : Links) (h : IsLinked l) (key : List ℕ) where
 
   pub stock-hits : Hits l l' (l.item key) → Same (hit_at key (stock_of l)) (stock_of l')
   stock-hits hit = stock_hit (l.item key) refl hit
+
+  pub absent-hits : bytes_of l.storage (l.item key) ≡ None → Hits l l' (l.item key) → Same (stock_of l) (stock_of l')
+  absent-hits none hit = stock-same (subst (Hits l l') (no_item h key none) hit)

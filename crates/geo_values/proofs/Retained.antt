@@ -1,5 +1,5 @@
 -- What stays as a loop tests item after item, from the last on, and takes out those that do not pass.
-use Rattle.std.proofs.Common.{◌≡◌, ◌≢◌, ℕ, suc, ◌-◌, ◌<◌, ◌≤◌, inl, inr, Bool, true, false, cond, List, [], ◌∷◌, length, Option, Some, None, IfSome, slice_get, slice_set, get_or, swap_remove, Bor, refl, sym, ap, subst, ◌∙◌, arith}
+use Rattle.std.proofs.Common.{◌≡◌, ◌≢◌, ℕ, suc, ◌-◌, ◌<◌, ◌≤◌, inl, inr, Bool, true, false, not, cond, List, [], ◌∷◌, length, Option, Some, None, IfSome, slice_get, slice_set, get_or, swap_remove, Bor, refl, sym, ap, subst, ◌∙◌, arith}
 use Rattle.std.proofs.lemmas.Bool.{cases_eq}
 use Rattle.std.proofs.lemmas.List.{get_or-take, get_or-set_same, get_or-set_other, length-set, length-take-le}
 use Rattle.std.proofs.lemmas.Option.{slice_get_past, slice_get_within, slice_get-get_or, get_or_from_slice_get}
@@ -9,12 +9,12 @@ use Rattle.sha2.specs.Sha256.{sha256}
 use Rattle.geo_versions.specs.Keys.{same_key}
 use Rattle.geo_slabs.specs.Storage.{held_in}
 use Rattle.geo_values.specs.Stock.{Same, Answers, dropped, staying, kept_where, IsRetained}
-use Rattle.geo_values.specs.Links.{Links, Kept, IsLinked, links_of, stock_of, bytes_of, key_of}
+use Rattle.geo_values.specs.Links.{Links, Kept, IsLinked, links_of, stock_of, bytes_of}
 use Rattle.geo_values.specs.Steps.{SameLinks, MayAnswer, CanGo, taken_out}
 use Rattle.geo_values.specs.declared.parts.Item.{Item}
-use Rattle.geo_values.proofs.Linked.{same_keys, same_self, once, matches, can_go}
+use Rattle.geo_values.proofs.Linked.{same_keys, can_go}
 use Rattle.geo_values.proofs.Taken.{linked-out, stock-out}
-use Rattle.geo_values.proofs.Staying.{all_but, staying-all, staying-twice, left-staying}
+use Rattle.geo_values.proofs.Staying.{all_but, staying-all, staying-twice}
 
 -- a call at an item's key, digest and length
 pub answers-item : {F : Type 0} (calls : Shared F (Bor (List ℕ) × (Bor (List ℕ) × (ℕ × Unit {0}))) Bool) (test : F) (l : Links) → IsLinked l → (key : List ℕ) (item : Item) → l.item key ≡ Some item
@@ -143,7 +143,7 @@ module _ (may : List ℕ → List ℕ → Bool → Type 0) where
       linked = linked-out r.linked key item is out;
       stays = all_but key r.stays;
       kept = record { held = held_now; lists = lists_now; pages = λ class. out_of_stock.pages class ∙ r.kept.pages class; spare = out_of_stock.spare ∙ r.kept.spare };
-      gone = λ q refused. by_gone q (same_key key q) refl refused;
+      gone = λ q refused. by_gone q (same_key q key) refl refused;
       passed = λ i e behind here.
           let was = stood_behind now.items (from - 1) (key, item) inside i e behind (ap (λ es. slice_get es i) (sym moved) ∙ here) in
           r.passed was.0 e (omega (arith, was.1, some)) was.2;
@@ -160,25 +160,22 @@ module _ (may : List ℕ → List ℕ → Bool → Type 0) where
         length-swapped = length-take-le (length now.items - 1) (slice_set now.items (from - 1) (get_or now.items (length now.items - 1) (key, item))) (omega (arith, length-set now.items (from - 1) (get_or now.items (length now.items - 1) (key, item))))
 
         held_now : (q : List ℕ) → (stock_of (links_of new)).held q ≡ cond (all_but key r.stays q) ((stock_of old).held q) None
-        held_now q = out_of_stock.held q ∙ by (same_key q key) refl (same_key key q) refl
+        held_now q = out_of_stock.held q ∙ by (same_key q key)
           where
-            by : (a : Bool) → same_key q key ≡ a → (b : Bool) → same_key key q ≡ b → cond a None ((stock_of (links_of now)).held q) ≡ cond (cond b false (r.stays q)) ((stock_of old).held q) None
-            by true s true t = refl
-            by false s false t = r.kept.held q
-            by true s false t = let one : q ≡ key = same_keys q key s in let yes : same_key key q ≡ true = subst (λ k. same_key k q ≡ true) one (same_self q) in cc
-            by false s true t = let one : key ≡ q = same_keys key q t in let yes : same_key q key ≡ true = subst (λ k. same_key k key ≡ true) one (same_self key) in cc
+            by : (b : Bool) → cond b None ((stock_of (links_of now)).held q) ≡ cond (cond b false (r.stays q)) ((stock_of old).held q) None
+            by true = refl
+            by false = r.kept.held q
 
         lists_now : (class : ℕ) → (stock_of (links_of new)).lists class ≡ staying (all_but key r.stays) ((stock_of old).lists class)
         lists_now class =
             out_of_stock.lists class
-            ∙ left-staying (key_of (links_of now)) item.number key ((links_of now).lists class) (matches r.linked key item is class) (once r.linked item.number class)
-            ∙ ap (staying (all_but key (λ q. true))) (r.kept.lists class)
+            ∙ ap (staying (λ q. not (same_key q key))) (r.kept.lists class)
             ∙ staying-twice r.stays key ((stock_of old).lists class)
 
-        by_gone : (q : List ℕ) (b : Bool) → same_key key q ≡ b → cond b false (r.stays q) ≡ false → Refused may old q
+        by_gone : (q : List ℕ) (b : Bool) → same_key q key ≡ b → cond b false (r.stays q) ≡ false → Refused may old q
         by_gone q true t refused =
             let held = held_old from r key item is in
-            subst (Refused may old) (same_keys key q t) (record { bytes = (r.linked.sound key item is).bytes; held = held; answer = tells_old from r key item is false tells (r.linked.sound key item is).bytes held })
+            subst (Refused may old) (sym (same_keys q key t)) (record { bytes = (r.linked.sound key item is).bytes; held = held; answer = tells_old from r key item is false tells (r.linked.sound key item is).bytes held })
         by_gone q false t refused = r.gone q refused
 
     some_there : (from : ℕ) → Retaining may old now from → 0 < from → slice_get now.items (from - 1) ≢ None

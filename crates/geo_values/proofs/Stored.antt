@@ -1,19 +1,19 @@
 -- A store as a whole: the key's item is taken out, room is made, and the new item comes, while its number waits in the lists.
-use Rattle.std.proofs.Common.{◌≡◌, ℕ, ◌+◌, ◌-◌, ◌*◌, ◌<◌, inl, inr, Bool, true, false, ◌&&◌, nat_eq, cond, List, length, slice_get, Option, Some, None, IsSome, refl, sym, ap, subst, ◌∙◌, arith}
+use Rattle.std.proofs.Common.{◌≡◌, ℕ, ◌+◌, ◌-◌, ◌*◌, ◌<◌, inl, inr, Bool, true, false, ◌&&◌, nat_eq, cond, List, length, slice_get, Option, Some, None, IsSome, IfSome, refl, sym, ap, subst, ◌∙◌, arith}
 use Rattle.sha2.specs.Sha256.{sha256}
 use Rattle.geo_versions.specs.Keys.{same_key}
 use Rattle.geo_slabs.specs.Storage.{Storage, PutDoes, IsPut, IsFull, IsClassOf, AllHeld, class_count, chunks_a_page, chunks_in, with_page}
 use Rattle.geo_slabs.specs.declared.slabs.Chunk.{Chunk}
 use Rattle.geo_lru.specs.Rules.{count, victim_of}
-use Rattle.geo_values.specs.Stock.{Stock, Same, dropped, arrived, evicted_from, is_used_up, is_full, with_page_of, with_room, victim_for, IsStored}
+use Rattle.geo_values.specs.Stock.{Stock, Same, dropped, arrived, evicted_from, is_used_up, is_full, with_page_of, with_room, victim_for, IsHeldIn, IsStored}
 use Rattle.geo_values.specs.Links.{Links, IsLinked, key_of, named, held_count, pages_in, stock_of}
 use Rattle.geo_values.specs.Steps.{SameLinks, TakesOut, Evicts, IsPutIn, IsPutForOther, PutsWithRoom, taken_out, admitted, with_item}
 use Rattle.geo_values.specs.declared.parts.Item.{Item}
 use Rattle.geo_values.proofs.Names.{count-named}
-use Rattle.geo_values.proofs.Linked.{same_self, same_numbers, other_numbers}
+use Rattle.geo_values.proofs.Linked.{same_self, other_keys, same_numbers, other_numbers}
 use Rattle.geo_values.proofs.Taken.{linked-out, stock-out}
 use Rattle.geo_values.proofs.Relisted.{stock_if_any}
-use Rattle.geo_values.proofs.Evicted.{linked-evicts, key-evicts, stock-evicts}
+use Rattle.geo_values.proofs.Evicted.{linked-evicts, key-evicts, held-evicts, stock-evicts}
 use Rattle.geo_values.proofs.Putting.{puts-in, puts-in_page, all_held, one_free}
 use Rattle.geo_values.proofs.Waiting.{same_links, out-waits, still_free, evicts-waits, EvictsBelow}
 use Rattle.geo_values.proofs.Arrived.{with_pages, with_all, linked-arrived, stock-arrived}
@@ -110,6 +110,7 @@ pub record Stores (s new : Stock) (key bytes : List ℕ) (class : ℕ) (evicted 
   pub stored : Same (arrived key bytes class (with_room class s)) new
   pub victim : evicted ≡ victim_for class s
   pub one : is_full s class ≡ true → IsSome evicted
+  pub other : IfSome evicted (λ victim. (same_key victim key ≡ false) × IsHeldIn s victim class)
 
 module _ (n : ℕ) (key : List ℕ) (class : ℕ) (lt : class < class_count) (bytes : List ℕ) (fits : IsClassOf (length bytes) class) (chunk : Chunk) where
   abbrev item : Item
@@ -153,6 +154,7 @@ module _ (n : ℕ) (key : List ℕ) (class : ℕ) (lt : class < class_count) (by
           stored = subst (λ (s : Stock). Same (arrived key bytes class s) (stock_of (with_all n key class after.storage item b))) (sym (room_free class (stock_of b) unused)) (free_chunk p);
           victim = sym (ap (λ t. cond {A = Option (List ℕ)} t (victim_of ((stock_of b).lists class)) None) opened);
           one = λ full. let no : true ≡ false = sym full ∙ opened in cc;
+          other = tt;
         }
     stores_by (inr (held, spare, p)) =
         let used = used_up b h class lt held in
@@ -162,6 +164,7 @@ module _ (n : ℕ) (key : List ℕ) (class : ℕ) (lt : class < class_count) (by
           stored = subst (λ (s : Stock). Same (arrived key bytes class s) (stock_of (with_all n key class after.storage item b))) (sym (room_page class (stock_of b) used some)) (new_page p);
           victim = sym (ap (λ t. cond {A = Option (List ℕ)} t (victim_of ((stock_of b).lists class)) None) opened);
           one = λ full. let no : true ≡ false = sym full ∙ opened in cc;
+          other = tt;
         }
 
     pub stores-plainly : (l' : Links) → SameLinks (with_item key item after) l' → Stores (stock_of b) (stock_of l') key bytes class None
@@ -183,6 +186,13 @@ module _ (n : ℕ) (key : List ℕ) (class : ℕ) (lt : class < class_count) (by
       by : (t : Bool) → cond {A = Option Item} t None None ≡ None
       by true = refl
       by false = refl
+
+  -- the victim has an item, so that it is another key
+  evicts_other : (b b' : Links) → IsLinked b → b.item key ≡ None → (result : Option (List ℕ)) → Evicts b b' class result → IfSome result (λ victim. (same_key victim key ≡ false) × IsHeldIn (stock_of b) victim class)
+  evicts_other b b' h gone None e = tt
+  evicts_other b b' h gone (Some k) (number, is, e) =
+      let apart : same_key k key ≡ false = other_keys k key (λ same. let no : None ≡ Some e.item = sym gone ∙ ap b.item (sym same) ∙ e.is in cc) in
+      (apart, held-evicts b' h class (Some k) (number, is, e))
 
   evicts_spare : (b b' : Links) (result : Option (List ℕ)) → Evicts b b' class result → b'.storage.spare ≡ b.storage.spare
   evicts_spare b b' None e = ap (λ (s : Storage). s.spare) e.1.storage
@@ -216,14 +226,21 @@ module _ (n : ℕ) (key : List ℕ) (class : ℕ) (lt : class < class_count) (by
           stored = subst (λ (s : Stock). Same (arrived key bytes class s) (stock_of l')) (below ∙ sym (room_evict class (stock_of b) used empty)) came;
           victim = key-evicts e.below h class evicted e.evicts ∙ sym (ap (λ t. cond {A = Option (List ℕ)} t (victim_of ((stock_of b).lists class)) None) (full_is class (stock_of b) used empty));
           one = λ _. e.some;
+          other = evicts_other b e.below h gone evicted e.evicts;
         }
+
+-- what is held of another key was held before
+held_before : (s : Stock) (key : List ℕ) (class : ℕ) (evicted : Option (List ℕ)) → IfSome evicted (λ victim. (same_key victim key ≡ false) × IsHeldIn (dropped key s) victim class)
+    → IfSome evicted (λ victim. (same_key victim key ≡ false) × IsHeldIn s victim class)
+held_before s key class None h = tt
+held_before s key class (Some victim) (apart, h) = (apart, record { bytes = h.bytes; held = sym (ap (λ b. cond {A = Option (List ℕ)} b None (s.held victim)) apart) ∙ h.held; fits = h.fits })
 
 -- the whole
 pub stores-all : (s t new : Stock) (key bytes : List ℕ) (class : ℕ) (evicted : Option (List ℕ)) → IsClassOf (length bytes) class → Same (dropped key s) t → Stores t new key bytes class evicted → IsStored s new key bytes evicted
 stores-all s t new key bytes class evicted fits without stores =
     let below : t ≡ dropped key s = same_stock without in
     let all = subst (λ (u : Stock). Stores u new key bytes class evicted) below stores in
-    record { class = class; fits = fits; stored = all.stored; victim = all.victim; one = all.one }
+    record { class = class; fits = fits; stored = all.stored; victim = all.victim; one = all.one; other = held_before s key class evicted all.other }
 
 -- the links below, once a number was admitted and the key's item taken out
 pub store-below : (base : Links) → IsLinked base → (n : ℕ) (key : List ℕ) (class : ℕ) → base.key n ≡ None → (l l' : Links) → SameLinks (admitted n key class base) l → TakesOut l l' key (l.item key) → OutBelow base l' n key class

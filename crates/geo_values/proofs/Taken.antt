@@ -1,5 +1,5 @@
 -- The links outlast an item that is taken out, and its key is dropped from the stock.
-use Rattle.std.proofs.Common.{◌≡◌, ◌≢◌, ℕ, ◌+◌, ◌-◌, ◌*◌, ◌/◌, ◌<◌, ◌≤◌, inl, inr, Bool, true, false, nat_eq, cond, List, [], length, Option, Some, None, slice_get, slice_set, refl, sym, ap, subst, ◌∙◌, arith}
+use Rattle.std.proofs.Common.{◌≡◌, ◌≢◌, ℕ, ◌+◌, ◌-◌, ◌*◌, ◌/◌, ◌<◌, ◌≤◌, inl, inr, Bool, true, false, not, nat_eq, cond, List, [], length, Option, Some, None, slice_get, slice_set, refl, sym, ap, subst, ◌∙◌, arith}
 use Rattle.std.proofs.lemmas.Bool.{cases_eq}
 use Rattle.std.proofs.lemmas.List.{length-set}
 use Rattle.std.specs.Option.{unwrap_or}
@@ -7,11 +7,11 @@ use Rattle.geo_versions.specs.Keys.{same_key}
 use Rattle.geo_slabs.specs.Chunks.{ClassState}
 use Rattle.geo_slabs.specs.Storage.{Storage, class_count, chunks_a_page, chunks_in, class_in, held_in, with_chunks}
 use Rattle.geo_slabs.proofs.Kept.{free_keeps}
-use Rattle.geo_lru.specs.Rules.{count, left_by}
+use Rattle.geo_lru.specs.Rules.{count}
 use Rattle.geo_lru.specs.Lists.{Lists, places, left}
 use Rattle.geo_lru.proofs.Calls.{places-left}
 use Rattle.geo_lru.proofs.Tallies.{one, none}
-use Rattle.geo_values.specs.Stock.{Same, dropped}
+use Rattle.geo_values.specs.Stock.{Same, dropped, staying}
 use Rattle.geo_values.specs.Links.{Links, IsLinked, bytes_of, key_of, named, held_count, pages_in, stock_of}
 use Rattle.geo_values.specs.Steps.{SameLinks, taken_out}
 use Rattle.geo_values.specs.declared.parts.Item.{Item}
@@ -19,6 +19,7 @@ use Rattle.geo_values.proofs.Names.{named-left}
 use Rattle.geo_values.proofs.Chunks.{cell_of, class_there, set_same, set_other, set_per_page, set_length, held_count-set}
 use Rattle.geo_values.proofs.Counts.{count-left}
 use Rattle.geo_values.proofs.Linked.{same_self, other_keys, other_numbers, same_numbers, left-absent, same_number, once, matches, holds_some}
+use Rattle.geo_values.proofs.Staying.{left-staying}
 
 module _ {l l' : Links} (h : IsLinked l) (key : List ℕ) (item : Item) (is : l.item key ≡ Some item) (out : SameLinks (taken_out key item l) l') where
   abbrev n : ℕ
@@ -154,10 +155,11 @@ module _ {l l' : Links} (h : IsLinked l) (key : List ℕ) (item : Item) (is : l.
       by true t = ap (bytes_of l'.storage) (item_gone q t)
       by false t = ap (bytes_of l'.storage) (item_stays q t) ∙ found t (l.item q) refl
 
-  lists_now : (class : ℕ) → named (key_of l') (l'.lists class) ≡ left_by same_key key (named (key_of l) (l.lists class))
+  lists_now : (class : ℕ) → named (key_of l') (l'.lists class) ≡ staying (λ q. not (same_key q key)) (named (key_of l) (l.lists class))
   lists_now class =
       ap (named (key_of l')) (lists_are class)
       ∙ named-left (key_of l) n key (l.lists class) (matches h key item is class) (key_of l') (λ m ne. ap (λ (o : Option (List ℕ)). unwrap_or o []) (key_stays m ne)) (once h n class)
+      ∙ left-staying (key_of l) n key (l.lists class) (matches h key item is class) (once h n class)
 
   pub stock-out : Same (dropped key (stock_of l)) (stock_of l')
   stock-out = record { held = held_now; lists = lists_now; pages = pages_are; spare = ap (λ (s : Storage). s.spare) out.storage }

@@ -1,6 +1,6 @@
 -- What is held under keys, as a caller sees it, and what each call makes of it. The lists are memcached's (doc/new_lru.txt), here of
 -- keys; pages and chunks are those of its slab classes.
-use Rattle.std.specs.Prelude.{◌≡◌, ℕ, ◌+◌, ◌-◌, ◌*◌, ◌&&◌, Bool, true, cond, nat_eq, nat_lt, List, [], length, filter, Option, Some, None, IsSome}
+use Rattle.std.specs.Prelude.{◌≡◌, ℕ, ◌+◌, ◌-◌, ◌*◌, ◌&&◌, Bool, true, false, not, cond, nat_eq, nat_lt, List, [], length, filter, Option, Some, None, IsSome, IfSome}
 use Rattle.std.specs.Borrow.{Bor}
 use Rattle.std.specs.Fn.{Shared, FnReturns}
 use Rattle.std.specs.Option.{option_map_or, unwrap_or}
@@ -8,7 +8,7 @@ use Rattle.std.specs.Str.{bytes_eq}
 use Rattle.sha2.specs.Sha256.{sha256}
 use Rattle.geo_versions.specs.Keys.{same_key}
 use Rattle.geo_slabs.specs.Storage.{class_count, chunks_a_page, IsClassOf}
-use Rattle.geo_lru.specs.Rules.{ListsOf, entered, touched_by, left_by, victim_of, count, juggled_by}
+use Rattle.geo_lru.specs.Rules.{ListsOf, entered, touched_by, victim_of, count, juggled_by}
 
 pub record Stock : Type 0 where
   -- the bytes that are held of each key
@@ -34,9 +34,13 @@ no_items = record { hot = []; warm = []; cold = [] }
 abbrev pub first_stock : ℕ → Stock
 first_stock pages = record { held = λ _. None; lists = λ _. no_items; pages = λ class. cond (nat_lt class class_count) 1 0; spare = pages - class_count }
 
--- a key is no longer held
+-- of three lists, the keys that stay, in their order
+abbrev pub staying : (List ℕ → Bool) → ListsOf (List ℕ) → ListsOf (List ℕ)
+staying stays l = record { hot = filter (λ e. stays e.0) l.hot; warm = filter (λ e. stays e.0) l.warm; cold = filter (λ e. stays e.0) l.cold }
+
+-- a key is no longer held, and stands in no list
 abbrev pub dropped : List ℕ → Stock → Stock
-dropped key s = record { held = λ q. cond (same_key q key) None (s.held q); lists = λ class. left_by same_key key (s.lists class); pages = s.pages; spare = s.spare }
+dropped key s = record { held = λ q. cond (same_key q key) None (s.held q); lists = λ class. staying (λ q. not (same_key q key)) (s.lists class); pages = s.pages; spare = s.spare }
 
 -- a hit on a key
 abbrev pub hit_at : List ℕ → Stock → Stock
@@ -74,6 +78,12 @@ victim_for class s = cond (is_full s class) (victim_of (s.lists class)) None
 abbrev pub arrived : List ℕ → List ℕ → ℕ → Stock → Stock
 arrived key bytes class s = record { held = λ q. cond (same_key q key) (Some bytes) (s.held q); lists = λ c. cond (nat_eq c class) (entered key (s.lists c)) (s.lists c); pages = s.pages; spare = s.spare }
 
+-- bytes of a class are held of a key
+pub record IsHeldIn (s : Stock) (key : List ℕ) (class : ℕ) : Type 0 where
+  pub bytes : List ℕ
+  pub held : s.held key ≡ Some bytes
+  pub fits : IsClassOf (length bytes) class
+
 -- bytes are stored under a key: its old item is taken out first, then room is made in the class of the bytes
 pub record IsStored (old new : Stock) (key bytes : List ℕ) (evicted : Option (List ℕ)) : Type 0 where
   pub class : ℕ
@@ -82,6 +92,8 @@ pub record IsStored (old new : Stock) (key bytes : List ℕ) (evicted : Option (
   pub victim : evicted ≡ victim_for class (dropped key old)
   -- a class that is full has a victim
   pub one : is_full (dropped key old) class ≡ true → IsSome evicted
+  -- a victim is another key, of which bytes of the class were held
+  pub other : IfSome evicted (λ victim. (same_key victim key ≡ false) × IsHeldIn old victim class)
 
 -- of what is held, the bytes that have this SHA-256
 abbrev pub with_digest : List ℕ → Option (List ℕ) → Option (List ℕ)
@@ -94,10 +106,6 @@ pub record Answers {F : Type 0} (calls : Shared F (Bor (List ℕ) × (Bor (List 
   pub digest_at : Bor (List ℕ)
   pub shows : (key_at.now ≡ key) × (digest_at.now ≡ sha256 bytes)
   pub says : FnReturns calls test (key_at, (digest_at, (length bytes, tt))) answer
-
--- of three lists, the keys that stay, in their order
-abbrev pub staying : (List ℕ → Bool) → ListsOf (List ℕ) → ListsOf (List ℕ)
-staying stays l = record { hot = filter (λ e. stays e.0) l.hot; warm = filter (λ e. stays e.0) l.warm; cold = filter (λ e. stays e.0) l.cold }
 
 -- the keys that stay are held, and no other
 abbrev pub kept_where : (List ℕ → Bool) → Stock → Stock

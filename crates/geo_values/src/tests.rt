@@ -202,6 +202,66 @@ fn a_full_class_takes_a_spare_page_and_then_evicts(rt: HostRuntime) -> Result<()
     Ok(())
 }
 
+/// With room for one large value: stores it under `a` twice, then small and large under `b`, and tells which key each large one evicted.
+fn store_over(values: &mut Values, alloc: Global) -> Result<[Option<u8>; 3], Fail> {
+    let first = fill(values, alloc, b"a")?;
+    let again = fill(values, alloc, b"a")?;
+    store(values, alloc, b'b', 9, 1)?;
+    let other = fill(values, alloc, b"b")?;
+    Ok([first, again, other])
+}
+
+#[test]
+fn a_victim_is_another_key(rt: HostRuntime) -> Result<(), Fail> {
+    let mut values = values(&rt, 15)?;
+    let evicted = store_over(&mut values, rt.alloc())?;
+    assert_eq!(rt; evicted, [None, None, Some(b'a')]);
+    assert_eq!(rt; held(&values, rt.alloc(), b'b')?, (1, true));
+    Ok(())
+}
+
+/// Stores three large values, drops one of them twice, and tells what each drop said. Then it hits that key, and juggles.
+fn drop_and_hit(values: &mut Values, alloc: Global) -> Result<[bool; 2], Fail> {
+    fill(values, alloc, b"abc")?;
+    let first = drop_key(values, alloc, b'b')?;
+    let second = drop_key(values, alloc, b'b')?;
+    hit_twice(values, alloc, b'b')?;
+    values.juggle(LARGEST)?;
+    values.juggle(LARGEST)?;
+    Ok([first, second])
+}
+
+#[test]
+fn a_missing_key_is_dropped_and_hit_without_effect(rt: HostRuntime) -> Result<(), Fail> {
+    let mut values = values(&rt, 17)?;
+    let told = drop_and_hit(&mut values, rt.alloc())?;
+    assert_eq!(rt; told, [true, false]);
+    assert_eq!(rt; values.len(), 2);
+    assert_eq!(rt;
+        evict_four(&mut values),
+        [Some(b'a'), Some(b'c'), None, None]
+    );
+    Ok(())
+}
+
+/// Stores so many bytes under `k`, and tells how many are got.
+fn length_got(values: &mut Values, alloc: Global, many: usize) -> Result<Option<usize>, Fail>
+    requires { many ≤ 1048576 }
+{
+    let blob = blob(alloc, 7, many)?;
+    let key = key(alloc, b'k')?;
+    values.store(alloc, &key, &blob)?;
+    Ok(values.get(&key, &blob.digest()).map(|bytes| bytes.len()))
+}
+
+#[test]
+fn a_whole_page_is_got(rt: HostRuntime) -> Result<(), Fail> {
+    let mut values = values(&rt, 15)?;
+    let length = length_got(&mut values, rt.alloc(), 1_048_576)?;
+    assert_eq!(rt; length, Some(1_048_576));
+    Ok(())
+}
+
 /// Juggles an empty class, and twice the one with three items of which the first was hit.
 fn juggle_thrice(values: &mut Values, alloc: Global) -> Result<[bool; 3], Fail> {
     let empty = values.juggle(LARGEST)?;

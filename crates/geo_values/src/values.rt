@@ -1,5 +1,5 @@
 //! Values under keys.
-ghost use Rattle.std.specs.Prelude.{◌≡◌, ◌+◌, ◌<◌, ◌≤◌, ℕ, cond, List, Option, Some, None, IsSome, is_some, IfOk, OnOk, OnErr, length, replicate, option_copied};
+ghost use Rattle.std.specs.Prelude.{◌≡◌, ◌+◌, ◌<◌, ◌≤◌, ℕ, cond, List, Option, Some, None, IsSome, is_some, IfSome, IfOk, OnOk, OnErr, length, replicate, option_copied};
 ghost use Rattle.geo_values.specs.Stock.{no_items};
 ghost use Rattle.geo_slabs.specs.Storage.{class_count};
 
@@ -50,7 +50,8 @@ impl Values {
     ghost use Rattle.std.specs.Option.{unwrap_or};
     ghost use Rattle.geo_versions.specs.Keys.{same_key};
     ghost use Rattle.geo_lru.specs.Rules.{victim_of, juggled_by};
-    ghost use Rattle.geo_values.specs.Stock.{Same, IsStored, IsRetained, Answers, dropped, hit_at, evicted_from, juggled_in, with_digest};
+    ghost use Rattle.geo_slabs.specs.Chunks.{page_bytes};
+    ghost use Rattle.geo_values.specs.Stock.{Same, IsHeldIn, IsStored, IsRetained, Answers, dropped, hit_at, evicted_from, juggled_in, with_digest};
     ghost use Rattle.geo_values.specs.Held.{stock_in, keys_in, count_in, OpenDoes};
 
     /// Values with so many pages, of a mebibyte each. Each class has one at first, the others are spare. TooFewPages below 15,
@@ -87,9 +88,10 @@ impl Values {
         self.parts.items.contains_key(key)
     }
 
-    /// A key's bytes, where they have this SHA-256. Nothing is hashed.
+    /// A key's bytes, at most a mebibyte, where they have this SHA-256. Nothing is hashed.
     pub fn get(&self, key: &Key, digest: &Digest) -> Option<&[u8]>
-        ensures { option_copied result ≡ with_digest digest.now ((stock_in self.now).held key.now) }
+        ensures got { option_copied result ≡ with_digest digest.now ((stock_in self.now).held key.now) }
+        ensures fits { IfSome result (λ bytes. length bytes.now ≤ page_bytes) }
     {
         let item = self.parts.items.get(key)?;
         if item.digest != *digest {
@@ -100,15 +102,17 @@ impl Values {
 
     /// Notes a hit on a key. Where it is not held, nothing changes. It takes no memory.
     pub fn hit(&mut self, key: &Key)
-        ensures { Same (hit_at key.now (stock_in self.old)) (stock_in self.new) }
+        ensures hit { Same (hit_at key.now (stock_in self.old)) (stock_in self.new) }
+        ensures absent { (stock_in self.old).held key.now ≡ None → Same (stock_in self.old) (stock_in self.new) }
     {
         self.parts.hit(key)
     }
 
-    /// Drops a key, and tells whether it was held. It takes no memory.
+    /// Drops a key, and tells whether it was held. Where it is not, nothing changes. It takes no memory.
     pub fn drop_key(&mut self, key: &Key) -> bool
         ensures was { result ≡ is_some ((stock_in self.old).held key.now) }
         ensures dropped { Same (dropped key.now (stock_in self.old)) (stock_in self.new) }
+        ensures absent { (stock_in self.old).held key.now ≡ None → Same (stock_in self.old) (stock_in self.new) }
         ensures counts { count_in self.new + cond result 1 0 ≡ count_in self.old }
     {
         self.parts.take_out(key)
@@ -128,6 +132,7 @@ impl Values {
     pub fn evict_tail(&mut self, class: usize) -> Option<Key>
         requires { class < class_count }
         ensures key { result ≡ victim_of ((stock_in self.old).lists class) }
+        ensures held { IfSome result (λ key. IsHeldIn (stock_in self.old) key class) }
         ensures evicted { Same (evicted_from class (stock_in self.old)) (stock_in self.new) }
     {
         self.parts.evict(class)

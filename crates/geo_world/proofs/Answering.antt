@@ -1,26 +1,29 @@
--- What a site does at a command, a tick and a reap: first a flush that is due, and then the rest.
-use Rattle.std.proofs.Common.{◌≡◌, ℕ, zero, suc, ◌+◌, ◌≤◌, Bool, true, false, cond, nat_le, List, [], ◌∷◌, length, Some, Ok, Err, refl, sym, ap, ◌∙◌, subst, slice_get, slice_set}
+-- What a site does at a command, a tick and a reap: first a flush that is due, and then the rest; and at an eviction.
+use Rattle.std.proofs.Common.{◌≡◌, ◌≢◌, ◌⊎◌, ℕ, zero, suc, ◌+◌, ◌≤◌, Bool, true, false, cond, nat_le, List, [], ◌∷◌, length, Option, None, Some, Ok, Err, refl, sym, ap, ◌∙◌, subst, slice_get, slice_set, inl, inr, true≢false}
 use Rattle.std.proofs.lemmas.List.{length-set}
 use Rattle.std.specs.Prelude.{is_some}
 use Rattle.geo_versions.specs.Maps.{has_register}
 use Rattle.geo_versions.specs.Operations.{Act, latest, record_of, version_in, version_of}
+use Rattle.geo_versions.specs.Operations.Act.{Delete}
 use Rattle.geo_delta.specs.declared.parcel.Parcel.{Parcel}
 use Rattle.geo_grammar.specs.declared.request.Request.{Request}
 use Rattle.geo_grammar.specs.declared.reply.Reply.{Reply}
+use Rattle.geo_grammar.specs.declared.reply.Reply.TheVariants.{OutOfMemory}
 use Rattle.geo_site.specs.declared.site.Site.{Site}
-use Rattle.geo_site.specs.declared.event.Event.TheVariants.{Command, Tick, Reap}
-use Rattle.geo_site.specs.declared.event.Trace.TheVariants.{Replied, Ticked, Reaped, ReapRefused}
+use Rattle.geo_site.specs.declared.event.Event.TheVariants.{Command, Evict, Tick, Reap}
+use Rattle.geo_site.specs.declared.event.Trace.TheVariants.{Replied, Evicted, Ticked, Reaped, ReapRefused}
 use Rattle.geo_site.specs.declared.refusal.ReapError.{ReapError}
 use Rattle.geo_site.specs.declared.refusal.ReapError.TheVariants.{ClockEnded, Memory}
-use Rattle.geo_site.specs.Entries.{Basis, Visible, entry_in, issued, counted, waits_after, flushes_due, is_stuck, is_reapable, reap_acts, lacks, Answers, is_done}
-use Rattle.geo_site.specs.Machine.{visible_in, IsRecordCount, IsHeldCount}
-use Rattle.geo_site.specs.Sites.{state_in, basis_in, counts_in, waiting_in, clock_in, record_count, held_count, to_reap, reaped_in, HasIssued, FlushDoes, RequestDoes, RequestDoesBy, ActDoes, TickDoes, ReapDoes, ReapResult}
-use Rattle.geo_site.specs.Schedule.{Known, issues_on, carries_out, visible, basis, flushed, reaps_on, happens, RepliesTo, RepliesBy, ReapRefusedFor, Lawful}
+use Rattle.geo_site.specs.Entries.{Basis, Counts, Visible, entry_in, issued, accesses, counted, evicted_on, waits_after, flushes_due, is_stuck, is_reapable, reap_acts, lacks, Answers, is_done}
+use Rattle.geo_site.specs.Machine.{Same, visible_in, IsRecordCount, IsHeldCount}
+use Rattle.geo_site.specs.Sites.{state_in, basis_in, counts_in, waiting_in, clock_in, record_count, held_count, issued_in, victim_in, to_reap, reaped_in, Rests, Stays, HasIssued, HasIssuedAfter, FirstVictimFits, FlushDoes, RequestDoes, RequestDoesBy, ActDoes, TickDoes, ReapDoes, ReapResult, EvictDoes}
+use Rattle.geo_site.specs.Schedule.{Known, issues_on, issues_by, carries_out, evicts, visible, basis, flushed, reaps_on, happens, RepliesTo, RepliesBy, VictimOf, ReapRefusedFor, Lawful}
 use Rattle.geo_site.specs.Agreement.{NoTime}
 use Rattle.geo_site.proofs.Steps.{state_version}
 use Rattle.geo_world.specs.Agreement.{about, Stands, Agrees}
 use Rattle.geo_world.proofs.Worlds.{some_none}
-use Rattle.geo_world.proofs.Changing.{exact, count_same, agrees_still, agrees_acts, agrees_carried, agrees_flushed}
+use Rattle.geo_world.proofs.Victims.{AreQuiet, one_quiet, request_goes, victim_fits}
+use Rattle.geo_world.proofs.Changing.{exact, count_same, agrees_still, agrees_acts, agrees_carried, agrees_flushed, agrees_evicted, agrees_missing}
 
 -- an element that is written twice
 set_twice : {A : Type 0} (xs : List A) (k : ℕ) (x y : A) → slice_set (slice_set xs k x) k y ≡ slice_set xs k y
@@ -32,6 +35,10 @@ get_set : {A : Type 0} (xs : List A) (k : ℕ) (x y : A) → slice_get xs k ≡ 
 get_set [] k x y h = absurd (some_none (sym h))
 get_set (a ∷ xs) zero x y h = refl
 get_set (a ∷ xs) (suc k) x y h = get_set xs k x y h
+
+-- the victim that a site tells of: none but where the request was done
+abbrev pub TellsVictim : Site → ℕ → Request → Reply → Option (List ℕ) → Type 0
+TellsVictim site now request reply victim = victim ≡ cond {A = Option (List ℕ)} (is_done reply) (victim_in site (issued_in site now request)) None
 
 -- ---- a request where no flush is due
 module _ (sites : List Site) (parcels : List Parcel) (w : Known) (agrees : Agrees sites parcels w) (k s now : ℕ) (request : Request) (reply : Reply) (at_number : s ≡ k + 1) (hi : s ≤ length sites) (old new : Site) (got : slice_get sites k ≡ Some old) where
@@ -50,31 +57,45 @@ module _ (sites : List Site) (parcels : List Parcel) (w : Known) (agrees : Agree
         clock = clock i;
         recorded = λ key. has_register (kept key i);
         full = nat_le (known.limits i).max_records (record_count old);
-        stats = record { curr_items = held_count old; get_hits = (known.counts i).hits; get_misses = (known.counts i).misses; evictions = 0; site = known.own i; clock = clock i; records = record_count old };
+        stats = record { curr_items = held_count old; get_hits = (known.counts i).hits; get_misses = (known.counts i).misses; evictions = (known.counts i).evictions; site = known.own i; clock = clock i; records = record_count old };
       }
 
-  pub request_lawful : IsRecordCount (state_in old).map (record_count old) → IsHeldCount (state_in old).held (held_count old) → RequestDoes old new now request reply → RepliesTo w s now request reply
+  pub request_lawful : IsRecordCount (state_in old).map (record_count old) → IsHeldCount (state_in old).stock.held (held_count old) → RequestDoes old new now request reply → RepliesTo w s now request reply
   request_lawful recorded held does = record {
     records = record_count old;
     items = held_count old;
     recorded = count_same (λ key. has_register ((state_in old).map key)) (λ key. has_register (record_of (w.at s) key)) (record_count old) (λ key. ap has_register (kept key)) recorded;
-    held = count_same (λ key. is_some ((state_in old).held key)) (λ key. is_some (w.held s key)) (held_count old) (λ key. ap is_some ((agrees.each k s old at_number got).state.same_held key)) held;
+    held = count_same (λ key. is_some ((state_in old).stock.held key)) (λ key. is_some (w.held s key)) (held_count old) (λ key. ap is_some ((agrees.each k s old at_number got).state.same_held key)) held;
     answers = subst (λ (b : Basis). Answers now b request reply) basis_same does.answer;
   }
 
-  pub request_agrees : RequestDoes old new now request reply → Agrees (slice_set sites k new) parcels (cond (is_done reply) (carries_out w s now request) w)
-  request_agrees does = by (is_done reply) refl
-    where
-      by : (t : Bool) → is_done reply ≡ t → Agrees (slice_set sites k new) parcels (cond t (carries_out w s now request) w)
-      by true e =
-          let st = agrees.each k s old at_number got in
-          agrees_carried sites parcels w agrees k s at_number hi old new got does.stays (issues_on w s now request) (counted (visible w s now) request (w.counts s)) (waits_after now request (w.waiting s))
-          (subst (λ (v : Visible). HasIssued old new (issued now v request)) seen (does.done e))
-          (does.counts ∙ ap (λ t. cond t (counted (visible_in (state_in old) now) request (counts_in old)) (counts_in old)) e ∙ (λ i. counted (seen i) request (st.counts i)))
-          (does.waiting ∙ ap (λ t. cond t (waits_after now request (waiting_in old)) (waiting_in old)) e ∙ ap (waits_after now request) st.waiting)
-      by false e =
-          agrees_still sites parcels w agrees k s at_number hi old new got does.stays (does.refused e)
-          (does.counts ∙ ap (λ t. cond t (counted (visible_in (state_in old) now) request (counts_in old)) (counts_in old)) e, does.waiting ∙ ap (λ t. cond t (waits_after now request (waiting_in old)) (waiting_in old)) e)
+  -- the victim of a request that was done; no other has one
+  module _ (victim : Option (List ℕ)) (told : TellsVictim old now request reply victim) where
+    pub request_victim : RequestDoes old new now request reply → VictimOf (w.held s) (issues_by w s now request reply) victim
+    request_victim does = by (is_done reply) told does.victim
+      where
+        by : (t : Bool) → victim ≡ cond {A = Option (List ℕ)} t (victim_in old (issued_in old now request)) None → (t ≡ true → FirstVictimFits old (issued_in old now request)) → VictimOf (w.held s) (cond {A = List Act} t (issues_on w s now request) []) victim
+        by true is fits = subst (λ (v : Visible). VictimOf (w.held s) (issued now v request) victim) seen (victim_fits old (w.held s) (agrees.each k s old at_number got).state.same_held (issued_in old now request) victim is (fits refl))
+        by false is fits = subst (λ o. VictimOf (w.held s) [] o) (sym is) tt
+
+    pub request_agrees : RequestDoes old new now request reply → Agrees (slice_set sites k new) parcels (cond (is_done reply) (carries_out w s now request victim) w)
+    request_agrees does = by (is_done reply) refl
+      where
+        Counted : Bool → Counts
+        Counted t = cond t (evicted_on (victim_in old (issued_in old now request)) (counted (visible_in (state_in old) now) request (counts_in old))) (counts_in old)
+
+        by : (t : Bool) → is_done reply ≡ t → Agrees (slice_set sites k new) parcels (cond t (carries_out w s now request victim) w)
+        by true e =
+            let st = agrees.each k s old at_number got in
+            let is : victim ≡ victim_in old (issued_in old now request) = told ∙ ap (λ t. cond {A = Option (List ℕ)} t (victim_in old (issued_in old now request)) None) e in
+            agrees_carried sites parcels w agrees k s at_number hi old new got does.stays (accesses now (visible w s now) request) (issues_on w s now request) victim (evicted_on victim (counted (visible w s now) request (w.counts s))) (waits_after now request (w.waiting s))
+            (request_goes old now (visible w s now) request victim (is ∙ ap (λ (v : Visible). victim_in old (issued now v request)) seen))
+            (subst (λ (v : Visible). HasIssuedAfter (accesses now v request) old new (issued now v request)) seen (does.done e))
+            (does.counts ∙ ap Counted e ∙ (λ i. evicted_on (sym is i) (counted (seen i) request (st.counts i))))
+            (does.waiting ∙ ap (λ t. cond t (waits_after now request (waiting_in old)) (waiting_in old)) e ∙ ap (waits_after now request) st.waiting)
+        by false e =
+            agrees_still sites parcels w agrees k s at_number hi old new got does.stays (does.refused e)
+            (does.counts ∙ ap Counted e, does.waiting ∙ ap (λ t. cond t (waits_after now request (waiting_in old)) (waiting_in old)) e)
 
 -- ---- after a due flush
 module _ (sites : List Site) (parcels : List Parcel) (w : Known) (agrees : Agrees sites parcels w) (k s now : ℕ) (at_number : s ≡ k + 1) (hi : s ≤ length sites) (old new : Site) (got : slice_get sites k ≡ Some old) where
@@ -98,21 +119,30 @@ module _ (sites : List Site) (parcels : List Parcel) (w : Known) (agrees : Agree
     after v h = subst (λ (all : List Site). Agrees all parcels v) (set_twice sites k mid new) h
 
   -- ---- a command
-  pub command_lawful : (request : Request) (reply : Reply) → ActDoes old new now request reply → Lawful w (Command s now request) (Replied reply)
-  command_lawful request reply does = subst (λ b. RepliesBy b (flushed w s now) s now request reply) stuck_is (by (is_stuck (waiting_in old) (clock_in old) now) does.does)
-    where
-      by : (b : Bool) → RequestDoesBy b does.mid new now request reply → RepliesBy b (flushed w s now) s now request reply
-      by true d = d.0
-      by false d = request_lawful (slice_set sites k does.mid) parcels (flushed w s now) (between does.mid does.flush) k s now request reply at_number (there_still does.mid does.flush) does.mid new (found_still does.mid does.flush) does.recorded does.held d
+  module _ (request : Request) (reply : Reply) (victim : Option (List ℕ)) (does : ActDoes old new now request reply) (told : TellsVictim does.mid now request reply victim) where
+    pub command_lawful : Lawful w (Command s now request) (Replied reply victim)
+    command_lawful = (subst (λ b. RepliesBy b (flushed w s now) s now request reply) stuck_is (by (is_stuck (waiting_in old) (clock_in old) now) does.does), fits (is_stuck (waiting_in old) (clock_in old) now) does.does)
+      where
+        by : (b : Bool) → RequestDoesBy b does.mid new now request reply → RepliesBy b (flushed w s now) s now request reply
+        by true d = d.0
+        by false d = request_lawful (slice_set sites k does.mid) parcels (flushed w s now) (between does.mid does.flush) k s now request reply at_number (there_still does.mid does.flush) does.mid new (found_still does.mid does.flush) does.recorded does.held d
 
-  pub command_agrees : (request : Request) (reply : Reply) → ActDoes old new now request reply → Agrees (slice_set sites k new) parcels (happens w (Command s now request) (Replied reply))
-  command_agrees request reply does = by (is_stuck (waiting_in old) (clock_in old) now) does.does
-    where
-      by : (b : Bool) → RequestDoesBy b does.mid new now request reply → Agrees (slice_set sites k new) parcels (happens w (Command s now request) (Replied reply))
-      by true d = subst (λ t. Agrees (slice_set sites k new) parcels (cond t (carries_out (flushed w s now) s now request) (flushed w s now))) (sym (ap is_done d.0))
-          (after does.mid does.flush (flushed w s now) (agrees_still (slice_set sites k does.mid) parcels (flushed w s now) (between does.mid does.flush) k s at_number (there_still does.mid does.flush) does.mid new (found_still does.mid does.flush) d.3 d.1 d.2))
-      by false d = after does.mid does.flush (cond (is_done reply) (carries_out (flushed w s now) s now request) (flushed w s now))
-          (request_agrees (slice_set sites k does.mid) parcels (flushed w s now) (between does.mid does.flush) k s now request reply at_number (there_still does.mid does.flush) does.mid new (found_still does.mid does.flush) d)
+        undone : (t : Bool) → t ≡ false → victim ≡ cond {A = Option (List ℕ)} t (victim_in does.mid (issued_in does.mid now request)) None → VictimOf ((flushed w s now).held s) (cond {A = List Act} t (issues_on (flushed w s now) s now request) []) victim
+        undone true e is = absurd (true≢false e)
+        undone false e is = subst (λ o. VictimOf ((flushed w s now).held s) [] o) (sym is) tt
+
+        fits : (b : Bool) → RequestDoesBy b does.mid new now request reply → VictimOf ((flushed w s now).held s) (issues_by (flushed w s now) s now request reply) victim
+        fits true d = undone (is_done reply) (ap is_done d.0) told
+        fits false d = request_victim (slice_set sites k does.mid) parcels (flushed w s now) (between does.mid does.flush) k s now request reply at_number (there_still does.mid does.flush) does.mid new (found_still does.mid does.flush) victim told d
+
+    pub command_agrees : Agrees (slice_set sites k new) parcels (happens w (Command s now request) (Replied reply victim))
+    command_agrees = by (is_stuck (waiting_in old) (clock_in old) now) does.does
+      where
+        by : (b : Bool) → RequestDoesBy b does.mid new now request reply → Agrees (slice_set sites k new) parcels (happens w (Command s now request) (Replied reply victim))
+        by true d = subst (λ t. Agrees (slice_set sites k new) parcels (cond t (carries_out (flushed w s now) s now request victim) (flushed w s now))) (sym (ap is_done d.0))
+            (after does.mid does.flush (flushed w s now) (agrees_still (slice_set sites k does.mid) parcels (flushed w s now) (between does.mid does.flush) k s at_number (there_still does.mid does.flush) does.mid new (found_still does.mid does.flush) d.3 d.1 d.2))
+        by false d = after does.mid does.flush (cond (is_done reply) (carries_out (flushed w s now) s now request victim) (flushed w s now))
+            (request_agrees (slice_set sites k does.mid) parcels (flushed w s now) (between does.mid does.flush) k s now request reply at_number (there_still does.mid does.flush) does.mid new (found_still does.mid does.flush) victim told d)
 
   -- ---- a tick
   pub tick_lawful : (done : Bool) → TickDoes old new now done → Lawful w (Tick s now) (Ticked done)
@@ -136,6 +166,9 @@ module _ (sites : List Site) (parcels : List Parcel) (w : Known) (agrees : Agree
       lacks_is : lacks (clock_in mid) (reaped_in mid now key) ≡ lacks (latest ((flushed w s now).at s)) (reaps_on (flushed w s now) s now key)
       lacks_is = let clock = (stands mid flush).state.tells.clock in λ i. lacks (clock i) (acts_are i)
 
+    reaps_quiet : (v : Known) → AreQuiet (reaps_on v s now key)
+    reaps_quiet v = one_quiet (is_reapable s (v.limits s).reap_after now (version_of (v.at s) key)) (Delete key) (λ st. refl)
+
     pub reap_lawful : (done : Bool) → ReapDoes old new now key (Ok done) → Lawful w (Reap s now key) (Reaped done)
     reap_lawful done does = (does.does.0 ∙ reapable does.mid does.flush, sym (lacks_is does.mid does.flush) ∙ does.does.1)
 
@@ -143,7 +176,7 @@ module _ (sites : List Site) (parcels : List Parcel) (w : Known) (agrees : Agree
     reap_agrees done does =
         after does.mid does.flush (happens w (Reap s now key) (Reaped done))
         (agrees_acts (slice_set sites k does.mid) parcels (flushed w s now) (between does.mid does.flush) k s at_number (there_still does.mid does.flush) does.mid new (found_still does.mid does.flush) does.stays (reaps_on (flushed w s now) s now key)
-        (subst (λ (acts : List Act). HasIssued does.mid new acts) (acts_are does.mid does.flush) does.does.2) does.rests)
+        (reaps_quiet (flushed w s now)) (subst (λ (acts : List Act). HasIssued does.mid new acts) (acts_are does.mid does.flush) does.does.2) does.rests)
 
     pub reap_refused_lawful : (why : ReapError) → ReapDoes old new now key (Err why) → Lawful w (Reap s now key) (ReapRefused why)
     reap_refused_lawful why does = by why does.does
@@ -158,3 +191,30 @@ module _ (sites : List Site) (parcels : List Parcel) (w : Known) (agrees : Agree
         by : (why : ReapError) → ReapResult does.mid new now key (Err why) → Agrees (slice_set sites k new) parcels (flushed w s now)
         by ClockEnded d = after does.mid does.flush (flushed w s now) (agrees_still (slice_set sites k does.mid) parcels (flushed w s now) (between does.mid does.flush) k s at_number (there_still does.mid does.flush) does.mid new (found_still does.mid does.flush) does.stays d.1 does.rests)
         by Memory d = absurd d
+
+-- where no copies are wanted, memory was wanted for the command itself
+pub for_itself : (old new : Site) (now : ℕ) (request : Request) → ActDoes old new now request OutOfMemory ⊎ ((◌≢◌ {A = ℕ} 0 0) × Same (state_in old) (state_in new) × Rests old new × Stays old new) → ActDoes old new now request OutOfMemory
+for_itself old new now request (inl does) = does
+for_itself old new now request (inr copies) = absurd (copies.0 refl)
+
+-- ---- an eviction
+none_held : (o : Option (List ℕ)) → is_some o ≡ false → o ≡ None
+none_held None h = refl
+none_held (Some bytes) h = absurd (true≢false h)
+
+module _ (sites : List Site) (parcels : List Parcel) (w : Known) (agrees : Agrees sites parcels w) (k s : ℕ) (at_number : s ≡ k + 1) (hi : s ≤ length sites) (old new : Site) (got : slice_get sites k ≡ Some old)
+    (key : List ℕ) (done : Bool) (does : EvictDoes old new key done) where
+  pub evict_lawful : Lawful w (Evict s key) (Evicted done)
+  evict_lawful = does.told ∙ ap is_some ((agrees.each k s old at_number got).state.same_held key)
+
+  pub evict_agrees : Agrees (slice_set sites k new) parcels (happens w (Evict s key) (Evicted done))
+  evict_agrees = by done refl
+    where
+      Counted : Bool → Counts
+      Counted t = cond t (evicted_on (Some key) (counts_in old)) (counts_in old)
+
+      by : (t : Bool) → done ≡ t → Agrees (slice_set sites k new) parcels (cond t (evicts w s key) w)
+      by true e =
+          let st = agrees.each k s old at_number got in
+          agrees_evicted sites parcels w agrees k s at_number hi old new got does.stays key done does (evicted_on (Some key) (w.counts s)) (does.counts ∙ ap Counted e ∙ ap (evicted_on (Some key)) st.counts)
+      by false e = agrees_missing sites parcels w agrees k s at_number hi old new got does.stays key done does (none_held (w.held s key) (sym (does.told ∙ ap is_some ((agrees.each k s old at_number got).state.same_held key)) ∙ e)) (does.counts ∙ ap Counted e)

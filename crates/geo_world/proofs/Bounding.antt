@@ -13,11 +13,12 @@ use Rattle.geo_versions.specs.Operations.{Operation, Act, Among, latest}
 use Rattle.geo_versions.proofs.Meaning.{latest_append}
 use Rattle.geo_delta.specs.declared.parcel.Parcel.{Parcel}
 use Rattle.geo_site.specs.declared.site.Site.{Site}
-use Rattle.geo_site.specs.Machine.{SiteState, clock_of, issue, issue_all, act_held}
-use Rattle.geo_site.specs.Schedule.{Known, settles, new_operation, issues}
+use Rattle.geo_site.specs.Entries.{Held}
+use Rattle.geo_site.specs.Machine.{SiteState, clock_of, issue, issue_all, act_held, without, victim_by}
+use Rattle.geo_site.specs.Schedule.{Known, still_held, settles, new_operation, issues}
 use Rattle.geo_site.specs.Agreement.{StateOf}
 use Rattle.geo_site.proofs.Entries.{Within, entry_joined, entry_raised, entry_stays}
-use Rattle.geo_site.proofs.Sound.{here, there, held_here, among_left, among_right}
+use Rattle.geo_site.proofs.Sound.{here, there, among_left, among_right}
 use Rattle.geo_site.proofs.Steps.{among_append, state_issues}
 use Rattle.geo_site.specs.Sites.{heard_in}
 use Rattle.geo_world.specs.Bounds.{at_number, vectors, rows, IsAbove, told_in, Bounded}
@@ -145,7 +146,7 @@ the_one op o (inl e) = e
 the_one op o (inr h) = absurd h
 
 module _ (n s : ℕ) (H : ℕ → ℕ → List ℕ) (parcels : List Parcel) (lo : 1 ≤ s) (hi : s ≤ n) where
-  module _ (w : Known) (st : SiteState) (act : Act) (V V' : ℕ → List ℕ) (b : Bounded n V H parcels w.at w.sent) (ok : StateOf n s st (w.at s) (w.held s)) (mine : V s ≡ st.vector) where
+  module _ (w : Known) (st : SiteState) (act : Act) (held : Held) (V V' : ℕ → List ℕ) (b : Bounded n V H parcels w.at w.sent) (ok : StateOf n s st (w.at s) held) (mine : V s ≡ st.vector) where
     abbrev ops : List Operation
     ops = w.at s ++ new_operation w s act ∷ []
 
@@ -157,7 +158,7 @@ module _ (n s : ℕ) (H : ℕ → ℕ → List ℕ) (parcels : List Parcel) (lo 
         let clock = ok.tells.clock in
         let many = ok.many in
         let inside : Within st.vector s = record { above = lo; below = omega (arith, many, hi) } in
-        let next = state_issues n s st (w.at s) (w.held s) act ok inside in
+        let next = state_issues n s st (w.at s) held act ok inside in
         let gains = here w s ops (act_held act (w.held s)) in
         let rises : IsAbove (V' s) (V s) = ap (λ v. vector_joined v (V s)) is ∙ ap (vector_joined (issue s act st).vector) mine ∙ above_raised st.vector s (clock_of st + 1) ∙ sym is in
         record {
@@ -196,14 +197,15 @@ module _ (n s : ℕ) (H : ℕ → ℕ → List ℕ) (parcels : List Parcel) (lo 
           ];
         }
 
-  pub bounded_issues : (acts : List Act) (w : Known) (st : SiteState) (V V' : ℕ → List ℕ) → Bounded n V H parcels w.at w.sent → StateOf n s st (w.at s) (w.held s) → V s ≡ st.vector
+  -- whatever is held
+  pub bounded_issues : (acts : List Act) (w : Known) (st : SiteState) (held : Held) (V V' : ℕ → List ℕ) → Bounded n V H parcels w.at w.sent → StateOf n s st (w.at s) held → V s ≡ st.vector
       → V' s ≡ (issue_all s acts st).vector → ((t : ℕ) → t ≢ s → V' t ≡ V t) → Bounded n V' H parcels (issues w s acts).at (issues w s acts).sent
-  bounded_issues [] w st V V' b ok mine is others =
+  bounded_issues [] w st held V V' b ok mine is others =
       bounded_same n V V' H H parcels w.at w.at w.sent w.sent (λ t. elim (cases_eq t s) [
         | inl e ↦ subst (λ t. V' t ≡ V t) (sym e) (is ∙ sym mine)
         | inr ne ↦ others t ne
       ]) (λ r q. refl) (λ t. refl) refl b
-  bounded_issues (act ∷ acts) w st V V' b ok mine is others =
+  bounded_issues (act ∷ acts) w st held V V' b ok mine is others =
       let more = w.at s ++ new_operation w s act ∷ [] in
       let h = act_held act (w.held s) in
       let v = settles w s more h in
@@ -212,9 +214,10 @@ module _ (n s : ℕ) (H : ℕ → ℕ → List ℕ) (parcels : List Parcel) (lo 
       let at_s : U s ≡ next = put_here V s next in
       let elsewhere : (t : ℕ) → t ≢ s → U t ≡ V t = λ t ne. put_there V s next t ne in
       let many = ok.many in
-      let g = grows_issue w st act V U b ok mine at_s elsewhere in
-      let stands = subst (λ (o : List Operation). StateOf n s (issue s act st) o (v.held s)) (sym (here w s more h)) (subst (λ held. StateOf n s (issue s act st) more held) (sym (held_here w s more h)) (state_issues n s st (w.at s) (w.held s) act ok (record { above = lo; below = omega (arith, many, hi) }))) in
-      bounded_issues acts v (issue s act st) U V' (bounded_grows n s V U H H parcels w.at v.at (new_operation w s act ∷ []) w.sent b g) stands at_s is (λ t ne. others t ne ∙ sym (elsewhere t ne))
+      let g = grows_issue w st act held V U b ok mine at_s elsewhere in
+      let left = still_held more (act_held act (without (victim_by act st.stock) held)) in
+      let stands = subst (λ (o : List Operation). StateOf n s (issue s act st) o left) (sym (here w s more h)) (state_issues n s st (w.at s) held act ok (record { above = lo; below = omega (arith, many, hi) })) in
+      bounded_issues acts v (issue s act st) left U V' (bounded_grows n s V U H H parcels w.at v.at (new_operation w s act ∷ []) w.sent b g) stands at_s is (λ t ne. others t ne ∙ sym (elsewhere t ne))
 
 -- ---- a site takes a parcel
 module _ (n s p : ℕ) (V V' : ℕ → List ℕ) (H H' : ℕ → ℕ → List ℕ) (parcels : List Parcel) (at at' : ℕ → List Operation) (sent : List (ℕ × List Operation)) (parcel : Parcel)

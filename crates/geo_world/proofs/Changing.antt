@@ -1,16 +1,20 @@
 -- One site changes, and the others stay.
-use Rattle.std.proofs.Common.{◌≡◌, ◌≢◌, ℕ, zero, suc, ◌+◌, ◌≤◌, ◌==◌, Bool, cond, Option, None, List, [], ◌∷◌, ◌++◌, length, Some, refl, sym, ap, ◌∙◌, subst, subst₂, ◌⊎◌, inl, inr, arith, slice_get, slice_set, slice_index_or}
+use Rattle.std.proofs.Common.{◌≡◌, ◌≢◌, ℕ, zero, suc, ◌+◌, ◌≤◌, ◌==◌, Bool, true, false, cond, Option, None, List, [], ◌∷◌, ◌++◌, length, Some, refl, sym, ap, ◌∙◌, subst, subst₂, ◌⊎◌, inl, inr, arith, slice_get, slice_set, slice_index_or}
 use Rattle.std.proofs.lemmas.List.{length-set}
 use Rattle.std.proofs.lemmas.Bool.Decides.{eqb_tells}
+use Rattle.std.specs.Cmp.Lexicographic.{same_text}
+use Rattle.geo_versions.specs.Keys.{same_key}
 use Rattle.geo_versions.specs.Operations.{Operation, Act, Register, Record, winner, latest_expiry, latest, record_of}
+use Rattle.geo_versions.specs.Operations.Act.{Flush}
 use Rattle.geo_delta.specs.declared.parcel.Parcel.{Parcel}
 use Rattle.geo_site.specs.declared.site.Site.{Site}
 use Rattle.geo_site.specs.declared.setup.Limits.{Limits}
-use Rattle.geo_site.specs.Entries.{Held, Counts, due_acts, waits_on}
-use Rattle.geo_site.specs.Machine.{SiteState, Same, issue, issue_all, act_held, IsCount}
-use Rattle.geo_site.specs.Sites.{state_in, counts_in, waiting_in, clock_in, HasIssued, Stays, Rests, FlushDoes}
-use Rattle.geo_site.specs.Schedule.{Known, settles, new_operation, issues, counts_keys, waits, flushed}
-use Rattle.geo_site.specs.Agreement.{Kept, Holds, StateOf}
+use Rattle.geo_site.specs.Entries.{Held, Counts, flushes_due, due_acts, waits_on}
+use Rattle.geo_site.specs.Machine.{SiteState, Same, issue, issue_all, accessed, act_held, without, victim_by, IsCount}
+use Rattle.geo_site.specs.Sites.{state_in, counts_in, waiting_in, clock_in, HasIssued, HasIssuedAfter, Stays, Rests, FlushDoes, EvictDoes}
+use Rattle.geo_site.specs.Schedule.{Known, still_held, settles, new_operation, issues, counts_keys, lets_go, waits, flushed}
+use Rattle.geo_stamp.specs.Stamps.{Moment}
+use Rattle.geo_site.specs.Agreement.{Kept, Holds, NoTime, Tells, StateOf}
 use Rattle.geo_site.proofs.Sound.{here, there, held_here, held_there}
 use Rattle.geo_site.proofs.Steps.{state_issues, state_same}
 use Rattle.geo_world.specs.Agreement.{SiteKnown, about, Stands, Carries, Agrees}
@@ -18,6 +22,7 @@ use Rattle.geo_stamp.specs.Acks.{row_of}
 use Rattle.std.proofs.lemmas.Bool.{cases_eq}
 use Rattle.geo_world.specs.Bounds.{Bounded, vectors, rows}
 use Rattle.geo_world.proofs.Bounding.{bounded_same, bounded_issues, vector_was, vector_here, vector_there, rows_stay}
+use Rattle.geo_world.proofs.Victims.{AreQuiet, GoesFor, quiet_goes, one_quiet, hit_held}
 use Rattle.geo_world.proofs.Worlds.{some_same, some_none}
 
 -- an element after a write is the new one, or one that was there
@@ -69,24 +74,69 @@ pub issues_sent : (w : Known) (s : ℕ) (acts : List Act) → (issues w s acts).
 issues_sent w s [] = refl
 issues_sent w s (act ∷ acts) = issues_sent (settles w s (w.at s ++ new_operation w s act ∷ []) (act_held act (w.held s))) s acts
 
-pub issues_state : (n s : ℕ) (acts : List Act) (w : Known) (st : SiteState) → 1 ≤ s → s ≤ n → StateOf n s st (w.at s) (w.held s) → StateOf n s (issue_all s acts st) ((issues w s acts).at s) ((issues w s acts).held s)
-issues_state n s [] w st lo hi ok = ok
-issues_state n s (act ∷ acts) w st lo hi ok =
-    let ops = w.at s ++ new_operation w s act ∷ [] in
-    let h = act_held act (w.held s) in
-    let v = settles w s ops h in
-    let many = ok.many in
-    issues_state n s acts v (issue s act st) lo hi
-    (subst₂ (λ (ops : List Operation) (h : Held). StateOf n s (issue s act st) ops h) (sym (here w s ops h)) (sym (held_here w s ops h))
-    (state_issues n s st (w.at s) (w.held s) act ok (record { above = lo; below = omega (arith, many) })))
-
--- ---- keys that a site counts, and the flush that waits there
+-- ---- what is put at one site
 put_here : {A : Type 0} (f : ℕ → A) (s : ℕ) (x : A) → cond (s == s) x (f s) ≡ x
 put_here f s x = elim (eqb_tells s s) [ inl p ↦ ap (λ b. cond b x (f s)) p.0 | inr p ↦ absurd (p.1 refl) ]
 
 put_there : {A : Type 0} (f : ℕ → A) (s : ℕ) (x : A) (t : ℕ) → t ≢ s → cond (t == s) x (f t) ≡ f t
 put_there f s x t ne = elim (eqb_tells t s) [ inl p ↦ absurd (ne p.1) | inr p ↦ ap (λ b. cond b x (f t)) p.0 ]
 
+pub put_same : {A : Type 0} (f : ℕ → A) (s : ℕ) (x : A) → x ≡ f s → (t : ℕ) → cond (t == s) x (f t) ≡ f t
+put_same f s x e t = elim (eqb_tells t s) [ inl p ↦ ap (λ b. cond b x (f t)) p.0 ∙ e ∙ ap f (sym p.1) | inr p ↦ ap (λ b. cond b x (f t)) p.0 ]
+
+-- ---- bytes that go
+pub left_here : (w : Known) (s : ℕ) (victim : Option (List ℕ)) → (lets_go w s victim).held s ≡ without victim (w.held s)
+left_here w s victim = put_here w.held s (without victim (w.held s))
+
+pub left_there : (w : Known) (s : ℕ) (victim : Option (List ℕ)) (t : ℕ) → t ≢ s → about (lets_go w s victim) t ≡ about w t
+left_there w s victim t ne = let other = put_there w.held s (without victim (w.held s)) t ne in
+    λ i. record { ops = w.at t; held = other i; counts = w.counts t; waiting = w.waiting t; limits = w.limits t }
+
+-- where none go all is as it was
+pub left_all : (w : Known) (s : ℕ) → lets_go w s None ≡ w
+left_all w s = let all = put_same w.held s (without None (w.held s)) refl in
+    λ i. record { at = w.at; held = λ t. all t i; counts = w.counts; waiting = w.waiting; limits = w.limits; sent = w.sent }
+
+-- a key of which none are held
+without_missing : (held : Held) (key : List ℕ) → held key ≡ None → without (Some key) held ≡ held
+without_missing held key none = λ i q. by q (same_key q key) refl i
+  where
+    by : (q : List ℕ) (t : Bool) → same_key q key ≡ t → cond {A = Option (List ℕ)} t None (held q) ≡ held q
+    by q true e = sym none ∙ ap held (sym (same_text q key (sym e)))
+    by q false e = refl
+
+-- ---- what a site knows and holds once it has issued operations
+-- one, for which the bytes of a victim go
+issue_state : (n s : ℕ) (act : Act) (w : Known) (st : SiteState) (victim : Option (List ℕ)) → victim ≡ victim_by act st.stock → 1 ≤ s → s ≤ n → StateOf n s st (w.at s) (w.held s)
+    → StateOf n s (issue s act st) ((issues (lets_go w s victim) s (act ∷ [])).at s) ((issues (lets_go w s victim) s (act ∷ [])).held s)
+issue_state n s act w st victim is lo hi ok =
+    let u = lets_go w s victim in
+    let ops = w.at s ++ new_operation w s act ∷ [] in
+    let h = act_held act (u.held s) in
+    let many = ok.many in
+    let goes : without (victim_by act st.stock) (w.held s) ≡ u.held s = ap (λ v. without v (w.held s)) (sym is) ∙ sym (left_here w s victim) in
+    subst₂ (λ (ops : List Operation) (h : Held). StateOf n s (issue s act st) ops h) (sym (here u s ops h)) (sym (held_here u s ops h))
+    (subst (λ (held : Held). StateOf n s (issue s act st) ops (still_held ops (act_held act held))) goes
+    (state_issues n s st (w.at s) (w.held s) act ok (record { above = lo; below = omega (arith, many) })))
+
+-- any number, for which none go
+issues_state : (n s : ℕ) (acts : List Act) (w : Known) (st : SiteState) → AreQuiet acts → 1 ≤ s → s ≤ n → StateOf n s st (w.at s) (w.held s) → StateOf n s (issue_all s acts st) ((issues w s acts).at s) ((issues w s acts).held s)
+issues_state n s [] w st quiet lo hi ok = ok
+issues_state n s (act ∷ acts) w st quiet lo hi ok =
+    issues_state n s acts (settles w s (w.at s ++ new_operation w s act ∷ []) (act_held act (w.held s))) (issue s act st) quiet.1 lo hi
+    (subst (λ (u : Known). StateOf n s (issue s act st) ((issues u s (act ∷ [])).at s) ((issues u s (act ∷ [])).held s)) (left_all w s) (issue_state n s act w st None (sym (quiet.0 st)) lo hi ok))
+
+-- any number, for whose first the bytes of a victim go
+pub goes_state : (n s : ℕ) (acts : List Act) (w : Known) (st : SiteState) (victim : Option (List ℕ)) → GoesFor acts st victim → 1 ≤ s → s ≤ n → StateOf n s st (w.at s) (w.held s)
+    → StateOf n s (issue_all s acts st) ((issues (lets_go w s victim) s acts).at s) ((issues (lets_go w s victim) s acts).held s)
+goes_state n s [] w st victim goes lo hi ok = subst (λ (u : Known). StateOf n s st (u.at s) (u.held s)) (sym (left_all w s) ∙ ap (lets_go w s) (sym goes.first)) ok
+goes_state n s (act ∷ acts) w st victim goes lo hi ok = issues_state n s acts (issues (lets_go w s victim) s (act ∷ [])) (issue s act st) goes.rest lo hi (issue_state n s act w st victim goes.first lo hi ok)
+
+-- keys that are found change nothing that is known
+pub accessed_state : (n s : ℕ) (keys : List (List ℕ)) (st : SiteState) (ops : List Operation) (held : Held) → StateOf n s st ops held → StateOf n s (accessed keys st) ops held
+accessed_state n s keys st ops held ok = record { many = ok.many; tells = ok.tells; holds = ok.holds; same_held = λ key. hit_held keys st key ∙ ok.same_held key }
+
+-- ---- keys that a site counts, and the flush that waits there
 pub counts_here : (w : Known) (s : ℕ) (c : Counts) → (counts_keys w s c).counts s ≡ c
 counts_here w s c = put_here w.counts s c
 
@@ -103,60 +153,82 @@ waits_there w s x t ne = let other = put_there w.waiting s x t ne in
 
 -- ---- what a site does, of which all is known
 module _ (sites : List Site) (parcels : List Parcel) (w : Known) (agrees : Agrees sites parcels w) (k s : ℕ) (at_number : s ≡ k + 1) (hi : s ≤ length sites) (old new : Site) (got : slice_get sites k ≡ Some old) (stays : Stays old new) where
-  bounds_issued : (acts : List Act) (v : Known) → Stands (length sites) s old (about w s) → Same (issue_all s acts (state_in old)) (state_in new) → v.at s ≡ (issues w s acts).at s
-      → ((t : ℕ) → t ≢ s → about v t ≡ about (issues w s acts) t) → v.sent ≡ (issues w s acts).sent → Bounded (length sites) (vectors (slice_set sites k new)) (rows (slice_set sites k new)) parcels v.at v.sent
-  bounds_issued acts v st same ops others sent =
+  bounds_issued : (keys : List (List ℕ)) (acts : List Act) (victim : Option (List ℕ)) (v : Known) → Stands (length sites) s old (about w s) → new.vector ≡ (issue_all s acts (accessed keys (state_in old))).vector → v.at s ≡ (issues (lets_go w s victim) s acts).at s
+      → ((t : ℕ) → t ≢ s → about v t ≡ about (issues (lets_go w s victim) s acts) t) → v.sent ≡ (issues (lets_go w s victim) s acts).sent → Bounded (length sites) (vectors (slice_set sites k new)) (rows (slice_set sites k new)) parcels v.at v.sent
+  bounds_issued keys acts victim v st vector ops others sent =
       let n = length sites in
       let V' = vectors (slice_set sites k new) in
-      let i = issues w s acts in
-      let issued = bounded_issues n s (rows sites) parcels (omega (arith, at_number)) hi acts w (state_in old) (vectors sites) V' agrees.bounds st.state (vector_was sites k s at_number hi old new got)
-      (vector_here sites k s at_number hi old new got ∙ same.vector) (λ t ne. vector_there sites k s at_number hi old new got t ne) in
+      let u = lets_go w s victim in
+      let i = issues u s acts in
+      let issued = bounded_issues n s (rows sites) parcels (omega (arith, at_number)) hi acts u (accessed keys (state_in old)) (w.held s) (vectors sites) V' agrees.bounds (accessed_state n s keys (state_in old) (w.at s) (w.held s) st.state) (vector_was sites k s at_number hi old new got)
+      (vector_here sites k s at_number hi old new got ∙ vector) (λ t ne. vector_there sites k s at_number hi old new got t ne) in
       bounded_same n V' V' (rows sites) (rows (slice_set sites k new)) parcels i.at v.at i.sent v.sent (λ t. refl) (rows_stay sites k s at_number hi old new got stays.2)
       (λ t. elim (cases_eq t s) [ inl e ↦ ap v.at e ∙ ops ∙ ap i.at (sym e) | inr ne ↦ ap (λ (x : SiteKnown). x.ops) (others t ne) ]) sent issued
 
-  -- it issues operations, and counts and waits as is known then
-  pub agrees_issued : (acts : List Act) (v : Known) → HasIssued old new acts → v.at s ≡ (issues w s acts).at s → v.held s ≡ (issues w s acts).held s
-      → counts_in new ≡ v.counts s → waiting_in new ≡ v.waiting s → v.limits s ≡ w.limits s → ((t : ℕ) → t ≢ s → about v t ≡ about (issues w s acts) t) → v.sent ≡ (issues w s acts).sent
+  -- it knows and holds what is known of it once the bytes of a victim have gone and operations are issued
+  agrees_left : (keys : List (List ℕ)) (acts : List Act) (victim : Option (List ℕ)) (v : Known) → StateOf (length sites) s (state_in new) (v.at s) (v.held s) → new.vector ≡ (issue_all s acts (accessed keys (state_in old))).vector → v.at s ≡ (issues (lets_go w s victim) s acts).at s
+      → counts_in new ≡ v.counts s → waiting_in new ≡ v.waiting s → v.limits s ≡ w.limits s → ((t : ℕ) → t ≢ s → about v t ≡ about (issues (lets_go w s victim) s acts) t) → v.sent ≡ (issues (lets_go w s victim) s acts).sent
       → Agrees (slice_set sites k new) parcels v
-  agrees_issued acts v issued ops held counts waiting limits others sent =
+  agrees_left keys acts victim v state vector ops counts waiting limits others sent =
       let st = agrees.each k s old at_number got in
-      let same : Same (issue_all s acts (state_in old)) (state_in new) = subst (λ (m : ℕ). Same (issue_all m acts (state_in old)) (state_in new)) st.own issued in
+      let u = lets_go w s victim in
       agrees_changed sites parcels w v agrees k s at_number new
       (record {
         own = stays.0 ∙ st.own;
-        state = subst₂ (λ (o : List Operation) (h : Held). StateOf (length sites) s (state_in new) o h) (sym ops) (sym held)
-            (state_same (length sites) s (issue_all s acts (state_in old)) (state_in new) ((issues w s acts).at s) ((issues w s acts).held s) (issues_state (length sites) s acts w (state_in old) (omega arith) hi st.state) same);
+        state = state;
         counts = counts;
         waiting = waiting;
         limits = stays.1 ∙ st.limits ∙ sym limits;
         rows = λ other lo most. ap (λ h. length (row_of h other)) stays.2 ∙ st.rows other lo most;
       })
-      (λ t ne. others t ne ∙ issues_others w s acts t ne) (sent ∙ issues_sent w s acts)
-      (bounds_issued acts v st same ops others sent)
+      (λ t ne. others t ne ∙ issues_others u s acts t ne ∙ left_there w s victim t ne) (sent ∙ issues_sent u s acts)
+      (bounds_issued keys acts victim v st vector ops others sent)
+
+  -- keys are found there, the bytes of a victim go and it issues operations, and counts and waits as is known then
+  pub agrees_issued : (keys : List (List ℕ)) (acts : List Act) (victim : Option (List ℕ)) (v : Known) → GoesFor acts (accessed keys (state_in old)) victim → HasIssuedAfter keys old new acts
+      → v.at s ≡ (issues (lets_go w s victim) s acts).at s → v.held s ≡ (issues (lets_go w s victim) s acts).held s
+      → counts_in new ≡ v.counts s → waiting_in new ≡ v.waiting s → v.limits s ≡ w.limits s → ((t : ℕ) → t ≢ s → about v t ≡ about (issues (lets_go w s victim) s acts) t) → v.sent ≡ (issues (lets_go w s victim) s acts).sent
+      → Agrees (slice_set sites k new) parcels v
+  agrees_issued keys acts victim v goes issued ops held counts waiting limits others sent =
+      let st = agrees.each k s old at_number got in
+      let n = length sites in
+      let i = issues (lets_go w s victim) s acts in
+      let from = accessed keys (state_in old) in
+      let same : Same (issue_all s acts from) (state_in new) = subst (λ (m : ℕ). Same (issue_all m acts from) (state_in new)) st.own issued in
+      let first = accessed_state n s keys (state_in old) (w.at s) (w.held s) st.state in
+      let state = state_same n s (issue_all s acts from) (state_in new) (i.at s) (i.held s) (goes_state n s acts w from victim goes (omega (arith, at_number)) hi first) same in
+      agrees_left keys acts victim v (subst₂ (λ (o : List Operation) (h : Held). StateOf n s (state_in new) o h) (sym ops) (sym held) state) same.vector ops counts waiting limits others sent
 
   -- it changes nothing
   pub agrees_still : Same (state_in old) (state_in new) → Rests old new → Agrees (slice_set sites k new) parcels w
   agrees_still same rests =
       let st = agrees.each k s old at_number got in
-      agrees_issued [] w same refl refl (rests.0 ∙ st.counts) (rests.1 ∙ st.waiting) refl (λ t ne. refl) refl
+      agrees_left [] [] None w (state_same (length sites) s (state_in old) (state_in new) (w.at s) (w.held s) st.state same) same.vector refl (rests.0 ∙ st.counts) (rests.1 ∙ st.waiting) refl (λ t ne. sym (left_there w s None t ne)) refl
 
-  -- it issues operations, and a flush waits there after them as before or otherwise
-  pub agrees_waits : (acts : List Act) (x : Option ℕ) → HasIssued old new acts → counts_in new ≡ counts_in old → waiting_in new ≡ x → Agrees (slice_set sites k new) parcels (waits (issues w s acts) s x)
-  agrees_waits acts x issued counts waiting =
+  -- it issues operations for which no bytes go, and a flush waits there after them as before or otherwise
+  pub agrees_waits : (acts : List Act) (x : Option ℕ) → AreQuiet acts → HasIssued old new acts → counts_in new ≡ counts_in old → waiting_in new ≡ x → Agrees (slice_set sites k new) parcels (waits (issues w s acts) s x)
+  agrees_waits acts x quiet issued counts waiting =
       let st = agrees.each k s old at_number got in
-      let i = issues w s acts in
-      agrees_issued acts (waits i s x) issued refl refl (counts ∙ st.counts ∙ ap (λ (f : ℕ → Counts). f s) (sym (issues_counts w s acts))) (waiting ∙ sym (waits_here i s x)) (ap (λ (f : ℕ → Limits). f s) (issues_limits w s acts)) (λ t ne. waits_there i s x t ne) refl
+      let u = lets_go w s None in
+      let i = issues u s acts in
+      subst (λ (u : Known). Agrees (slice_set sites k new) parcels (waits (issues u s acts) s x)) (left_all w s)
+      (agrees_issued [] acts None (waits i s x) (quiet_goes acts (accessed [] (state_in old)) quiet) issued refl refl (counts ∙ st.counts ∙ ap (λ (f : ℕ → Counts). f s) (sym (issues_counts u s acts))) (waiting ∙ sym (waits_here i s x)) (ap (λ (f : ℕ → Limits). f s) (issues_limits u s acts)) (λ t ne. waits_there i s x t ne) refl)
 
-  pub agrees_acts : (acts : List Act) → HasIssued old new acts → Rests old new → Agrees (slice_set sites k new) parcels (issues w s acts)
-  agrees_acts acts issued rests =
+  pub agrees_acts : (acts : List Act) → AreQuiet acts → HasIssued old new acts → Rests old new → Agrees (slice_set sites k new) parcels (issues w s acts)
+  agrees_acts acts quiet issued rests =
       let st = agrees.each k s old at_number got in
-      agrees_issued acts (issues w s acts) issued refl refl (rests.0 ∙ st.counts ∙ ap (λ (f : ℕ → Counts). f s) (sym (issues_counts w s acts))) (rests.1 ∙ st.waiting ∙ ap (λ (f : ℕ → Option ℕ). f s) (sym (issues_waiting w s acts))) (ap (λ (f : ℕ → Limits). f s) (issues_limits w s acts)) (λ t ne. refl) refl
+      let u = lets_go w s None in
+      subst (λ (u : Known). Agrees (slice_set sites k new) parcels (issues u s acts)) (left_all w s)
+      (agrees_issued [] acts None (issues u s acts) (quiet_goes acts (accessed [] (state_in old)) quiet) issued refl refl (rests.0 ∙ st.counts ∙ ap (λ (f : ℕ → Counts). f s) (sym (issues_counts u s acts))) (rests.1 ∙ st.waiting ∙ ap (λ (f : ℕ → Option ℕ). f s) (sym (issues_waiting u s acts))) (ap (λ (f : ℕ → Limits). f s) (issues_limits u s acts)) (λ t ne. refl) refl)
 
-  pub agrees_carried : (acts : List Act) (c : Counts) (x : Option ℕ) → HasIssued old new acts → counts_in new ≡ c → waiting_in new ≡ x → Agrees (slice_set sites k new) parcels (waits (counts_keys (issues w s acts) s c) s x)
-  agrees_carried acts c x issued counts waiting =
-      let i = issues w s acts in
+  -- it carries a request out
+  pub agrees_carried : (keys : List (List ℕ)) (acts : List Act) (victim : Option (List ℕ)) (c : Counts) (x : Option ℕ) → GoesFor acts (accessed keys (state_in old)) victim → HasIssuedAfter keys old new acts → counts_in new ≡ c → waiting_in new ≡ x
+      → Agrees (slice_set sites k new) parcels (waits (counts_keys (issues (lets_go w s victim) s acts) s c) s x)
+  agrees_carried keys acts victim c x goes issued counts waiting =
+      let u = lets_go w s victim in
+      let i = issues u s acts in
       let v = counts_keys i s c in
-      agrees_issued acts (waits v s x) issued refl refl (counts ∙ sym (counts_here i s c)) (waiting ∙ sym (waits_here v s x)) (ap (λ (f : ℕ → Limits). f s) (issues_limits w s acts)) (λ t ne. waits_there v s x t ne ∙ counts_there i s c t ne) refl
+      agrees_issued keys acts victim (waits v s x) goes issued refl refl (counts ∙ sym (counts_here i s c)) (waiting ∙ sym (waits_here v s x)) (ap (λ (f : ℕ → Limits). f s) (issues_limits u s acts)) (λ t ne. waits_there v s x t ne ∙ counts_there i s c t ne) refl
 
   -- a due flush
   pub agrees_flushed : (now : ℕ) → FlushDoes old new now → Agrees (slice_set sites k new) parcels (flushed w s now)
@@ -164,8 +236,35 @@ module _ (sites : List Site) (parcels : List Parcel) (w : Known) (agrees : Agree
       let st = agrees.each k s old at_number got in
       let clock = st.state.tells.clock in
       let due : due_acts (waiting_in old) (clock_in old) now ≡ due_acts (w.waiting s) (latest (w.at s)) now = λ i. due_acts (st.waiting i) (clock i) now in
-      agrees_waits (due_acts (w.waiting s) (latest (w.at s)) now) (waits_on (w.waiting s) (latest (w.at s)) now)
+      agrees_waits (due_acts (w.waiting s) (latest (w.at s)) now) (waits_on (w.waiting s) (latest (w.at s)) now) (one_quiet (flushes_due (w.waiting s) (latest (w.at s)) now) Flush (λ st. refl))
       (subst (HasIssued old new) due does.issued) does.counts (does.waiting ∙ (λ i. waits_on (st.waiting i) (clock i) now))
+
+  -- the bytes of a key are dropped, and nothing else
+  module _ (key : List ℕ) (done : Bool) (does : EvictDoes old new key done) where
+    dropped_state : StateOf (length sites) s (state_in new) (w.at s) (without (Some key) (w.held s))
+    dropped_state =
+        let st = agrees.each k s old at_number got in
+        let left = does.left in
+        record {
+          many = ap length left.vector ∙ st.state.many;
+          tells = subst₂ (λ (v : List ℕ) (f : Option Moment). Tells s v f (w.at s)) (sym left.vector) (sym left.floor) st.state.tells;
+          holds = λ q. subst (λ (m : Record). Holds NoTime m (w.at s) q) (sym (left.map q)) (st.state.holds q);
+          same_held = λ q. left.stock.held q ∙ ap (λ (o : Option (List ℕ)). cond (same_key q key) None o) (st.state.same_held q);
+        }
+
+    pub agrees_evicted : (c : Counts) → counts_in new ≡ c → Agrees (slice_set sites k new) parcels (counts_keys (lets_go w s (Some key)) s c)
+    agrees_evicted c counts =
+        let st = agrees.each k s old at_number got in
+        let u = lets_go w s (Some key) in
+        agrees_left [] [] (Some key) (counts_keys u s c) (subst (λ (h : Held). StateOf (length sites) s (state_in new) (w.at s) h) (sym (left_here w s (Some key))) dropped_state)
+        does.left.vector refl (counts ∙ sym (counts_here u s c)) (does.waiting ∙ st.waiting) refl (λ t ne. counts_there u s c t ne) refl
+
+    -- of which none are held
+    pub agrees_missing : w.held s key ≡ None → counts_in new ≡ counts_in old → Agrees (slice_set sites k new) parcels w
+    agrees_missing none counts =
+        let st = agrees.each k s old at_number got in
+        agrees_left [] [] None w (subst (λ (h : Held). StateOf (length sites) s (state_in new) (w.at s) h) (without_missing (w.held s) key none) dropped_state)
+        does.left.vector refl (counts ∙ st.counts) (does.waiting ∙ st.waiting) refl (λ t ne. sym (left_there w s None t ne)) refl
 
 -- ---- what is kept, and how much of it
 pub exact : (P : ℕ → Type 0) (m : Record) (ops : List Operation) (key : List ℕ) → ((t : ℕ) → P t → ⊥) → Holds P m ops key → m ≡ record_of ops key

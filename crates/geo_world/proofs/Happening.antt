@@ -1,5 +1,5 @@
 -- What a command and a reap add, after a due flush.
-use Rattle.std.proofs.Common.{◌≡◌, ℕ, Bool, true, cond, List, Ok, Err, sym, ◌∙◌, subst, true≢false}
+use Rattle.std.proofs.Common.{◌≡◌, ℕ, Bool, true, cond, Option, List, Ok, Err, sym, ◌∙◌, subst, true≢false}
 use Rattle.std.specs.Prelude.{Result, IfOk, IfErr}
 use Rattle.geo_versions.specs.Operations.{latest}
 use Rattle.geo_grammar.specs.declared.request.Request.{Request}
@@ -17,20 +17,20 @@ use Rattle.geo_world.proofs.Meeting.{done_has_stamp_by}
 
 module _ (old mid : Known) (site now : ℕ) (flush : (w : schedule.Known) → Meets old.sites.items old.sent.items w → Meets mid.sites.items mid.sent.items (flushed w site now)) where
   -- a command that was done
-  module _ (request : Request) (reply : Reply) (done : is_done reply ≡ true) where
-    pub carried_kept : (new : Known) (result : Result (Unit {0}) PlainError) → IfOk result (λ _. (v : schedule.Known) → Meets mid.sites.items mid.sent.items v → Meets new.sites.items new.sent.items (carries_out v site now request))
-        → IfOk result (λ _. (w : schedule.Known) → Meets old.sites.items old.sent.items w → Meets new.sites.items new.sent.items (happens w (Command site now request) (Replied reply)))
+  module _ (request : Request) (reply : Reply) (victim : Option (List ℕ)) (done : is_done reply ≡ true) where
+    pub carried_kept : (new : Known) (result : Result (Unit {0}) PlainError) → IfOk result (λ _. (v : schedule.Known) → Meets mid.sites.items mid.sent.items v → Meets new.sites.items new.sent.items (carries_out v site now request victim))
+        → IfOk result (λ _. (w : schedule.Known) → Meets old.sites.items old.sent.items w → Meets new.sites.items new.sent.items (happens w (Command site now request) (Replied reply victim)))
     carried_kept new (Err why) h = tt
     carried_kept new (Ok u) h = λ w meets.
         let v = flushed w site now in
-        subst (λ (b : Bool). Meets new.sites.items new.sent.items (cond b (carries_out v site now request) v)) (sym done) (h v (flush w meets))
+        subst (λ (b : Bool). Meets new.sites.items new.sent.items (cond b (carries_out v site now request victim) v)) (sym done) (h v (flush w meets))
 
     pub carried_ended : (result : Result (Unit {0}) PlainError) → IfErr result (λ e. e ≡ ClockEnded → (v : schedule.Known) → Meets mid.sites.items mid.sent.items v → lacks (latest (v.at site)) (issues_on v site now request) ≡ true)
-        → IfErr result (λ e. e ≡ ClockEnded → (w : schedule.Known) → Meets old.sites.items old.sent.items w → Lawful w (Command site now request) (Replied reply) → ⊥)
+        → IfErr result (λ e. e ≡ ClockEnded → (w : schedule.Known) → Meets old.sites.items old.sent.items w → Lawful w (Command site now request) (Replied reply victim) → ⊥)
     carried_ended (Ok u) h = tt
     carried_ended (Err why) h = λ is w meets lawful.
         let v = flushed w site now in
-        done_has_stamp_by (is_stuck (w.waiting site) (latest (w.at site)) now) v site now request reply done (h is v (flush w meets)) lawful
+        done_has_stamp_by (is_stuck (w.waiting site) (latest (w.at site)) now) v site now request reply done (h is v (flush w meets)) lawful.0
 
   -- a key that was reaped
   module _ (new : Known) (key : List ℕ) (done : Bool) where

@@ -1,17 +1,17 @@
 -- What a site of the plain program knows and holds, change by change.
-use Rattle.std.proofs.Common.{◌≡◌, ℕ, List, [], ◌∷◌, ◌++◌, Option, None, refl, ap, ◌∙◌}
+use Rattle.std.proofs.Common.{◌≡◌, ℕ, List, [], ◌∷◌, ◌++◌, Option, None, Some, refl, ap, ◌∙◌}
 use Rattle.std.proofs.lemmas.List.{map-append}
 use Rattle.geo_versions.specs.Operations as spec
 use Rattle.geo_stamp.specs.Stamps.{Moment}
 use Rattle.geo_site.specs.Entries.{Held, named_by, entry_in}
-use Rattle.geo_site.specs.Machine.{act_held}
+use Rattle.geo_site.specs.Machine.{act_held, without}
 use Rattle.geo_site.specs.Schedule.{still_held}
 use Rattle.geo_world.specs.declared.plain.operation.Operation.{Operation}
 use Rattle.geo_world.specs.declared.plain.operation.Written.{Written}
 use Rattle.geo_world.specs.declared.plain.operation.Act.{Act}
 use Rattle.geo_world.specs.declared.plain.operation.Act.TheVariants.{Write}
 use Rattle.geo_world.specs.declared.plain.knowledge.Change.{Change}
-use Rattle.geo_world.specs.declared.plain.knowledge.Change.TheVariants.{Wrote, Settled}
+use Rattle.geo_world.specs.declared.plain.knowledge.Change.TheVariants.{Wrote, Dropped, Settled}
 use Rattle.geo_world.specs.declared.plain.knowledge.Knowledge.{Knowledge}
 use Rattle.geo_world.specs.Plain.{act_of, operations_of, stamped, after, held_after, shown, Knows, Rests}
 
@@ -36,6 +36,14 @@ pub knows_wrote : (old new : Knowledge) (w : Written) (key bytes : List ℕ) →
 knows_wrote old new w own bytes own_is bytes_are same more ops held k = record {
   operations = ap (λ v. operations_of v.items) same ∙ k.operations;
   holds = λ key. ap (held_after key None) more ∙ held_more key None old.changes.items (Wrote own bytes) ∙ (λ i. after (Wrote (own_is i) (bytes_are i)) key (k.holds key i));
+}
+
+-- a site evicts the bytes of a key
+pub knows_dropped : (old new : Knowledge) (own key : List ℕ) → own ≡ key → new.ops ≡ old.ops → new.changes.items ≡ old.changes.items ++ Dropped own ∷ []
+    → (ops : List spec.Operation) (held : Held) → Knows old ops held → Knows new ops (without (Some key) held)
+knows_dropped old new own key own_is same more ops held k = record {
+  operations = ap (λ v. operations_of v.items) same ∙ k.operations;
+  holds = λ q. ap (held_after q None) more ∙ held_more q None old.changes.items (Dropped own) ∙ (λ i. after (Dropped (own_is i)) q (k.holds q i));
 }
 
 -- a site has issued an operation, and not settled yet

@@ -1,6 +1,5 @@
 -- The plain program's sites and parcels are what is known, event by event.
-use Rattle.std.proofs.Common.{◌≡◌, ◌≢◌, ℕ, zero, suc, ◌+◌, ◌==◌, Bool, true, false, cond, Option, List, [], ◌∷◌, ◌++◌, length, None, Some, refl, sym, ap, ◌∙◌, subst, subst₂, inl, inr, arith, true≢false, map, slice_get, slice_set, slice_index_or}
-use Rattle.std.proofs.lemmas.Bool.Decides.{eqb_tells}
+use Rattle.std.proofs.Common.{◌≡◌, ◌≢◌, ℕ, zero, suc, ◌+◌, Bool, true, false, cond, Option, List, [], ◌∷◌, ◌++◌, length, None, Some, refl, sym, ap, ◌∙◌, subst, subst₂, inl, inr, arith, true≢false, map, slice_get, slice_set, slice_index_or}
 use Rattle.std.proofs.lemmas.List.{map-append, length-append}
 use Rattle.geo_stamp.specs.Stamps.{Moment}
 use Rattle.geo_versions.specs.Operations as spec
@@ -10,9 +9,9 @@ use Rattle.geo_grammar.specs.declared.request.Request.{Request}
 use Rattle.geo_grammar.specs.declared.reply.Reply.{Reply}
 use Rattle.geo_grammar.specs.declared.reply.Reply.TheVariants.{MapFull, ClockEnded}
 use Rattle.geo_site.specs.declared.setup.Limits.{Limits}
-use Rattle.geo_site.specs.Entries.{Held, Counts, none_counted, replied, is_crowded, lacks, is_done, flushes_due}
-use Rattle.geo_site.specs.Machine.{act_held}
-use Rattle.geo_site.specs.Schedule.{Known, nothing_known, settles, still_held, new_operation, issues, issues_on, counts_keys, waits, flushed, visible, basis, RepliesTo, RepliesBy, learns, carried}
+use Rattle.geo_site.specs.Entries.{Held, Counts, none_counted, evicted_on, replied, is_crowded, lacks, is_done, flushes_due}
+use Rattle.geo_site.specs.Machine.{act_held, without}
+use Rattle.geo_site.specs.Schedule.{Known, nothing_known, settles, still_held, new_operation, issues, issues_on, counts_keys, lets_go, evicts, waits, flushed, visible, basis, RepliesTo, RepliesBy, learns, carried}
 use Rattle.geo_site.proofs.Sound.{here, held_here}
 use Rattle.geo_world.specs.declared.plain.operation.Operation.{Operation}
 use Rattle.geo_world.specs.declared.plain.knowledge.Knowledge.{Knowledge}
@@ -20,7 +19,7 @@ use Rattle.geo_world.specs.Agreement.{SiteKnown, about}
 use Rattle.geo_world.specs.Plain.{operations_of, stamped, held_after, sent_of, Knows, Rests, counts_of, shown, Meets}
 use Rattle.geo_world.proofs.Knowing.{shown_is}
 use Rattle.geo_world.proofs.Worlds.{some_same, some_none, get_appended}
-use Rattle.geo_world.proofs.Changing.{get_written, settled_about, counts_here, counts_there, waits_here, waits_there}
+use Rattle.geo_world.proofs.Changing.{get_written, settled_about, put_same, left_here, left_there, counts_here, counts_there, waits_here, waits_there}
 
 module _ (sites : List Knowledge) (sent : List (ℕ × List Operation)) (w : Known) (meets : Meets sites sent w) where
   -- all sites are as they were
@@ -100,6 +99,16 @@ module _ (sites : List Knowledge) (sent : List (ℕ × List Operation)) (w : Kno
         holds = λ key. ap (λ c. held_after key None c.items) changes ∙ known.holds key;
       }
 
+      -- it evicts the bytes of a key
+      pub meets_evicted : (new : Knowledge) (key : List ℕ) → ((ops : List spec.Operation) (held : Held) → Knows old ops held → Knows new ops (without (Some key) held)) → counts_of new ≡ evicted_on (Some key) (counts_of old) → new.waiting ≡ old.waiting → new.reap_after ≡ old.reap_after
+          → Meets (slice_set sites k new) sent (evicts w s key)
+      meets_evicted new key left counts waiting reap_after =
+          let u = lets_go w s (Some key) in
+          let c = evicted_on (Some key) (w.counts s) in
+          meets_changed new (evicts w s key) (subst (Knows new (w.at s)) (sym (left_here w s (Some key))) (left (w.at s) (w.held s) (meets.each k s old at_number got)))
+          (counts ∙ ap (evicted_on (Some key)) (meets.counted k s old at_number got) ∙ sym (counts_here u s c)) (waiting ∙ meets.waits k s old at_number got) (reap_after ∙ meets.reaps k s old at_number got)
+          (λ t ne. counts_there u s c t ne ∙ left_there w s (Some key) t ne) refl
+
       -- it counts keys
       pub meets_counted : (new : Knowledge) (counts : Counts) → new.ops ≡ old.ops → new.changes ≡ old.changes → new.waiting ≡ old.waiting → new.reap_after ≡ old.reap_after → counts_of new ≡ counts → Meets (slice_set sites k new) sent (counts_keys w s counts)
       meets_counted new counts ops changes waiting reap_after is =
@@ -159,16 +168,14 @@ meets_none limits sites none = subst (λ (all : List Knowledge). Meets all [] (n
   sent_is = refl;
 })
 
--- ---- a site that counts what it had counted, or waits as it waited, is as it was
-put_same : {A : Type 0} (f : ℕ → A) (s : ℕ) (x : A) → x ≡ f s → (t : ℕ) → cond (t == s) x (f t) ≡ f t
-put_same f s x e t = elim (eqb_tells t s) [ inl p ↦ ap (λ b. cond b x (f t)) p.0 ∙ e ∙ ap f (sym p.1) | inr p ↦ ap (λ b. cond b x (f t)) p.0 ]
-
+-- ---- a site that waits as it waited, or where no bytes go, is as it was
 module _ (sites : List Knowledge) (sent : List (ℕ × List Operation)) (w : Known) (s : ℕ) where
   pub still_waits : (x : Option ℕ) → x ≡ w.waiting s → Meets sites sent w → Meets sites sent (waits w s x)
   still_waits x e meets = meets_about sites sent w meets (waits w s x) (λ t. let ws = put_same w.waiting s x e t in λ i. record { ops = w.at t; held = w.held t; counts = w.counts t; waiting = ws i; limits = w.limits t }) refl
 
-  pub still_counts : (c : Counts) (x : Option ℕ) → c ≡ w.counts s → Meets sites sent (waits w s x) → Meets sites sent (waits (counts_keys w s c) s x)
-  still_counts c x e meets = meets_about sites sent (waits w s x) meets (waits (counts_keys w s c) s x) (λ t. let cs = put_same w.counts s c e t in λ i. record { ops = w.at t; held = w.held t; counts = cs i; waiting = (waits w s x).waiting t; limits = w.limits t }) refl
+  pub still_there : Meets sites sent w → Meets sites sent (counts_keys (lets_go w s None) s (w.counts s))
+  still_there meets = meets_about sites sent w meets (counts_keys (lets_go w s None) s (w.counts s))
+      (λ t. let hs = put_same w.held s (without None (w.held s)) refl t in let cs = put_same w.counts s (w.counts s) refl t in λ i. record { ops = w.at t; held = hs i; counts = cs i; waiting = w.waiting t; limits = w.limits t }) refl
 
   -- a due flush, by whether there is one
   pub flushed_kept : (now : ℕ) (b : Bool) → flushes_due (w.waiting s) (latest (w.at s)) now ≡ b → Meets sites sent (waits (issues w s (cond {A = List spec.Act} b (Flush ∷ []) [])) s (cond b None (w.waiting s))) → Meets sites sent (flushed w s now)

@@ -31,13 +31,13 @@ each_more limits n k xs x len each new j number site e at = elim (get_appended x
   | inr p ↦ let m : k + 1 ≡ number = let q = p.0 in omega arith in subst₂ (λ (m : ℕ) (s : Site). Silent n m s (limits m)) m (sym p.1) new
 ]
 
-pub silent_of : (n number a b : ℕ) (limits most : Limits) (site : Site) → site.number ≡ a → limits_of site ≡ most → counts_in site ≡ none_counted → waiting_in site ≡ None → heard_in site ≡ none_heard b → Same (fresh b) (state_in site) → b ≤ 16 → a ≡ number → b ≡ n → most ≡ limits → Silent n number site limits
-silent_of n number a b limits most site is at_most none waits heard same few p q r =
+pub silent_of : (n number a b pages : ℕ) (limits most : Limits) (site : Site) → site.number ≡ a → limits_of site ≡ most → counts_in site ≡ none_counted → waiting_in site ≡ None → heard_in site ≡ none_heard b → Same (fresh b pages) (state_in site) → b ≤ 16 → a ≡ number → b ≡ n → most ≡ limits → Silent n number site limits
+silent_of n number a b pages limits most site is at_most none waits heard same few p q r =
     let heard_none = heard ∙ ap none_heard q in
     record {
       stands = record {
         own = is ∙ p;
-        state = state_same n number (fresh n) (state_in site) [] (λ _. None) (state_fresh n number) (subst (λ m. Same (fresh m) (state_in site)) q same);
+        state = state_same n number (fresh n pages) (state_in site) [] (λ _. None) (state_fresh n number pages) (subst (λ m. Same (fresh m pages) (state_in site)) q same);
         counts = none;
         waiting = waits;
         limits = at_most ∙ r;

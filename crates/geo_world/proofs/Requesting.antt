@@ -1,84 +1,64 @@
 -- What a request adds at a site of the plain program.
-use Rattle.std.proofs.Common.{◌≡◌, ◌⊎◌, inl, inr, ℕ, ℤ, Bool, true, cond, Option, None, Some, List, Ok, Err, refl, sym, ap, ◌∙◌, subst}
-use Rattle.std.specs.Prelude.{Result, IfOk, IfErr}
-use Rattle.geo_memcache.specs.Entries.{expiry_at}
+use Rattle.std.proofs.Common.{◌≡◌, ℕ, ◌==◌, Bool, true, false, cond, Option, List, [], ◌∷◌, ◌++◌, Ok, Err, refl, sym, ap, ◌∙◌, subst, true≢false}
+use Rattle.std.specs.Prelude.{Result}
 use Rattle.geo_versions.specs.Operations.{Act, latest}
 use Rattle.geo_grammar.specs.declared.request.Request.{Request}
-use Rattle.geo_grammar.specs.declared.request.Request.TheVariants.{FlushAll, ShowVersion, Verbosity, Stats, Quit}
-use Rattle.geo_world.specs.declared.plain.knowledge.Knowledge.{Knowledge}
-use Rattle.geo_world.specs.declared.plain.operation.Operation.{Operation}
-use Rattle.geo_site.specs.Entries.{Counts, Visible, counted, waits_after, flush_acts, flushes_now, lacks}
+use Rattle.geo_grammar.specs.declared.request.Request.TheVariants as request
+use Rattle.geo_memcache.specs.Asks.{request_of}
+use Rattle.geo_memcache.specs.Decisions.{decided}
+use Rattle.geo_memcache.specs.declared.ask.Ask.{Ask}
+use Rattle.geo_memcache.specs.declared.ask.Ask.TheVariants.{Store, Fetch, FetchTouch, Delete, Touch, Arith}
+use Rattle.geo_site.specs.Changes.{is_change, bytes_in}
+use Rattle.geo_site.specs.Entries.{Counts, Visible, acts_of, issued, counted, evicted_on, waits_after, lacks}
+use Rattle.geo_site.specs.Machine.{act_held}
 use Rattle.geo_site.specs.Schedule as schedule
-use Rattle.geo_site.specs.Schedule.{issues, issues_on, carries_out, visible, waits}
+use Rattle.geo_site.specs.Schedule.{settles, new_operation, issues, issues_on, counts_keys, lets_go, carries_out, visible, waits}
 use Rattle.geo_world.specs.declared.plain.known.Known.{Known}
 use Rattle.geo_world.specs.declared.plain.known.PlainError.{PlainError}
 use Rattle.geo_world.specs.declared.plain.known.PlainError.TheVariants.{NotThere, ClockEnded, Memory}
 use Rattle.geo_world.specs.Plain.{Meets, ChangeAdds}
-use Rattle.geo_world.proofs.Changing.{issues_counts, issues_waiting}
-use Rattle.geo_world.proofs.Meeting.{still_waits, still_counts}
+use Rattle.geo_world.proofs.Changing.{counts_here}
 
+-- acts that are the same are issued alike
 module _ (old new : Known) (site : ℕ) where
-  -- acts that are the same are issued alike
   pub adds_same : (acts other : schedule.Known → List Act) → ((w : schedule.Known) → Meets old.sites.items old.sent.items w → acts w ≡ other w) → (result : Result (Unit {0}) PlainError) → ChangeAdds old new site acts result → ChangeAdds old new site other result
   adds_same acts other same (Ok u) h = λ w meets. subst (λ a. Meets new.sites.items new.sent.items (issues w site a)) (same w meets) (h w meets)
   adds_same acts other same (Err NotThere) h = h
   adds_same acts other same (Err ClockEnded) h = λ w meets. ap (lacks (latest (w.at site))) (sym (same w meets)) ∙ h w meets
   adds_same acts other same (Err Memory) h = h
 
-  -- a change that no stamp is left for lacks one, and each site of a change is there
-  pub adds_ended : (acts : schedule.Known → List Act) (result : Result (Unit {0}) PlainError) → ChangeAdds old new site acts result → IfErr result (λ e. e ≡ ClockEnded → (w : schedule.Known) → Meets old.sites.items old.sent.items w → lacks (latest (w.at site)) (acts w) ≡ true)
-  adds_ended acts (Ok u) h = tt
-  adds_ended acts (Err NotThere) h = absurd h
-  adds_ended acts (Err ClockEnded) h = λ is. h
-  adds_ended acts (Err Memory) h = λ is. absurd (apart is)
-    where
-      apart : Memory ≡ ClockEnded → ⊥
-      apart p = cc
+-- ---- what is issued on a request of one key
+pub one_issued : (now : ℕ) (seen : Visible) (key : List ℕ) (ask : Ask) (noreply : Bool) → is_change ask ≡ true → acts_of key (bytes_in ask) (decided (seen key) now ask).effect ≡ issued now seen (request_of key ask noreply)
+one_issued now seen key (Store verb flags exptime unique bytes) noreply h = refl
+one_issued now seen key (Fetch numbers) noreply h = absurd (true≢false (sym h))
+one_issued now seen key (FetchTouch exptime numbers) noreply h = absurd (true≢false (sym h))
+one_issued now seen key Delete noreply h = refl
+one_issued now seen key (Touch exptime) noreply h = refl
+one_issued now seen key (Arith up by) noreply h = refl
 
-  pub adds_there : (acts : schedule.Known → List Act) (result : Result (Unit {0}) PlainError) → ChangeAdds old new site acts result → IfErr result (λ e. e ≡ NotThere → ⊥)
-  adds_there acts (Ok u) h = tt
-  adds_there acts (Err NotThere) h = absurd h
-  adds_there acts (Err ClockEnded) h = λ is. apart is
-    where
-      apart : ClockEnded ≡ NotThere → ⊥
-      apart p = cc
-  adds_there acts (Err Memory) h = λ is. apart is
-    where
-      apart : Memory ≡ NotThere → ⊥
-      apart p = cc
+-- ---- a request that is carried out: keys are counted, bytes go and are counted, and then operations are issued
+counts_twice : (w : schedule.Known) (s : ℕ) (c d : Counts) → counts_keys (counts_keys w s c) s d ≡ counts_keys w s d
+counts_twice w s c d = λ i. record { at = w.at; held = w.held; counts = λ t. by (t == s) (w.counts t) i; waiting = w.waiting; limits = w.limits; sent = w.sent }
+  where
+    by : (t : Bool) (x : Counts) → cond t d (cond t c x) ≡ cond t d x
+    by true x = refl
+    by false x = refl
 
-  -- a request that counts nothing, and leaves the flush that waits, is carried out by what it issues
-  pub adds_kept : (now : ℕ) (request : Request) → ((seen : Visible) (c : Counts) → counted seen request c ≡ c) → ((x : Option ℕ) → waits_after now request x ≡ x)
-      → (result : Result (Unit {0}) PlainError) → ChangeAdds old new site (λ w. issues_on w site now request) result
-      → IfOk result (λ _. (w : schedule.Known) → Meets old.sites.items old.sent.items w → Meets new.sites.items new.sent.items (carries_out w site now request))
-  adds_kept now request same still (Ok u) h = λ w meets.
-      let acts = issues_on w site now request in
-      let v = issues w site acts in
-      let c = counted (visible w site now) request (w.counts site) in
-      let x = waits_after now request (w.waiting site) in
-      let counts : c ≡ v.counts site = same (visible w site now) (w.counts site) ∙ ap (λ (f : ℕ → Counts). f site) (sym (issues_counts w site acts)) in
-      let waiting : x ≡ v.waiting site = still (w.waiting site) ∙ ap (λ (f : ℕ → Option ℕ). f site) (sym (issues_waiting w site acts)) in
-      still_counts new.sites.items new.sent.items v site c x counts (still_waits new.sites.items new.sent.items v site x waiting (h w meets))
-  adds_kept now request same still (Err why) h = tt
+counts_issues : (w : schedule.Known) (s : ℕ) (c : Counts) (acts : List Act) → issues (counts_keys w s c) s acts ≡ counts_keys (issues w s acts) s c
+counts_issues w s c [] = refl
+counts_issues w s c (act ∷ acts) = counts_issues (settles w s (w.at s ++ new_operation w s act ∷ []) (act_held act (w.held s))) s c acts
 
-  -- a flush counts nothing
-  pub flush_kept : (now : ℕ) (delay : ℤ) (noreply : Bool) (result : Result (Unit {0}) PlainError)
-      → IfOk result (λ _. (w : schedule.Known) → Meets old.sites.items old.sent.items w → Meets new.sites.items new.sent.items (waits (issues w site (flush_acts delay now)) site (cond (flushes_now delay now) None (Some (expiry_at delay now)))))
-      → IfOk result (λ _. (w : schedule.Known) → Meets old.sites.items old.sent.items w → Meets new.sites.items new.sent.items (carries_out w site now (FlushAll delay noreply)))
-  flush_kept now delay noreply (Err why) h = tt
-  flush_kept now delay noreply (Ok u) h = λ w meets.
-      let acts = flush_acts delay now in
-      still_counts new.sites.items new.sent.items (issues w site acts) site (w.counts site) (cond (flushes_now delay now) None (Some (expiry_at delay now))) (ap (λ (f : ℕ → Counts). f site) (sym (issues_counts w site acts))) (h w meets)
+-- once keys are counted and the bytes of a victim have gone, which is counted too
+abbrev pub counted_and_left : schedule.Known → ℕ → Counts → Option (List ℕ) → schedule.Known
+counted_and_left w s c victim = let v = counts_keys w s c in counts_keys (lets_go v s victim) s (evicted_on victim (v.counts s))
 
--- a request that neither issues nor counts adds nothing
-pub quiet_kept : (sites : List Knowledge) (sent : List (ℕ × List Operation)) (w : schedule.Known) (site now : ℕ) → Meets sites sent w → (request : Request)
-    → (request ≡ ShowVersion) ⊎ ((((x : Bool) × (request ≡ Verbosity x))) ⊎ ((request ≡ Stats) ⊎ (request ≡ Quit)))
-    → Meets sites sent (carries_out w site now request)
-quiet_kept sites sent w site now meets request is =
-    let same = still_counts sites sent w site (w.counts site) (w.waiting site) refl (still_waits sites sent w site (w.waiting site) refl meets) in
-    elim is [
-      | inl e ↦ subst (λ (r : Request). Meets sites sent (carries_out w site now r)) (sym e) same
-      | inr (inl e) ↦ subst (λ (r : Request). Meets sites sent (carries_out w site now r)) (sym e.1) same
-      | inr (inr (inl e)) ↦ subst (λ (r : Request). Meets sites sent (carries_out w site now r)) (sym e) same
-      | inr (inr (inr e)) ↦ subst (λ (r : Request). Meets sites sent (carries_out w site now r)) (sym e) same
-    ]
+left_is : (w : schedule.Known) (s : ℕ) (c : Counts) (victim : Option (List ℕ)) → counted_and_left w s c victim ≡ counts_keys (lets_go w s victim) s (evicted_on victim c)
+left_is w s c victim =
+    let u = lets_go w s victim in
+    ap (λ d. counts_keys (counts_keys u s c) s (evicted_on victim d)) (counts_here w s c) ∙ counts_twice u s c (evicted_on victim c)
+
+pub carried_is : (w : schedule.Known) (s now : ℕ) (request : Request) (victim : Option (List ℕ)) (acts : List Act) (x : Option ℕ) → acts ≡ issues_on w s now request → x ≡ waits_after now request (w.waiting s)
+    → waits (issues (counted_and_left w s (counted (visible w s now) request (w.counts s)) victim) s acts) s x ≡ carries_out w s now request victim
+carried_is w s now request victim acts x acts_are waiting =
+    let c = counted (visible w s now) request (w.counts s) in
+    (λ i. waits (issues (left_is w s c victim i) s (acts_are i)) s (waiting i)) ∙ ap (λ v. waits v s (waits_after now request (w.waiting s))) (counts_issues (lets_go w s victim) s (evicted_on victim c) (issues_on w s now request))

@@ -5,9 +5,6 @@ use Rattle.std.proofs.lemmas.Option.{slice_get-get_or}
 use Rattle.geo_site.specs.declared.setup.Setup.{Setup}
 use Rattle.geo_site.specs.declared.setup.Limits.{Limits}
 use Rattle.geo_site.specs.declared.site.Site.{Site}
-use Rattle.geo_site.specs.Machine.{Same, fresh}
-use Rattle.geo_site.specs.Sites.{state_in, counts_in, waiting_in, limits_of}
-use Rattle.geo_site.proofs.Steps.{state_fresh, state_same}
 use Rattle.geo_delta.specs.declared.parcel.Parcel.{Parcel}
 use Rattle.geo_site.specs.Schedule.{nothing_known}
 use Rattle.geo_site.specs.Entries.{none_counted}
@@ -35,10 +32,12 @@ pub record GoodSetup (sites number : ℕ) (setup : Setup) : Type 0 where
 
 good : (n number : ℕ) (x : Setup) → is_setup n number x ≡ true → GoodSetup n number x
 good n number x h =
-    let a = both ((x.site == number) && (x.sites == n) && nat_le 1 x.max_records) (nat_le x.max_records 1000000) h in
-    let b = both ((x.site == number) && (x.sites == n)) (nat_le 1 x.max_records) a.0 in
-    let c = both (x.site == number) (x.sites == n) b.0 in
-    record { site = equal x.site number c.0; sites_are = equal x.sites n c.1 }
+    let a = both ((x.site == number) && (x.sites == n) && nat_le 15 x.pages && nat_le x.pages 65536 && nat_le 1 x.max_records) (nat_le x.max_records 1000000) h in
+    let b = both ((x.site == number) && (x.sites == n) && nat_le 15 x.pages && nat_le x.pages 65536) (nat_le 1 x.max_records) a.0 in
+    let c = both ((x.site == number) && (x.sites == n) && nat_le 15 x.pages) (nat_le x.pages 65536) b.0 in
+    let d = both ((x.site == number) && (x.sites == n)) (nat_le 15 x.pages) c.0 in
+    let e = both (x.site == number) (x.sites == n) d.0 in
+    record { site = equal x.site number e.0; sites_are = equal x.sites n e.1 }
 
 pub numbered_at : (n number : ℕ) (xs : List Setup) (k : ℕ) (x : Setup) → are_numbered n number xs ≡ true → slice_get xs k ≡ Some x → GoodSetup n (number + k) x
 numbered_at n number [] k x h at = absurd (some_none (sym at))

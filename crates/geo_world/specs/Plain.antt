@@ -16,7 +16,7 @@ use Rattle.geo_world.specs.declared.plain.operation.Act.{Act}
 use Rattle.geo_world.specs.declared.plain.operation.Act.TheVariants.{Write, Delete, Touch, Flush}
 use Rattle.geo_world.specs.declared.plain.operation.Operation.{Operation}
 use Rattle.geo_world.specs.declared.plain.knowledge.Change.{Change}
-use Rattle.geo_world.specs.declared.plain.knowledge.Change.TheVariants.{Wrote, Settled}
+use Rattle.geo_world.specs.declared.plain.knowledge.Change.TheVariants.{Wrote, Dropped, Settled}
 use Rattle.geo_world.specs.declared.plain.knowledge.Knowledge.{Knowledge}
 
 abbrev pub act_of : Act → spec.Act
@@ -44,6 +44,7 @@ operations_of = map operation_of
 -- what a change does to what is held of a key
 abbrev pub after : Change → List ℕ → Option (List ℕ) → Option (List ℕ)
 after (Wrote own bytes) key held = cond (same_key key own) (Some bytes) held
+after (Dropped own) key held = cond (same_key key own) None held
 after (Settled ops) key held = named_by (spec.version_of (operations_of ops) key) held
 
 -- the changes one after the other
@@ -56,9 +57,9 @@ pub record Knows (site : Knowledge) (ops : List spec.Operation) (held : Held) : 
   pub operations : operations_of site.ops.items ≡ ops
   pub holds : (key : List ℕ) → held_after key None site.changes.items ≡ held key
 
--- how many keys it found and did not find
+-- how many keys it found and did not find, and how many values it evicted
 abbrev pub counts_of : Knowledge → Counts
-counts_of site = record { hits = site.hits; misses = site.misses }
+counts_of site = record { hits = site.hits; misses = site.misses; evictions = site.evictions }
 
 -- what is visible of a key at a moment, by what it knows and holds
 abbrev pub shown : Knowledge → ℕ → Visible

@@ -2,7 +2,7 @@
 use Rattle.std.specs.Prelude.{◌≡◌, ℕ, ◌^◌, Bool, true, false, ◌&&◌, nat_le, nat_lt, List, [], ◌∷◌, length, Some, take, slice_get}
 use Rattle.std.specs.List.{list_all}
 use Rattle.geo_site.specs.declared.event.Event.{Event}
-use Rattle.geo_site.specs.declared.event.Event.TheVariants.{Command, Send, Take, Tick, Reap}
+use Rattle.geo_site.specs.declared.event.Event.TheVariants.{Command, Evict, Send, Take, Tick, Reap}
 use Rattle.geo_site.specs.declared.event.Trace.{Trace}
 use Rattle.geo_site.specs.Schedule.{Known, happens, known, EachLawful}
 
@@ -13,6 +13,7 @@ is_site sites number = nat_le 1 number && nat_le number sites
 -- the event's sites are there, and so is its parcel among so many that were sent
 abbrev pub is_there : ℕ → ℕ → Event → Bool
 is_there sites parcels (Command site now request) = is_site sites site
+is_there sites parcels (Evict site key) = is_site sites site
 is_there sites parcels (Send site to) = is_site sites site && is_site sites to
 is_there sites parcels (Take site parcel) = is_site sites site && nat_lt parcel parcels
 is_there sites parcels (Tick site now) = is_site sites site
@@ -21,6 +22,7 @@ is_there sites parcels (Reap site now key) = is_site sites site
 -- the moment of an event, in seconds, is at most 2^40
 abbrev pub is_in_time : Event → Bool
 is_in_time (Command site now request) = nat_le now (2 ^ 40)
+is_in_time (Evict site key) = true
 is_in_time (Send site to) = true
 is_in_time (Take site parcel) = true
 is_in_time (Tick site now) = nat_le now (2 ^ 40)

@@ -14,6 +14,8 @@ fn is_good(sites: usize, number: usize, setup: &Setup) -> bool
 {
     setup.site as usize == number
         && setup.sites as usize == sites
+        && setup.pages >= 15
+        && setup.pages <= 65_536
         && setup.max_records >= 1
         && setup.max_records <= 1_000_000
 }
@@ -50,6 +52,7 @@ impl World {
             let own = Setup {
                 site: setup.site,
                 sites: setup.sites,
+                pages: setup.pages,
                 max_records: setup.max_records,
                 reap_after: setup.reap_after,
                 hasher,

@@ -23,7 +23,7 @@ fn is_in_time_event(event: &Event) -> bool
         Event::Command { now, .. } | Event::Tick { now, .. } | Event::Reap { now, .. } => {
             *now <= LAST_MOMENT
         }
-        Event::Send { .. } | Event::Take { .. } => true,
+        Event::Evict { .. } | Event::Send { .. } | Event::Take { .. } => true,
     }
 }
 
@@ -34,14 +34,16 @@ pub fn are_in_time(events: &[Event]) -> bool
     events.iter().all(is_in_time_event)
 }
 
-/// Runs a schedule: any list of commands, sends, takes, ticks and reaps over the sites that the setups make, in which a parcel
-/// may be taken never, often and in any order. A tick carries out a flush that waits and is due, and a reap deletes what a site
-/// wrote itself and ended long ago: they are events like the others, and come when the schedule says.
+/// Runs a schedule: any list of commands, evictions, sends, takes, ticks and reaps over the sites that the setups make, in which
+/// a parcel may be taken never, often and in any order. An eviction drops the bytes of a key at one site, a tick carries out a
+/// flush that waits and is due, and a reap deletes what a site wrote itself and ended long ago: they are events like the others,
+/// and come when the schedule says. A store evicts by itself where its slab class is full, and its trace tells which key.
 ///
 /// Whatever the schedule, each event has a trace that it can have: each reply is plain memcached's over what its site then
-/// holds, or the refusal that is due; a parcel's addressee never finds a gap. In the end each site's floor and versions are
-/// those of the operations that it knows, so that sites which know the same operations hold equal versions. Bytes in a reply
-/// are what the operation wrote whose stamp the version has, unless two values that were written have one SHA-256.
+/// holds, or the refusal that is due; a store evicts no key but another one of which bytes of the same class were held; a
+/// parcel's addressee never finds a gap. In the end each site's floor and versions are those of the operations that it knows,
+/// whatever was evicted, so that sites which know the same operations hold equal versions. Bytes in a reply are what the
+/// operation wrote whose stamp the version has, unless two values that were written have one SHA-256.
 pub fn run_schedule(
     alloc: Global,
     setups: Vec<Setup>,

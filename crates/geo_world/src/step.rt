@@ -6,7 +6,7 @@ ghost use Rattle.geo_world.specs.Agreement.{Agrees, StepDoes};
 
 use crate::outcome::WorldError;
 use crate::world::World;
-use geo_grammar::Request;
+use geo_grammar::{Reply, Request};
 use geo_lattice::Twin;
 use geo_site::{Event, Trace};
 use geo_versions::Key;
@@ -21,7 +21,21 @@ impl World {
         ensures as_many { length self.new.sites.items ≡ length self.old.sites.items }
     {
         let at = &mut self.sites[site as usize - 1];
-        Trace::Replied(at.act(alloc, now, request))
+        match at.act_full(alloc, now, request, 0) {
+            Ok(acted) => Trace::Replied(acted.reply, acted.victim),
+            Err(_) => Trace::Replied(Reply::OutOfMemory, None),
+        }
+    }
+
+    /// The bytes of a key are dropped where they are held.
+    fn evict(&mut self, site: u8, key: &Key) -> Trace
+        requires there { is_site (length self.old.sites.items) site ≡ true }
+        ensures lawful { (w : Known) → Agrees self.old.sites.items self.old.parcels.items w → Lawful w (Event.Evict site key.now) result }
+        ensures kept { (w : Known) → Agrees self.old.sites.items self.old.parcels.items w → Agrees self.new.sites.items self.new.parcels.items (happens w (Event.Evict site key.now) result) }
+        ensures as_many { length self.new.sites.items ≡ length self.old.sites.items }
+    {
+        let at = &mut self.sites[site as usize - 1];
+        Trace::Evicted(at.evict(key))
     }
 
     /// A flush that waits is carried out where it is due.
@@ -97,9 +111,10 @@ impl World {
         ensures { result ≡ is_there (length self.now.sites.items) (length self.now.parcels.items) event.now }
     {
         match event {
-            Event::Command { site, .. } | Event::Tick { site, .. } | Event::Reap { site, .. } => {
-                self.has(*site)
-            }
+            Event::Command { site, .. }
+            | Event::Evict { site, .. }
+            | Event::Tick { site, .. }
+            | Event::Reap { site, .. } => self.has(*site),
             Event::Send { site, to } => self.has(*site) && self.has(*to),
             Event::Take { site, parcel } => self.has(*site) && *parcel < self.parcels.len(),
         }
@@ -118,6 +133,7 @@ impl World {
             Event::Command { site, now, request } => {
                 Ok(self.command(alloc, *site, *now, request))
             }
+            Event::Evict { site, key } => Ok(self.evict(*site, key)),
             Event::Send { site, to } => match self.send(alloc, *site, *to) {
                 Ok(trace) => Ok(trace),
                 Err(_) => Err(WorldError::Memory),

@@ -1,9 +1,11 @@
 //! Schedules worked by hand, and seeded ones beside the plain program.
 mod due;
+mod evictions;
+mod large;
 mod moments;
 mod seeded;
 
-use crate::{WorldError, are_in_time, run_schedule};
+use crate::{Outcome, WorldError, are_good, are_in_time, run_schedule};
 use geo_grammar::{Reply, Request, ValueBytes, Verb};
 use geo_lattice::Items;
 use geo_site::{Event, SendError, Setup, TakeError, Trace};
@@ -13,6 +15,7 @@ use std::alloc::{AllocError, Global};
 use std::hash::RandomState;
 use std::test::Fail;
 
+/// Sites with a page for each slab class, and room for a thousand records.
 fn setups(alloc: Global, sites: u8, hasher: &RandomState) -> Result<Vec<Setup>, AllocError> {
     setups_of(alloc, sites, 1000, 60, hasher)
 }
@@ -29,6 +32,7 @@ fn setups_of(
         all.push(Setup {
             site: index.wrapping_add(1),
             sites,
+            pages: 15,
             max_records,
             reap_after,
             hasher: hasher.clone()?,
@@ -78,6 +82,31 @@ fn get(alloc: Global, site: u8, name: &[u8]) -> Result<Event, Fail> {
     })
 }
 
+/// Runs a schedule of so many sites that keep their ended writes for a minute.
+fn run(
+    alloc: Global,
+    sites: u8,
+    hasher: &RandomState,
+    events: &Vec<Event>,
+) -> Result<Outcome, Fail> {
+    if !are_in_time(events) {
+        return Err("out of time")?;
+    }
+    Ok(
+        run_schedule(alloc, setups(alloc, sites, hasher)?, events)
+            .ok()
+            .ok_or("no outcome")?,
+    )
+}
+
+/// How many values a trace shows.
+fn shown(trace: &Trace) -> Option<usize> {
+    match trace {
+        Trace::Replied(Reply::Values(found), None) => Some(found.as_slice().len()),
+        _ => None,
+    }
+}
+
 #[test]
 fn a_tie_is_named_alike_by_both(rt: HostRuntime) -> Result<(), Fail> {
     let alloc = rt.alloc();
@@ -96,17 +125,17 @@ fn a_tie_is_named_alike_by_both(rt: HostRuntime) -> Result<(), Fail> {
         .ok()
         .ok_or("no outcome")?;
     assert_eq!(rt; outcome.traces.len(), 8);
-    assert!(rt; matches!(&outcome.traces[0], Trace::Replied(Reply::Stored)));
-    assert!(rt; matches!(&outcome.traces[1], Trace::Replied(Reply::Stored)));
+    assert!(rt; matches!(&outcome.traces[0], Trace::Replied(Reply::Stored, None)));
+    assert!(rt; matches!(&outcome.traces[1], Trace::Replied(Reply::Stored, None)));
     assert!(rt; matches!(&outcome.traces[2], Trace::Sent));
     assert!(rt; matches!(&outcome.traces[3], Trace::Sent));
     assert!(rt; matches!(&outcome.traces[4], Trace::Taken));
     assert!(rt; matches!(&outcome.traces[5], Trace::Taken));
-    let Trace::Replied(Reply::Values(one)) = &outcome.traces[6] else {
+    let Trace::Replied(Reply::Values(one), None) = &outcome.traces[6] else {
         return Err("no values")?;
     };
     assert_eq!(rt; one.as_slice().len(), 0);
-    let Trace::Replied(Reply::Values(two)) = &outcome.traces[7] else {
+    let Trace::Replied(Reply::Values(two), None) = &outcome.traces[7] else {
         return Err("no values")?;
     };
     let two = two.as_slice();
@@ -162,11 +191,38 @@ fn refuses_what_is_not_there(rt: HostRuntime) -> Result<(), Fail> {
     assert!(rt; are_in_time(&events));
     let no_reap = run_schedule(alloc, setups(alloc, 2, &hasher)?, &events).err();
     assert_eq!(rt; no_reap, Some(WorldError::BadEvent(3)));
+    events.truncate(3);
+    events.push(Event::Evict {
+        site: 3,
+        key: key(alloc, b"a")?,
+    })?;
+    assert!(rt; are_in_time(&events));
+    let no_evict = run_schedule(alloc, setups(alloc, 2, &hasher)?, &events).err();
+    assert_eq!(rt; no_evict, Some(WorldError::BadEvent(3)));
     let nobody = run_schedule(alloc, Vec::new(alloc), &events).err();
     assert_eq!(rt; nobody, Some(WorldError::Setups));
     let mut turned = setups(alloc, 2, &hasher)?;
     turned.reverse();
     let in_order = run_schedule(alloc, turned, &events).err();
     assert_eq!(rt; in_order, Some(WorldError::Setups));
+    Ok(())
+}
+
+#[test]
+fn refuses_setups_with_too_few_or_too_many_pages(rt: HostRuntime) -> Result<(), Fail> {
+    let alloc = rt.alloc();
+    let hasher = RandomState::new(&rt)?;
+    let events = Vec::new(alloc);
+    assert!(rt; are_in_time(&events));
+    for (pages, good) in [(14, false), (15, true), (65_536, true), (65_537, false)] {
+        let mut setups = setups(alloc, 2, &hasher)?;
+        assert!(rt; setups.len() == 2);
+        setups[1].pages = pages;
+        assert_eq!(rt; are_good(&setups), good, "{pages} pages");
+        if !good {
+            let why = run_schedule(alloc, setups, &events).err();
+            assert_eq!(rt; why, Some(WorldError::Setups), "{pages} pages");
+        }
+    }
     Ok(())
 }

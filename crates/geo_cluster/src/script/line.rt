@@ -4,21 +4,47 @@ use geo_versions::Key;
 /// What a line of a script asks for.
 #[derive(Drop)]
 pub enum Line {
-    /// So many sites are to be set up, 1 to 16. Each may keep `max` records, 1 to 1,000,000, and keeps its own writes for
-    /// `reap` seconds behind their end, 0 to 2^31 - 1.
-    Sites { count: u8, max: u32, reap: u32 },
+    /// So many sites are to be set up, 1 to 16. Each has `pages` pages for values, 15 to 65,536, may keep `max` records, 1 to
+    /// 1,000,000, and keeps its own writes for `reap` seconds behind their end, 0 to 2^31 - 1.
+    Sites {
+        count: u8,
+        pages: u32,
+        max: u32,
+        reap: u32,
+    },
     /// The moment from here on, in seconds, 1 to 2^40.
     At(u64),
     /// These bytes reach a site from its client.
-    Client { site: u8, text: Vec<u8> },
+    Client {
+        site: u8,
+        text: Vec<u8>,
+    },
     /// One site cuts a parcel for another.
-    Send { from: u8, to: u8 },
+    Send {
+        from: u8,
+        to: u8,
+    },
     /// A site takes the parcel of this number, counted from 0.
-    Take { site: u8, parcel: u64 },
+    Take {
+        site: u8,
+        parcel: u64,
+    },
     /// A site carries out a flush that waits, where its moment has come.
-    Tick { site: u8 },
+    Tick {
+        site: u8,
+    },
     /// A site deletes a key, where a write of its own ended long enough ago.
-    Reap { site: u8, key: Key },
+    Reap {
+        site: u8,
+        key: Key,
+    },
+    /// A site drops the bytes that it holds of a key.
+    Evict {
+        site: u8,
+        key: Key,
+    },
     /// What a site knows is printed.
-    Versions { site: u8 },
+    Versions {
+        site: u8,
+    },
 }

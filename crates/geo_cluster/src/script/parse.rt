@@ -2,7 +2,7 @@
 ghost use Rattle.std.specs.Prelude.{◌≡◌, ◌≤◌, None, Some, MatchOption, IfOk, IfSome, option_copied};
 ghost use Rattle.std.specs.Option.{option_map, option_and_then};
 ghost use Rattle.geo_cluster.specs.Numbers.{ranged_of};
-ghost use Rattle.geo_cluster.specs.Sayings.{cut_of, site_of, moment_of, parcel_of, key_of, front_number, option_number, client_said, send_said, sites_said, take_said, key_said, said, skips, SaysAt, SaysTick, SaysVersions};
+ghost use Rattle.geo_cluster.specs.Sayings.{cut_of, site_of, moment_of, parcel_of, key_of, front_number, option_number, client_said, send_said, sites_said, take_said, site_key_of, said_to_reap, said_to_evict, said, skips, SaysAt, SaysTick, SaysVersions};
 ghost use Rattle.geo_cluster.specs.Reads.{said_by, IsInRange};
 
 use crate::script::cut::cut_at;
@@ -15,6 +15,12 @@ use std::alloc::{AllocError, Global};
 
 /// The latest moment of a script: 2^40 seconds.
 pub const LAST_MOMENT: u64 = 1 << 40;
+
+/// How many pages each site has for values where the script doesn't say, and the fewest that it may have.
+const LEAST_PAGES: u64 = 15;
+
+/// The most pages that a site may have.
+const MOST_PAGES: u64 = 65_536;
 
 /// How many records each site may keep where the script doesn't say.
 const DEFAULT_LIMIT: u64 = 100_000;
@@ -123,9 +129,10 @@ fn spelled_key(alloc: Global, text: &[u8]) -> Result<Option<Key>, AllocError>
     Key::new(alloc, bytes.as_slice())
 }
 
-fn reap_line(alloc: Global, args: &[u8]) -> Result<Option<Line>, AllocError>
-    ensures said { IfOk result (λ o. option_map said_by o ≡ option_and_then key_said (cut_of args.now)) }
-    ensures range { IfOk result (λ o. IfSome o (λ l. IsInRange l)) }
+/// A site's number, and the key that is spelled behind it.
+fn site_and_key(alloc: Global, args: &[u8]) -> Result<Option<(u8, Key)>, AllocError>
+    ensures named { IfOk result (λ o. o ≡ site_key_of args.now) }
+    ensures range { IfOk result (λ o. IfSome o (λ p. (1 ≤ p.0) × (p.0 ≤ 16))) }
 {
     let Some((site, key)) = cut_at(b' ', args) else {
         return Ok(None);
@@ -136,7 +143,27 @@ fn reap_line(alloc: Global, args: &[u8]) -> Result<Option<Line>, AllocError>
     let Some(key) = spelled_key(alloc, key)? else {
         return Ok(None);
     };
+    Ok(Some((site, key)))
+}
+
+fn reap_line(alloc: Global, args: &[u8]) -> Result<Option<Line>, AllocError>
+    ensures said { IfOk result (λ o. option_map said_by o ≡ said_to_reap args.now) }
+    ensures range { IfOk result (λ o. IfSome o (λ l. IsInRange l)) }
+{
+    let Some((site, key)) = site_and_key(alloc, args)? else {
+        return Ok(None);
+    };
     Ok(Some(Line::Reap { site, key }))
+}
+
+fn evict_line(alloc: Global, args: &[u8]) -> Result<Option<Line>, AllocError>
+    ensures said { IfOk result (λ o. option_map said_by o ≡ said_to_evict args.now) }
+    ensures range { IfOk result (λ o. IfSome o (λ l. IsInRange l)) }
+{
+    let Some((site, key)) = site_and_key(alloc, args)? else {
+        return Ok(None);
+    };
+    Ok(Some(Line::Evict { site, key }))
 }
 
 /// A number at the front of a text, and what stands behind it.
@@ -177,6 +204,7 @@ fn sites_line(args: &[u8]) -> Option<Line>
     ensures range { IfSome result (λ l. IsInRange l) }
 {
     let (count, options) = front_number(args, 1, MOST_SITES as u64)?;
+    let (pages, options) = option_number(b"pages", LEAST_PAGES, MOST_PAGES, LEAST_PAGES, options)?;
     let (max, options) = option_number(b"max", 1, GREATEST_LIMIT, DEFAULT_LIMIT, options)?;
     let (reap, options) = option_number(b"reap", 0, GREATEST_REAP, DEFAULT_REAP, options)?;
     if options.is_some() {
@@ -184,6 +212,7 @@ fn sites_line(args: &[u8]) -> Option<Line>
     }
     Some(Line::Sites {
         count: count as u8,
+        pages: pages as u32,
         max: max as u32,
         reap: reap as u32,
     })
@@ -212,6 +241,9 @@ pub fn parse_line(alloc: Global, line: &[u8]) -> Result<Option<Line>, AllocError
     }
     if name == b"reap".as_slice() {
         return reap_line(alloc, args);
+    }
+    if name == b"evict".as_slice() {
+        return evict_line(alloc, args);
     }
     if name == b"versions".as_slice() {
         return Ok(versions_line(args));

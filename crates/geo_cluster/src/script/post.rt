@@ -3,7 +3,9 @@ ghost use Rattle.std.specs.Prelude.{◌≡◌, ◌^◌, ◌≤◌, position, IfO
 ghost use Rattle.geo_cluster.specs.Answering.{Does, AnswersItem, KeepsSeat, is_quit, has_quit, until_quit};
 
 use crate::script::listing::versions_lines;
-use crate::script::texts::{clock_ended_line, reap_line, refused_line, taken_line, tick_line};
+use crate::script::texts::{
+    clock_ended_line, evict_line, reap_line, refused_line, taken_line, tick_line,
+};
 use geo_delta::Parcel;
 use geo_grammar::{Item, Reader, Reply, Request, fault_text, push_answer};
 use geo_site::{ReapError, Refused, SendError, Setup, SetupError, Site, TakeError};
@@ -84,28 +86,32 @@ pub struct Post {
 
 impl Post {
     ghost use Rattle.geo_site.specs.Sites.{IsOther, IsSent};
-    ghost use Rattle.geo_cluster.specs.Posts.{IsOpened, AnswersBytes, TakesParcel, TicksAt, ReapsAt, Lists};
+    ghost use Rattle.geo_cluster.specs.Posts.{IsOpened, AnswersBytes, TakesParcel, TicksAt, ReapsAt, EvictsAt, Lists};
 
-    /// A site that knows nothing, may keep `max` records, and keeps its own writes for `reap` seconds behind their end; and a
-    /// connection on which nothing came.
+    /// A site that knows nothing, has `pages` pages for values, may keep `max` records, and keeps its own writes for `reap` seconds
+    /// behind their end; and a connection on which nothing came.
     pub fn open(
         alloc: Global,
         hasher: RandomState,
         site: u8,
         sites: u8,
+        pages: u32,
         max: u32,
         reap: u32,
     ) -> Result<Post, AllocError>
         requires least { 1 ≤ site }
         requires among { site ≤ sites }
         requires most { sites ≤ 16 }
+        requires least_pages { 15 ≤ pages }
+        requires most_pages { pages ≤ 65536 }
         requires least_records { 1 ≤ max }
         requires most_records { max ≤ 1000000 }
-        ensures { IfOk result (λ post. IsOpened site sites max reap post) }
+        ensures { IfOk result (λ post. IsOpened site sites pages max reap post) }
     {
         let setup = Setup {
             site,
             sites,
+            pages,
             max_records: max,
             reap_after: reap,
             hasher,
@@ -113,7 +119,13 @@ impl Post {
         let site = match Site::new(alloc, setup) {
             Ok(site) => site,
             Err(SetupError::Memory) => return Err(AllocError),
-            Err(SetupError::Sites | SetupError::SiteNumber | SetupError::Records) => unreachable!(),
+            Err(
+                SetupError::Sites
+                | SetupError::SiteNumber
+                | SetupError::TooFewPages
+                | SetupError::TooManyPages
+                | SetupError::Records,
+            ) => unreachable!(),
         };
         let reader = Reader::new(alloc);
         Ok(Post {
@@ -190,6 +202,15 @@ impl Post {
             Err(ReapError::ClockEnded) => clock_ended_line(alloc),
             Err(ReapError::Memory) => Err(AllocError),
         }
+    }
+
+    /// Drops the bytes that the site holds of a key, and says whether there were any.
+    pub fn evict(&mut self, alloc: Global, key: &Key) -> Result<Vec<u8>, AllocError>
+        ensures evicts { IfOk result (λ text. EvictsAt self.old key.now text.items self.new) }
+        ensures seat { KeepsSeat self.old.site self.new.site }
+    {
+        let done = self.site.evict(key);
+        evict_line(alloc, done)
     }
 
     /// What the site knows, as it is printed.

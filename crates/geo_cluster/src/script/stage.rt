@@ -1,7 +1,7 @@
 //! The sites of a script, their clients, and the parcels between them.
 ghost use Rattle.std.specs.Prelude.{◌≡◌, ◌≢◌, ◌+◌, ◌^◌, ◌<◌, ◌≤◌, ◌==◌, not, [], length, vec_len, true, false, None, Some, MatchOption, IfOk, IfSome, IfNone};
 ghost use Rattle.geo_cluster.specs.Reads.{said_by, IsInRange};
-ghost use Rattle.geo_cluster.specs.Sayings.{SaysSites, SaysAt, SaysClient, SaysSend, SaysTake, SaysTick, SaysReap, SaysVersions};
+ghost use Rattle.geo_cluster.specs.Sayings.{SaysSites, SaysAt, SaysClient, SaysSend, SaysTake, SaysTick, SaysReap, SaysEvict, SaysVersions};
 ghost use Rattle.geo_cluster.specs.Posts.{AreNumbered, AreOpened};
 ghost use Rattle.geo_cluster.specs.declared.script.line.Line.TheVariants.{Sites};
 
@@ -14,24 +14,28 @@ use geo_versions::Key;
 use std::alloc::{AllocError, Global};
 use std::hash::RandomState;
 
-/// As many sites as are asked for, each of which may keep `max` records, and keeps its own writes for `reap` seconds behind
-/// their end.
+/// As many sites as are asked for, each of which has `pages` pages for values, may keep `max` records, and keeps its own writes
+/// for `reap` seconds behind their end.
 fn open_posts(
     alloc: Global,
     hasher: RandomState,
     sites: u8,
+    pages: u32,
     max: u32,
     reap: u32,
 ) -> Result<Vec<Post>, AllocError>
     requires sites { sites ≤ 16 }
+    requires least_pages { 15 ≤ pages }
+    requires most_pages { pages ≤ 65536 }
     requires least { 1 ≤ max }
     requires most { max ≤ 1000000 }
     ensures many { IfOk result (λ posts. length posts.items ≡ sites) }
-    ensures opened { IfOk result (λ posts. AreOpened sites max reap posts.items) }
+    ensures opened { IfOk result (λ posts. AreOpened sites pages max reap posts.items) }
 {
     let mut posts = Vec::new(alloc);
     for index in 0..sites {
-        posts.push(Post::open(alloc, hasher, index + 1, sites, max, reap)?)?;
+        let post = Post::open(alloc, hasher, index + 1, sites, pages, max, reap)?;
+        posts.push(post)?;
     }
     Ok(posts)
 }
@@ -70,13 +74,19 @@ impl Stage {
         ensures { IfOk result (λ o. Meets (scene_of self.old) (said_by line) o (scene_of self.new)) }
     {
         match line {
-            Line::Sites { count, max, reap } => self.set_up(alloc, count, max, reap),
+            Line::Sites {
+                count,
+                pages,
+                max,
+                reap,
+            } => self.set_up(alloc, count, pages, max, reap),
             Line::At(moment) => Ok(self.set_moment(alloc, moment)),
             Line::Client { site, text } => self.feed(alloc, site, text.as_slice()),
             Line::Send { from, to } => self.send(alloc, from, to),
             Line::Take { site, parcel } => self.take(alloc, site, parcel),
             Line::Tick { site } => self.tick(alloc, site),
             Line::Reap { site, key } => self.reap(alloc, site, &key),
+            Line::Evict { site, key } => self.evict(alloc, site, &key),
             Line::Versions { site } => self.versions(alloc, site),
         }
     }
@@ -96,16 +106,17 @@ impl Stage {
         &mut self,
         alloc: Global,
         count: u8,
+        pages: u32,
         max: u32,
         reap: u32,
     ) -> Result<Option<Vec<u8>>, AllocError>
-        requires { IsInRange (Sites count max reap) }
-        ensures { IfOk result (λ o. Meets (scene_of self.old) (SaysSites count max reap) o (scene_of self.new)) }
+        requires { IsInRange (Sites count pages max reap) }
+        ensures { IfOk result (λ o. Meets (scene_of self.old) (SaysSites count pages max reap) o (scene_of self.new)) }
     {
         if !self.posts.is_empty() {
             return Ok(None);
         }
-        self.posts = open_posts(alloc, self.hasher, count, max, reap)?;
+        self.posts = open_posts(alloc, self.hasher, count, pages, max, reap)?;
         Ok(Some(Vec::new(alloc)))
     }
 
@@ -175,6 +186,15 @@ impl Stage {
             return Ok(None);
         };
         Ok(Some(self.posts[at].reap(alloc, self.moment, key)?))
+    }
+
+    fn evict(&mut self, alloc: Global, site: u8, key: &Key) -> Result<Option<Vec<u8>>, AllocError>
+        ensures { IfOk result (λ o. Meets (scene_of self.old) (SaysEvict site key.now) o (scene_of self.new)) }
+    {
+        let Some(at) = self.place(site) else {
+            return Ok(None);
+        };
+        Ok(Some(self.posts[at].evict(alloc, key)?))
     }
 
     fn versions(&self, alloc: Global, site: u8) -> Result<Option<Vec<u8>>, AllocError>

@@ -1,6 +1,6 @@
 //! What the lines of a script print.
 ghost use Rattle.std.specs.Prelude.{◌≡◌, IfOk};
-ghost use Rattle.geo_cluster.specs.Prints.{client_text, parcel_text, refused_text, taken_text, tick_text, reap_text, clock_ended_text};
+ghost use Rattle.geo_cluster.specs.Prints.{client_text, parcel_text, refused_text, taken_text, tick_text, reap_text, evict_text, clock_ended_text};
 
 use crate::script::escape::escape;
 use itoa::Buffer;
@@ -64,6 +64,16 @@ pub fn reap_line(alloc: Global, done: bool) -> Result<Vec<u8>, AllocError>
 {
     if done {
         return Vec::from_slice(alloc, b"reaped\n");
+    }
+    Vec::from_slice(alloc, b"nothing\n")
+}
+
+/// `evicted` where bytes of a key were dropped, else `nothing`.
+pub fn evict_line(alloc: Global, done: bool) -> Result<Vec<u8>, AllocError>
+    ensures { IfOk result (λ text. text.items ≡ evict_text done) }
+{
+    if done {
+        return Vec::from_slice(alloc, b"evicted\n");
     }
     Vec::from_slice(alloc, b"nothing\n")
 }

@@ -239,3 +239,59 @@ fn a_key_ends_and_is_flushed(rt: HostRuntime) -> Result<(), Fail> {
     assert!(rt; prints(&rt, &rows)?);
     Ok(())
 }
+
+/// `an_eviction.script`
+#[test]
+fn an_eviction_is_a_miss_at_one_site(rt: HostRuntime) -> Result<(), Fail> {
+    let rows = [
+        (
+            "# Site 1 evicts a. See that a is missing there and nowhere else: its version stays, and the parcel to site 2 says the same.",
+            "",
+        ),
+        ("sites 2", ""),
+        ("at 100", ""),
+        (r"client 1 set a 0 0 2\r\nhi\r\n", r"1> STORED\r\n"),
+        (r"client 2 set a 0 0 2\r\nhi\r\n", r"2> STORED\r\n"),
+        ("send 2 1", "parcel 0"),
+        ("take 1 0", "taken"),
+        (
+            r"client 1 gets a\r\n",
+            r"1> VALUE a 0 2 258\r\nhi\r\nEND\r\n",
+        ),
+        (
+            "versions 1",
+            "floor none\na 1 2 0 2 8f434346648f6b96df89dda901c5176b10a6d83961dd3c1ac88b59b2dc327aa4 1 2 0\nend",
+        ),
+        ("evict 1 a", "evicted"),
+        ("evict 1 a", "nothing"),
+        (r"client 1 gets a\r\n", r"1> END\r\n"),
+        (
+            "versions 1",
+            "floor none\na 1 2 0 2 8f434346648f6b96df89dda901c5176b10a6d83961dd3c1ac88b59b2dc327aa4 1 2 0\nend",
+        ),
+        ("send 1 2", "parcel 1"),
+        ("take 2 1", "taken"),
+        (
+            "versions 2",
+            "floor none\na 1 2 0 2 8f434346648f6b96df89dda901c5176b10a6d83961dd3c1ac88b59b2dc327aa4 1 2 0\nend",
+        ),
+        (
+            r"client 2 gets a\r\n",
+            r"2> VALUE a 0 2 258\r\nhi\r\nEND\r\n",
+        ),
+        (
+            "# The commands at site 1 go by the miss. See that a cas finds nothing to compare with, and that a can be added.",
+            "",
+        ),
+        (
+            r"client 1 cas a 0 0 2 258\r\nyo\r\nadd a 0 0 2\r\nyo\r\n",
+            r"1> NOT_FOUND\r\nSTORED\r\n",
+        ),
+        (
+            r"client 1 gets a\r\n",
+            r"1> VALUE a 0 2 513\r\nyo\r\nEND\r\n",
+        ),
+    ];
+    assert!(rt; prints(&rt, &rows)?);
+    Ok(())
+}

@@ -1,32 +1,7 @@
 //! Values, keys, lines and maps as large as they may be, and larger.
-use super::{played, prints};
+use super::{played, prints, spelled, writes};
 use crate::ScriptFault;
-use std::alloc::{AllocError, Global};
 use std::test::Fail;
-
-/// A text that is put together: each piece, and so many `x` behind it.
-fn spelled(alloc: Global, pieces: &[(&str, usize)]) -> Result<Vec<u8>, AllocError> {
-    let mut text = Vec::new(alloc);
-    for (piece, count) in pieces {
-        text.extend_from_slice(piece.as_bytes())?;
-        for _each in 0..*count {
-            text.push(b'x')?;
-        }
-    }
-    Ok(text)
-}
-
-/// Whether a script prints this and no more, and ends well.
-fn writes(
-    rt: &HostRuntime,
-    script: &[(&str, usize)],
-    wanted: &[(&str, usize)],
-) -> Result<bool, Fail> {
-    let script = spelled(rt.alloc(), script)?;
-    let wanted = spelled(rt.alloc(), wanted)?;
-    let (written, outcome) = played(rt, script.as_slice())?;
-    Ok(outcome == Ok(()) && written == wanted)
-}
 
 #[test]
 fn keeps_the_old_value_where_the_new_one_is_too_large(rt: HostRuntime) -> Result<(), Fail> {

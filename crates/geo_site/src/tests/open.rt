@@ -1,6 +1,6 @@
 //! Opening a site, and what can be asked of it.
-use crate::tests::{holds, opened, says, version};
-use crate::{Setup, SetupError, Site};
+use crate::tests::{holds, opened, says, setup_of, version};
+use crate::{SetupError, Site};
 use geo_versions::Digest;
 use std::alloc::Global;
 use std::hash::RandomState;
@@ -12,16 +12,11 @@ fn refusal(
     alloc: Global,
     site: u8,
     sites: u8,
+    pages: u32,
     max_records: u32,
     hasher: RandomState,
 ) -> Option<SetupError> {
-    let setup = Setup {
-        site,
-        sites,
-        max_records,
-        reap_after: 60,
-        hasher,
-    };
+    let setup = setup_of(site, sites, pages, max_records, hasher);
     Site::new(alloc, setup).err()
 }
 
@@ -29,22 +24,24 @@ fn refusal(
 fn refuses_setups_in_their_order(rt: HostRuntime) -> Result<(), Fail> {
     let alloc = rt.alloc();
     let rows = [
-        (1, 0, 1, Some(SetupError::Sites)),
-        (17, 17, 1, Some(SetupError::Sites)),
-        (0, 2, 0, Some(SetupError::SiteNumber)),
-        (3, 2, 1, Some(SetupError::SiteNumber)),
-        (2, 2, 0, Some(SetupError::Records)),
-        (2, 2, 1_000_001, Some(SetupError::Records)),
-        (2, 2, 1_000_000, None),
-        (1, 1, 1, None),
-        (16, 16, 1, None),
+        (1, 0, 15, 1, Some(SetupError::Sites)),
+        (17, 17, 15, 1, Some(SetupError::Sites)),
+        (0, 2, 0, 0, Some(SetupError::SiteNumber)),
+        (3, 2, 15, 1, Some(SetupError::SiteNumber)),
+        (2, 2, 14, 0, Some(SetupError::TooFewPages)),
+        (2, 2, 65_537, 0, Some(SetupError::TooManyPages)),
+        (2, 2, 15, 0, Some(SetupError::Records)),
+        (2, 2, 15, 1_000_001, Some(SetupError::Records)),
+        (2, 2, 15, 1_000_000, None),
+        (1, 1, 15, 1, None),
+        (16, 16, 16, 1, None),
     ];
-    for (site, sites, max_records, refused) in rows {
+    for (site, sites, pages, max_records, refused) in rows {
         let hasher = RandomState::new(&rt)?;
         assert_eq!(rt;
-            refusal(alloc, site, sites, max_records, hasher),
+            refusal(alloc, site, sites, pages, max_records, hasher),
             refused,
-            "at {site} of {sites}, {max_records}"
+            "at {site} of {sites}, {pages}, {max_records}"
         );
     }
     Ok(())

@@ -1,31 +1,11 @@
 //! Storage commands that are made by hand: values that are too large, and values that have expired.
 use crate::Site;
-use crate::tests::{NOW, key, opened, read, says};
-use geo_grammar::{Reply, Request, ValueBytes, Verb};
+use crate::tests::{NOW, opened, read, says, store};
+use geo_grammar::{Reply, Verb};
 use std::alloc::{AllocError, Global};
 use std::hash::RandomState;
 use std::process::Abort;
 use std::test::Fail;
-
-/// What a site answers to a storage command of key a with so many zeros.
-fn stores(
-    alloc: Global,
-    site: &mut Site,
-    verb: Verb,
-    exptime: i64,
-    count: usize,
-) -> Result<Reply, Fail> {
-    let request = Request::Store {
-        verb,
-        key: key(alloc, b"a")?,
-        flags: 0,
-        exptime,
-        unique: None,
-        bytes: ValueBytes::of(vec![in alloc; 0u8; count]?),
-        noreply: false,
-    };
-    Ok(site.act(alloc, NOW, &request))
-}
 
 /// Whether `gets a` shows a mebibyte under the first number.
 fn shows_a_mebibyte(alloc: Global, site: &mut Site) -> Result<bool, AllocError> {
@@ -35,12 +15,27 @@ fn shows_a_mebibyte(alloc: Global, site: &mut Site) -> Result<bool, AllocError> 
 
 /// A value grows to a mebibyte, and no further.
 fn grows(rt: &impl Abort, alloc: Global, site: &mut Site) -> Result<(), Fail> {
-    assert!(rt; matches!(stores(alloc, site, Verb::Set, 0, 1_048_576)?, Reply::Stored));
-    assert!(rt; matches!(stores(alloc, site, Verb::Append, 0, 1)?, Reply::TooLarge));
-    assert!(rt; matches!(stores(alloc, site, Verb::Prepend, 0, 1)?, Reply::TooLarge));
     assert!(rt;
         matches!(
-            stores(alloc, site, Verb::Set, 0, 1_048_577)?,
+            store(alloc, site, b"a", Verb::Set, 0, 1_048_576)?,
+            Reply::Stored
+        )
+    );
+    assert!(rt;
+        matches!(
+            store(alloc, site, b"a", Verb::Append, 0, 1)?,
+            Reply::TooLarge
+        )
+    );
+    assert!(rt;
+        matches!(
+            store(alloc, site, b"a", Verb::Prepend, 0, 1)?,
+            Reply::TooLarge
+        )
+    );
+    assert!(rt;
+        matches!(
+            store(alloc, site, b"a", Verb::Set, 0, 1_048_577)?,
             Reply::TooLarge
         )
     );
@@ -58,7 +53,7 @@ fn a_value_has_a_mebibyte_at_most(rt: HostRuntime) -> Result<(), Fail> {
 
 /// A value that has expired is held, and missing to all.
 fn expires(rt: &impl Abort, alloc: Global, site: &mut Site) -> Result<(), Fail> {
-    assert!(rt; matches!(stores(alloc, site, Verb::Set, -1, 2)?, Reply::Stored));
+    assert!(rt; matches!(store(alloc, site, b"a", Verb::Set, -1, 2)?, Reply::Stored));
     assert_eq!(rt; site.items(), 1);
     let rows = [
         ("get a\r\n", "END\r\n"),

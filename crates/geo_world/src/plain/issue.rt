@@ -1,9 +1,9 @@
-//! What a site issues, and the flush that waits there.
+//! What a site issues and evicts, and the flush that waits there.
 ghost use Rattle.std.specs.Prelude.{[], ◌∷◌, ◌≡◌, ◌≤◌, ◌<◌, ◌+◌, ◌^◌, Option, ℕ, length, IfOk, IfErr, true};
 ghost use Rattle.geo_stamp.specs.Stamps.{last_time};
 ghost use Rattle.geo_versions.specs.Operations.{latest as latest_of};
 ghost use Rattle.geo_site.specs.Entries.{lacks};
-ghost use Rattle.geo_site.specs.Schedule.{Known as Knowing, waits, flushed, reaps_on};
+ghost use Rattle.geo_site.specs.Schedule.{Known as Knowing, evicts, waits, flushed, reaps_on};
 ghost use Rattle.geo_world.specs.declared.plain.known.PlainError.TheVariants.{Memory};
 ghost use Rattle.geo_world.specs.There.{is_site};
 ghost use Rattle.geo_world.specs.Plain.{act_of, acts_of, Meets, ChangeAdds};
@@ -75,6 +75,17 @@ impl Known {
                 self.issue_all(alloc, site, rest)
             }
         }
+    }
+
+    /// A site evicts the bytes of a key.
+    pub(crate) fn evict(&mut self, alloc: Global, site: u8, key: &Key) -> Result<(), AllocError>
+        requires there { is_site (length self.old.sites.items) site ≡ true }
+        ensures kept { IfOk result (λ _. (w : Knowing) → Meets self.old.sites.items self.old.sent.items w → Meets self.new.sites.items self.new.sent.items (evicts w site key.now)) }
+        ensures as_many { length self.new.sites.items ≡ length self.old.sites.items }
+    {
+        let at = &mut self.sites[site as usize - 1];
+        at.evict(alloc, key)?;
+        Ok(())
     }
 
     /// A flush waits at a site from now on, or none does.

@@ -1,5 +1,5 @@
 //! What one site knows and holds.
-ghost use Rattle.std.specs.Prelude.{◌≡◌, ◌≤◌, ◌^◌, ℕ, Bool, List, [], ◌∷◌, ◌++◌, length, IfOk, None, cond};
+ghost use Rattle.std.specs.Prelude.{◌≡◌, ◌≤◌, ◌^◌, ℕ, Bool, List, [], ◌∷◌, ◌++◌, length, IfOk, None, Some, cond};
 ghost use Rattle.std.specs.List.{list_any};
 ghost use Rattle.std.specs.Option.{option_map};
 ghost use Rattle.geo_memcache.specs.Entries.{entry_of};
@@ -7,10 +7,10 @@ ghost use Rattle.geo_memcache.specs.Decisions.{decided};
 ghost use Rattle.geo_versions.specs.Keys.{same_key};
 ghost use Rattle.geo_versions.specs.Operations.{Operation as Issued, Act as ActOf, latest as latest_of, floor_of, version_of as version_named};
 ghost use Rattle.geo_versions.specs.Operations.Act.{Touch};
-ghost use Rattle.geo_site.specs.Entries.{Held, found_of, found_after, touched_after, touches_of, is_due, flushes_due, is_reapable};
-ghost use Rattle.geo_site.specs.Machine.{act_held};
+ghost use Rattle.geo_site.specs.Entries.{Held, found_of, found_after, touched_after, touches_of, evicted_on, is_due, flushes_due, is_reapable};
+ghost use Rattle.geo_site.specs.Machine.{act_held, without};
 ghost use Rattle.geo_site.specs.Schedule.{still_held};
-ghost use Rattle.geo_world.specs.Plain.{act_of, acts_of, operations_of, stamped, Knows, Rests, held_after, lent, shown};
+ghost use Rattle.geo_world.specs.Plain.{act_of, acts_of, operations_of, stamped, Knows, Rests, counts_of, held_after, lent, shown};
 
 use crate::plain::meaning::{floor, is_named, latest, version_of};
 use crate::plain::operation::{Act, Operation};
@@ -26,6 +26,8 @@ use std::alloc::{AllocError, Global};
 pub enum Change {
     /// It wrote a value.
     Wrote(Key, ValueBytes),
+    /// The bytes of a key were evicted.
+    Dropped(Key),
     /// It knew these operations, and dropped what their versions do not name.
     Settled(Items<Operation>),
 }
@@ -39,6 +41,8 @@ pub struct Knowledge {
     pub hits: u64,
     /// How many keys it did not find.
     pub misses: u64,
+    /// How many values it evicted.
+    pub evictions: u64,
     /// The moment of the flush that waits, in seconds.
     pub waiting: Option<u64>,
     /// How many seconds after its end a write of its own is kept.
@@ -115,6 +119,19 @@ impl Knowledge {
         self.settle(alloc)?;
         Ok(())
     }
+
+    /// The bytes of a key are evicted.
+    pub fn evict(&mut self, alloc: Global, key: &Key) -> Result<(), AllocError>
+        ensures left { IfOk result (λ _. (ops : List Issued) (held : Held) → Knows self.old ops held → Knows self.new ops (without (Some key.now) held)) }
+        ensures counts { IfOk result (λ _. counts_of self.new ≡ evicted_on (Some key.now) (counts_of self.old)) }
+        ensures waiting { self.new.waiting ≡ self.old.waiting }
+        ensures reap_after { self.new.reap_after ≡ self.old.reap_after }
+    {
+        let key = key.twin(alloc)?;
+        self.changes.push(Change::Dropped(key))?;
+        self.evictions = self.evictions.saturating_add(1);
+        Ok(())
+    }
 }
 
 /// What is held of a key after the changes, where so much was held before them.
@@ -129,6 +146,10 @@ fn held_after_all<'a>(
         [] => held,
         [Change::Wrote(own, bytes), rest @ ..] => {
             let held = if key == own { Some(bytes) } else { held };
+            held_after_all(key, held, rest)
+        }
+        [Change::Dropped(own), rest @ ..] => {
+            let held = if key == own { None } else { held };
             held_after_all(key, held, rest)
         }
         [Change::Settled(ops), rest @ ..] => {
@@ -168,7 +189,7 @@ impl Knowledge {
     pub fn visible(&self, now: u64, key: &Key) -> Option<Entry<'_>>
         ensures { option_map entry_of result ≡ shown self.now now key.now }
     {
-        let bytes = self.held(key)?;
+        let bytes = self.held(key)?.as_slice();
         let version = self.version_of(key)?;
         if !live(version.expiry, now) {
             return None;

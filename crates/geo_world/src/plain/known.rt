@@ -77,6 +77,7 @@ impl Known {
             Event::Command { site, now, .. }
             | Event::Tick { site, now }
             | Event::Reap { site, now, .. } => self.has(*site) && *now <= LAST_MOMENT,
+            Event::Evict { site, .. } => self.has(*site),
             Event::Send { site, to } => self.has(*site) && self.has(*to),
             Event::Take { site, parcel } => self.has(*site) && *parcel < self.sent.len(),
         }
@@ -94,12 +95,18 @@ impl Known {
             return Err(PlainError::NotThere);
         }
         match (event, trace) {
-            (Event::Command { site, now, request }, Trace::Replied(reply)) => {
+            (Event::Command { site, now, request }, Trace::Replied(reply, victim)) => {
                 self.flush_due(alloc, *site, *now)?;
                 if !is_done(reply) {
                     return Ok(());
                 }
-                self.carry_out(alloc, *site, *now, request)
+                self.carry_out(alloc, *site, *now, request, victim.as_ref())
+            }
+            (Event::Evict { site, key }, Trace::Evicted(done)) => {
+                if *done {
+                    self.evict(alloc, *site, key)?;
+                }
+                Ok(())
             }
             (Event::Send { site, to }, Trace::Sent) => Ok(self.send(alloc, *site, *to)?),
             (Event::Take { site, parcel }, Trace::Taken) => Ok(self.learn(alloc, *site, *parcel)?),
@@ -151,6 +158,7 @@ fn sites_without(alloc: Global, setups: &[Setup]) -> Result<Vec<Knowledge>, Allo
             changes: Vec::new(alloc),
             hits: 0,
             misses: 0,
+            evictions: 0,
             waiting: None,
             reap_after: setup.reap_after,
         })?;

@@ -1,217 +1,227 @@
 //! What a request adds to what is known.
-ghost use Rattle.std.specs.Prelude.{[], ◌∷◌, ◌≡◌, ◌≤◌, ◌-◌, ◌^◌, ℕ, Bool, length, IfOk, IfErr, true, cond, None, Some};
-ghost use Rattle.geo_grammar.specs.Limits.{longest_value};
+ghost use Rattle.std.specs.Prelude.{[], ◌∷◌, ◌≡◌, ◌≤◌, ◌^◌, ℕ, Bool, length, IfOk, IfErr, true, cond, None, Some};
+ghost use Rattle.std.specs.Option.{option_copied};
 ghost use Rattle.geo_memcache.specs.Entries.{expiry_at};
 ghost use Rattle.geo_memcache.specs.Decisions.{decided};
 ghost use Rattle.geo_versions.specs.Operations.{latest as latest_of};
-ghost use Rattle.geo_versions.specs.Operations.Act.{Write};
-ghost use Rattle.geo_site.specs.Entries.{acts_of, lacks, counted_on, found_of, touched_of, touches_of, flush_acts, flushes_now};
+ghost use Rattle.geo_site.specs.Entries.{acts_of as acts_by, issued as issued_by, counted, evicted_on, lacks, touched_of, touches_of, flush_acts as flushes_by, flushes_now as is_at_once, waits_after};
 ghost use Rattle.geo_site.specs.Changes.{is_change, bytes_in, IsShort};
-ghost use Rattle.geo_site.specs.Schedule.{Known as Knowing, issues, issues_on, counts_keys, carries_out, visible, waits};
+ghost use Rattle.geo_site.specs.Schedule.{Known as Knowing, issues_on, counts_keys, lets_go, carries_out, visible};
 ghost use Rattle.geo_world.specs.There.{is_site};
-ghost use Rattle.geo_world.specs.Plain.{Meets, ChangeAdds};
+ghost use Rattle.geo_world.specs.Plain.{acts_of, counts_of, shown, Meets};
 
+use crate::plain::knowledge::Knowledge;
 use crate::plain::known::{Known, PlainError};
 use crate::plain::operation::{Act, Written};
-use geo_grammar::{Request, ValueBytes};
+use geo_grammar::Request;
 use geo_lattice::Twin;
-use geo_memcache::{Ask, Effect, expiry_of};
+use geo_memcache::{Ask, Effect, ask_of, expiry_of};
 use geo_site::asked_bytes;
 use geo_versions::Key;
-use std::alloc::Global;
+use std::alloc::{AllocError, Global};
 
-impl Known {
-    /// A site issues a write.
-    fn write(
-        &mut self,
-        alloc: Global,
-        site: u8,
-        key: &Key,
-        bytes: ValueBytes,
-        flags: u32,
-        expiry: u64,
-    ) -> Result<(), PlainError>
-        requires there { is_site (length self.old.sites.items) site ≡ true }
-        requires few { length self.old.sites.items ≤ 16 }
-        requires short { length bytes ≤ longest_value }
-        ensures adds { ChangeAdds self.old self.new site (λ w. Write key.now bytes flags expiry ∷ []) result }
-        ensures as_many { length self.new.sites.items ≡ length self.old.sites.items }
-    {
-        let key = key.twin(alloc)?;
-        let written = Written {
-            key,
-            bytes,
-            flags,
-            expiry,
-        };
-        self.issue(alloc, site, Act::Write(written))
-    }
+/// One act alone.
+fn one(alloc: Global, act: Act) -> Result<Vec<Act>, AllocError>
+    ensures { IfOk result (λ acts. acts.items ≡ act ∷ []) }
+{
+    let mut acts = Vec::new(alloc);
+    acts.push(act)?;
+    Ok(acts)
+}
 
-    /// A site carries an effect on a key out.
-    fn affect(
-        &mut self,
-        alloc: Global,
-        site: u8,
-        key: &Key,
-        effect: Effect,
-        ask: &Ask<'_>,
-    ) -> Result<(), PlainError>
-        requires there { is_site (length self.old.sites.items) site ≡ true }
-        requires few { length self.old.sites.items ≤ 16 }
-        requires short { IsShort effect (bytes_in ask.now) }
-        ensures adds { ChangeAdds self.old self.new site (λ w. acts_of key.now (bytes_in ask.now) effect) result }
-        ensures as_many { length self.new.sites.items ≡ length self.old.sites.items }
-    {
-        match effect {
-            Effect::Nothing => Ok(()),
-            Effect::Keep { flags, expiry } => {
-                let bytes = asked_bytes(alloc, ask)?;
-                self.write(alloc, site, key, bytes, flags, expiry)
-            }
-            Effect::Made {
+/// What an effect on a key issues, where this is asked of it.
+fn acts_on(alloc: Global, key: &Key, effect: Effect, ask: &Ask<'_>) -> Result<Vec<Act>, AllocError>
+    requires short { IsShort effect (bytes_in ask.now) }
+    ensures { IfOk result (λ acts. acts_of acts.items ≡ acts_by key.now (bytes_in ask.now) effect) }
+{
+    let key = key.twin(alloc)?;
+    match effect {
+        Effect::Nothing => Ok(Vec::new(alloc)),
+        Effect::Keep { flags, expiry } => {
+            let bytes = asked_bytes(alloc, ask)?;
+            let written = Written {
+                key,
                 bytes,
                 flags,
                 expiry,
-            } => self.write(alloc, site, key, bytes, flags, expiry),
-            Effect::Renew { expiry } => {
-                let key = key.twin(alloc)?;
-                self.issue(alloc, site, Act::Touch { key, expiry })
-            }
-            Effect::Tomb => {
-                let key = key.twin(alloc)?;
-                self.issue(alloc, site, Act::Delete { key })
-            }
+            };
+            one(alloc, Act::Write(written))
         }
+        Effect::Made {
+            bytes,
+            flags,
+            expiry,
+        } => {
+            let written = Written {
+                key,
+                bytes,
+                flags,
+                expiry,
+            };
+            one(alloc, Act::Write(written))
+        }
+        Effect::Renew { expiry } => one(alloc, Act::Touch { key, expiry }),
+        Effect::Tomb => one(alloc, Act::Delete { key }),
     }
+}
 
-    /// A site carries out what is decided of a key.
-    fn change(
-        &mut self,
+/// Whether the moment of a flush_all has come already.
+fn is_now(delay: i64, now: u64) -> bool
+    requires moment { now ≤ 2 ^ 40 }
+    ensures { result ≡ is_at_once delay now }
+{
+    expiry_of(delay, now) <= now
+}
+
+/// What a flush_all issues at once.
+fn flush_acts(alloc: Global, delay: i64, now: u64) -> Result<Vec<Act>, AllocError>
+    requires moment { now ≤ 2 ^ 40 }
+    ensures { IfOk result (λ acts. acts_of acts.items ≡ flushes_by delay now) }
+{
+    if !is_now(delay, now) {
+        return Ok(Vec::new(alloc));
+    }
+    one(alloc, Act::Flush)
+}
+
+/// The moment for which a flush_all waits, unless it flushes at once.
+fn later(delay: i64, now: u64) -> Option<u64>
+    requires moment { now ≤ 2 ^ 40 }
+    ensures { result ≡ cond (is_at_once delay now) None (Some (expiry_at delay now)) }
+{
+    if is_now(delay, now) {
+        return None;
+    }
+    Some(expiry_of(delay, now))
+}
+
+impl Knowledge {
+    /// What plain memcached issues where this is asked of a key.
+    fn asked(
+        &self,
         alloc: Global,
-        site: u8,
         now: u64,
         key: &Key,
         ask: &Ask<'_>,
-    ) -> Result<(), PlainError>
-        requires there { is_site (length self.old.sites.items) site ≡ true }
+    ) -> Result<Vec<Act>, AllocError>
         requires moment { now ≤ 2 ^ 40 }
-        requires few { length self.old.sites.items ≤ 16 }
         requires change { is_change ask.now ≡ true }
-        ensures adds { ChangeAdds self.old self.new site (λ w. acts_of key.now (bytes_in ask.now) (decided (visible w site now key.now) now ask.now).effect) result }
-        ensures as_many { length self.new.sites.items ≡ length self.old.sites.items }
+        ensures { IfOk result (λ acts. acts_of acts.items ≡ acts_by key.now (bytes_in ask.now) (decided (shown self.now now key.now) now ask.now).effect) }
     {
-        let at = &self.sites[site as usize - 1];
-        let decision = at.decision(alloc, now, key, ask)?;
-        self.affect(alloc, site, key, decision.effect, ask)
+        let decision = self.decision(alloc, now, key, ask)?;
+        acts_on(alloc, key, decision.effect, ask)
     }
 
-    /// A site counts keys that it looks up.
-    fn count(&mut self, site: u8, now: u64, keys: &[Key])
-        requires there { is_site (length self.old.sites.items) site ≡ true }
-        ensures counts { (numbers : Bool) (w : Knowing) → Meets self.old.sites.items self.old.sent.items w → Meets self.new.sites.items self.new.sent.items (counts_keys w site (counted_on (w.counts site) (length (found_of numbers (visible w site now) keys.now)) (length keys.now - length (found_of numbers (visible w site now) keys.now)))) }
-        ensures as_many { length self.new.sites.items ≡ length self.old.sites.items }
-    {
-        let at = &mut self.sites[site as usize - 1];
-        let found = at.found(now, keys);
-        at.hits = at.hits.saturating_add(found as u64);
-        at.misses = at.misses.saturating_add((keys.len() - found) as u64);
-    }
-
-    /// A site touches each key that it finds, of those that are asked for.
-    fn touch_found(
-        &mut self,
+    /// The touches of a fetch with touches.
+    fn touches(
+        &self,
         alloc: Global,
-        site: u8,
         now: u64,
         expiry: u64,
         keys: &[Key],
-    ) -> Result<(), PlainError>
-        requires there { is_site (length self.old.sites.items) site ≡ true }
-        requires few { length self.old.sites.items ≤ 16 }
-        ensures adds { (numbers : Bool) → ChangeAdds self.old self.new site (λ w. touches_of expiry (touched_of now expiry numbers (visible w site now) keys.now)) result }
-        ensures as_many { length self.new.sites.items ≡ length self.old.sites.items }
+    ) -> Result<Vec<Act>, AllocError>
+        ensures { IfOk result (λ acts. (numbers : Bool) → acts_of acts.items ≡ touches_of expiry (touched_of now expiry numbers (shown self.now now) keys.now)) }
     {
-        let at = &self.sites[site as usize - 1];
         let mut before = Vec::new(alloc);
         let mut acts = Vec::new(alloc);
-        at.add_touches(alloc, now, expiry, &mut before, keys, &mut acts)?;
-        self.issue_all(alloc, site, acts.as_slice())
+        self.add_touches(alloc, now, expiry, &mut before, keys, &mut acts)?;
+        Ok(acts)
     }
 
-    /// A site flushes at once, or leaves a flush waiting for its moment.
-    fn flush_all(&mut self, alloc: Global, site: u8, now: u64, delay: i64) -> Result<(), PlainError>
-        requires there { is_site (length self.old.sites.items) site ≡ true }
+    /// What plain memcached issues on a request at a moment of at most 2^40.
+    fn issued(&self, alloc: Global, now: u64, request: &Request) -> Result<Vec<Act>, AllocError>
         requires moment { now ≤ 2 ^ 40 }
-        requires few { length self.old.sites.items ≤ 16 }
-        ensures kept { IfOk result (λ _. (w : Knowing) → Meets self.old.sites.items self.old.sent.items w → Meets self.new.sites.items self.new.sent.items (waits (issues w site (flush_acts delay now)) site (cond (flushes_now delay now) None (Some (expiry_at delay now))))) }
-        ensures ended { IfErr result (λ e. e ≡ PlainError.ClockEnded → (w : Knowing) → Meets self.old.sites.items self.old.sent.items w → lacks (latest_of (w.at site)) (flush_acts delay now) ≡ true) }
-        ensures there { IfErr result (λ e. e ≡ PlainError.NotThere → ⊥) }
+        ensures { IfOk result (λ acts. acts_of acts.items ≡ issued_by now (shown self.now now) request.now) }
+    {
+        if let Some((key, ask)) = ask_of(request) {
+            return self.asked(alloc, now, key, &ask);
+        }
+        match request {
+            Request::FetchTouch { exptime, keys, .. } => {
+                let expiry = expiry_of(*exptime, now);
+                self.touches(alloc, now, expiry, keys.as_slice())
+            }
+            Request::FlushAll { delay, .. } => flush_acts(alloc, *delay, now),
+            _ => Ok(Vec::new(alloc)),
+        }
+    }
+
+    /// The moment of the flush that waits after a request.
+    fn waiting_after(&self, now: u64, request: &Request) -> Option<u64>
+        requires moment { now ≤ 2 ^ 40 }
+        ensures { result ≡ waits_after now request.now self.now.waiting }
+    {
+        match request {
+            Request::FlushAll { delay, .. } => later(*delay, now),
+            _ => self.waiting,
+        }
+    }
+
+    /// It counts the keys of a request that looks them up.
+    fn count(&mut self, now: u64, request: &Request)
+        ensures counts { counts_of self.new ≡ counted (shown self.old now) request.now (counts_of self.old) }
+        ensures ops { self.new.ops ≡ self.old.ops }
+        ensures changes { self.new.changes ≡ self.old.changes }
+        ensures waiting { self.new.waiting ≡ self.old.waiting }
+        ensures reap_after { self.new.reap_after ≡ self.old.reap_after }
+    {
+        let Request::Fetch { keys, .. } = request else {
+            return;
+        };
+        let keys = keys.as_slice();
+        let found = self.found(now, keys);
+        self.hits = self.hits.saturating_add(found as u64);
+        self.misses = self.misses.saturating_add((keys.len() - found) as u64);
+    }
+}
+
+impl Known {
+    /// A site counts the keys of a request that looks them up.
+    fn count(&mut self, site: u8, now: u64, request: &Request)
+        requires there { is_site (length self.old.sites.items) site ≡ true }
+        ensures counts { (w : Knowing) → Meets self.old.sites.items self.old.sent.items w → Meets self.new.sites.items self.new.sent.items (counts_keys w site (counted (visible w site now) request.now (w.counts site))) }
         ensures as_many { length self.new.sites.items ≡ length self.old.sites.items }
     {
-        let at = expiry_of(delay, now);
-        if at > now {
-            self.wait(site, Some(at));
-            return Ok(());
-        }
-        self.issue(alloc, site, Act::Flush)?;
-        self.wait(site, None);
-        Ok(())
+        let at = &mut self.sites[site as usize - 1];
+        at.count(now, request);
     }
 
-    /// What a request that is carried out adds.
+    /// A site evicts the bytes of a victim, if there is one.
+    fn let_go(&mut self, alloc: Global, site: u8, victim: Option<&Key>) -> Result<(), AllocError>
+        requires there { is_site (length self.old.sites.items) site ≡ true }
+        ensures kept { IfOk result (λ _. (w : Knowing) → Meets self.old.sites.items self.old.sent.items w → Meets self.new.sites.items self.new.sent.items (counts_keys (lets_go w site (option_copied victim.entry)) site (evicted_on (option_copied victim.entry) (w.counts site)))) }
+        ensures as_many { length self.new.sites.items ≡ length self.old.sites.items }
+    {
+        match victim {
+            None => Ok(()),
+            Some(key) => self.evict(alloc, site, key),
+        }
+    }
+
+    /// What a request that is carried out adds: what it issues is decided before the bytes of a victim go.
     pub(crate) fn carry_out(
         &mut self,
         alloc: Global,
         site: u8,
         now: u64,
         request: &Request,
+        victim: Option<&Key>,
     ) -> Result<(), PlainError>
         requires there { is_site (length self.old.sites.items) site ≡ true }
         requires moment { now ≤ 2 ^ 40 }
         requires few { length self.old.sites.items ≤ 16 }
-        ensures kept { IfOk result (λ _. (w : Knowing) → Meets self.old.sites.items self.old.sent.items w → Meets self.new.sites.items self.new.sent.items (carries_out w site now request.now)) }
+        ensures kept { IfOk result (λ _. (w : Knowing) → Meets self.old.sites.items self.old.sent.items w → Meets self.new.sites.items self.new.sent.items (carries_out w site now request.now (option_copied victim.entry))) }
         ensures ended { IfErr result (λ e. e ≡ PlainError.ClockEnded → (w : Knowing) → Meets self.old.sites.items self.old.sent.items w → lacks (latest_of (w.at site)) (issues_on w site now request.now) ≡ true) }
         ensures there { IfErr result (λ e. e ≡ PlainError.NotThere → ⊥) }
         ensures as_many { length self.new.sites.items ≡ length self.old.sites.items }
     {
-        match request {
-            Request::Store {
-                verb,
-                key,
-                flags,
-                exptime,
-                unique,
-                bytes,
-                ..
-            } => {
-                let ask = Ask::Store {
-                    verb: *verb,
-                    flags: *flags,
-                    exptime: *exptime,
-                    unique: *unique,
-                    bytes,
-                };
-                self.change(alloc, site, now, key, &ask)
-            }
-            Request::Fetch { keys, .. } => {
-                self.count(site, now, keys.as_slice());
-                Ok(())
-            }
-            Request::FetchTouch { exptime, keys, .. } => {
-                let expiry = expiry_of(*exptime, now);
-                self.touch_found(alloc, site, now, expiry, keys.as_slice())
-            }
-            Request::Delete { key, .. } => self.change(alloc, site, now, key, &Ask::Delete),
-            Request::Touch { key, exptime, .. } => {
-                self.change(alloc, site, now, key, &Ask::Touch { exptime: *exptime })
-            }
-            Request::Arith { up, key, by, .. } => {
-                self.change(alloc, site, now, key, &Ask::Arith { up: *up, by: *by })
-            }
-            Request::FlushAll { delay, .. } => self.flush_all(alloc, site, now, *delay),
-            Request::ShowVersion | Request::Verbosity { .. } | Request::Stats | Request::Quit => {
-                Ok(())
-            }
-        }
+        let at = &self.sites[site as usize - 1];
+        let acts = at.issued(alloc, now, request)?;
+        let waiting = at.waiting_after(now, request);
+        self.count(site, now, request);
+        self.let_go(alloc, site, victim)?;
+        self.issue_all(alloc, site, acts.as_slice())?;
+        self.wait(site, waiting);
+        Ok(())
     }
 }

@@ -1,4 +1,4 @@
-//! What the plain program says of a reply.
+//! What the plain program says of a reply, and of what a store evicts.
 ghost use Rattle.std.specs.Prelude.{◌≤◌, ◌^◌};
 
 use crate::plain::knowledge::Knowledge;
@@ -6,7 +6,7 @@ use crate::plain::meaning::{is_on, latest};
 use crate::plain::operation::Act;
 use geo_grammar::{Found, Reply, Request, Stats};
 use geo_lattice::Twin;
-use geo_memcache::{Answer, Ask, Decision, Effect, expiry_of};
+use geo_memcache::{Answer, Ask, Decision, Effect, ask_of, expiry_of};
 use geo_stamp::Stamp;
 use geo_versions::Key;
 use std::alloc::Global;
@@ -31,7 +31,7 @@ pub fn replies_as_due(
         limit,
         records: recorded(at, names),
     };
-    if let Some((key, ask)) = asked(request) {
+    if let Some((key, ask)) = ask_of(request) {
         return decides_as_due(alloc, at, now, room, key, &ask, reply);
     }
     Ok(match (request, reply) {
@@ -57,34 +57,6 @@ pub fn replies_as_due(
         (Request::ShowVersion, Reply::Version) => true,
         _ => false,
     })
-}
-
-/// What a request asks of its one key, where it asks for a change.
-fn asked(request: &Request) -> Option<(&Key, Ask<'_>)> {
-    match request {
-        Request::Store {
-            verb,
-            key,
-            flags,
-            exptime,
-            unique,
-            bytes,
-            ..
-        } => {
-            let ask = Ask::Store {
-                verb: *verb,
-                flags: *flags,
-                exptime: *exptime,
-                unique: *unique,
-                bytes,
-            };
-            Some((key, ask))
-        }
-        Request::Delete { key, .. } => Some((key, Ask::Delete)),
-        Request::Touch { key, exptime, .. } => Some((key, Ask::Touch { exptime: *exptime })),
-        Request::Arith { up, key, by, .. } => Some((key, Ask::Arith { up: *up, by: *by })),
-        _ => None,
-    }
 }
 
 /// How many records a site may have, and has.
@@ -119,7 +91,7 @@ fn stats_due(at: &Knowledge, site: u8, records: u64, names: &[Key]) -> Stats {
         curr_items: names.iter().filter(|name| at.held(*name).is_some()).count() as u64,
         get_hits: at.hits,
         get_misses: at.misses,
-        evictions: 0,
+        evictions: at.evictions,
         site: site as u64,
         clock: latest(at.ops.as_slice()),
         records,
@@ -203,7 +175,7 @@ fn shows_as_due(at: &Knowledge, now: u64, numbers: bool, keys: &[Key], found: &[
             if first.key != *key
                 || first.flags != entry.flags
                 || first.unique != unique
-                || first.bytes.as_slice() != entry.bytes.as_slice()
+                || first.bytes.as_slice() != entry.bytes
             {
                 return false;
             }
@@ -211,4 +183,87 @@ fn shows_as_due(at: &Knowledge, now: u64, numbers: bool, keys: &[Key], found: &[
         }
     }
     left.is_empty()
+}
+
+/// The slab classes: how many bytes a chunk of each has room for, and how many chunks a page has.
+const CLASSES: [(usize, usize); 15] = [
+    (64, 16_384),
+    (128, 8192),
+    (256, 4096),
+    (512, 2048),
+    (1024, 1024),
+    (2048, 512),
+    (4096, 256),
+    (8192, 128),
+    (16_384, 64),
+    (32_768, 32),
+    (65_536, 16),
+    (131_072, 8),
+    (262_144, 4),
+    (524_288, 2),
+    (1_048_576, 1),
+];
+
+/// The least class for so many bytes.
+fn class_of(length: usize) -> (usize, usize) {
+    for class in CLASSES {
+        if length <= class.0 {
+            return class;
+        }
+    }
+    (1_048_576, 1)
+}
+
+/// How many bytes a request stores where it is carried out.
+fn stored(
+    alloc: Global,
+    at: &Knowledge,
+    now: u64,
+    key: &Key,
+    ask: &Ask<'_>,
+) -> Result<Option<usize>, Fail> {
+    if now > 1 << 40 {
+        return Err("out of time")?;
+    }
+    let decision = at.decision(alloc, now, key, ask)?;
+    Ok(match (&decision.effect, ask) {
+        (Effect::Keep { .. }, Ask::Store { bytes, .. }) => Some(bytes.len()),
+        (Effect::Made { bytes, .. }, _) => Some(bytes.len()),
+        _ => None,
+    })
+}
+
+fn holds_in(at: &Knowledge, name: &Key, class: (usize, usize)) -> bool {
+    match at.held(name) {
+        None => false,
+        Some(bytes) => class_of(bytes.len()) == class,
+    }
+}
+
+/// Whether a store that was answered so, at a site with a page for each class, evicts what it is due to: another key's bytes of
+/// its class, exactly where others have all chunks of the page.
+pub fn evicts_as_due(
+    alloc: Global,
+    at: &Knowledge,
+    now: u64,
+    names: &[Key],
+    request: &Request,
+    reply: &Reply,
+    victim: Option<&Key>,
+) -> Result<bool, Fail> {
+    let Some((key, ask)) = ask_of(request) else {
+        return Ok(victim.is_none());
+    };
+    let class = match stored(alloc, at, now, key, &ask)? {
+        Some(length) if !matches!(reply, Reply::MapFull) => class_of(length),
+        _ => return Ok(victim.is_none()),
+    };
+    let others = names
+        .iter()
+        .filter(|name| *name != key && holds_in(at, *name, class))
+        .count();
+    Ok(match victim {
+        None => others < class.1,
+        Some(victim) => others >= class.1 && victim != key && holds_in(at, victim, class),
+    })
 }

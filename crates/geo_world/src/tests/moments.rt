@@ -1,6 +1,6 @@
 //! Flushes, ends and reaps at their moments, worked by hand.
-use super::{fetch, get, key, set, set_until, setups};
-use crate::{Outcome, are_in_time, run_schedule};
+use super::{fetch, get, key, run, set, set_until, shown};
+use crate::{Outcome, are_in_time};
 use geo_grammar::{Reply, Request};
 use geo_lattice::Items;
 use geo_site::{Event, Trace};
@@ -31,31 +31,6 @@ fn reap(alloc: Global, site: u8, now: u64, name: &[u8]) -> Result<Event, Fail> {
         now,
         key: key(alloc, name)?,
     })
-}
-
-/// Runs a schedule of so many sites that keep their ended writes for a minute.
-fn run(
-    alloc: Global,
-    sites: u8,
-    hasher: &RandomState,
-    events: &Vec<Event>,
-) -> Result<Outcome, Fail> {
-    if !are_in_time(events) {
-        return Err("out of time")?;
-    }
-    Ok(
-        run_schedule(alloc, setups(alloc, sites, hasher)?, events)
-            .ok()
-            .ok_or("no outcome")?,
-    )
-}
-
-/// How many values a trace shows.
-fn shown(trace: &Trace) -> Option<usize> {
-    match trace {
-        Trace::Replied(Reply::Values(found)) => Some(found.as_slice().len()),
-        _ => None,
-    }
 }
 
 /// Each of these sites sends to both others, and each takes all that is for it.
@@ -94,7 +69,7 @@ fn a_flush_is_the_same_everywhere(rt: HostRuntime) -> Result<(), Fail> {
     events.push(get(alloc, 3, b"b")?)?;
     let outcome = run(alloc, 3, &RandomState::new(&rt)?, &events)?;
     assert_eq!(rt; outcome.traces.len(), 17);
-    assert!(rt; matches!(&outcome.traces[1], Trace::Replied(Reply::Done)));
+    assert!(rt; matches!(&outcome.traces[1], Trace::Replied(Reply::Done, None)));
     assert_eq!(rt; shown(&outcome.traces[15]), Some(0));
     assert_eq!(rt; shown(&outcome.traces[16]), Some(1));
     all_flush_alike(&rt, alloc, &outcome)
@@ -184,7 +159,7 @@ fn a_touch_is_newer_than_the_end_that_was_set(rt: HostRuntime) -> Result<(), Fai
     events.push(at(1, 201, fetch(alloc, b"a")?))?;
     let outcome = run(alloc, 1, &RandomState::new(&rt)?, &events)?;
     assert_eq!(rt; outcome.traces.len(), 5);
-    assert!(rt; matches!(&outcome.traces[1], Trace::Replied(Reply::Touched)));
+    assert!(rt; matches!(&outcome.traces[1], Trace::Replied(Reply::Touched, None)));
     assert_eq!(rt; shown(&outcome.traces[2]), Some(1));
     // The first key of the two ends what the second would find.
     assert_eq!(rt; shown(&outcome.traces[3]), Some(1));

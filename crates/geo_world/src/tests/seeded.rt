@@ -1,8 +1,8 @@
-//! Seeded schedules of two to four sites, with few keys, and parcels lost, late, repeated and reordered: the run is what the
-//! plain program says.
+//! Seeded schedules of two to four sites, with few keys, evictions, and parcels lost, late, repeated and reordered: the run is
+//! what the plain program says.
 ghost use Rattle.std.specs.Prelude.{◌<◌, ◌≤◌, ◌^◌};
 
-use super::due::replies_as_due;
+use super::due::{evicts_as_due, replies_as_due};
 use super::{key, setups_of};
 use crate::plain::knowledge::Knowledge;
 use crate::plain::known::{Known, known_after};
@@ -24,12 +24,12 @@ const SCHEDULES: u64 = 2000;
 
 /// A linear congruential generator (Knuth, MMIX).
 #[derive(Drop)]
-struct Dice {
-    state: u64,
+pub struct Dice {
+    pub state: u64,
 }
 
 impl Dice {
-    fn below(&mut self, bound: u64) -> u64
+    pub fn below(&mut self, bound: u64) -> u64
         requires positive { 0 < bound }
         ensures below { result < bound }
     {
@@ -40,14 +40,14 @@ impl Dice {
         (self.state >> 33) % bound
     }
 
-    fn site(&mut self, sites: u8) -> u8
+    pub fn site(&mut self, sites: u8) -> u8
         requires positive { 1 ≤ sites }
         ensures { (1 ≤ result) × (result ≤ sites) }
     {
         self.below(sites as u64) as u8 + 1
     }
 
-    fn name(&mut self) -> &'static [u8] {
+    pub fn name(&mut self) -> &'static [u8] {
         match self.below(3) {
             0 => b"a",
             1 => b"b",
@@ -171,11 +171,15 @@ fn schedule(alloc: Global, dice: &mut Dice, sites: u8) -> Result<Vec<Event>, Fai
     let mut addressees: Vec<u8> = Vec::new(alloc);
     for index in 0..EVENTS {
         let site = dice.site(sites);
-        let event = match dice.below(18) {
+        let event = match dice.below(20) {
             0 | 1 | 2 | 3 | 4 | 5 | 16 | 17 => Event::Command {
                 site,
                 now: dice.now(index),
                 request: request(alloc, dice)?,
+            },
+            18 | 19 => Event::Evict {
+                site,
+                key: key(alloc, dice.name())?,
             },
             12 | 13 => Event::Tick {
                 site,
@@ -205,7 +209,20 @@ fn schedule(alloc: Global, dice: &mut Dice, sites: u8) -> Result<Vec<Event>, Fai
         };
         events.push(event)?;
     }
+    add_stats(&mut events, dice, sites)?;
     Ok(events)
+}
+
+/// In the end each site is asked for its numbers.
+pub fn add_stats(events: &mut Vec<Event>, dice: &mut Dice, sites: u8) -> Result<(), Fail> {
+    for index in 0..sites {
+        events.push(Event::Command {
+            site: index.wrapping_add(1),
+            now: dice.now(EVENTS),
+            request: Request::Stats,
+        })?;
+    }
+    Ok(())
 }
 
 /// What the plain program says of a site.
@@ -237,9 +254,14 @@ fn is_due(
     trace: &Trace,
 ) -> Result<bool, Fail> {
     match (event, trace) {
-        (Event::Command { site, now, request }, Trace::Replied(reply)) => {
+        (Event::Command { site, now, request }, Trace::Replied(reply, victim)) => {
             let at = flushed(alloc, known, *site, *now)?;
-            replies_as_due(alloc, at, *site, *now, limit, names, request, reply)
+            let victim = victim.as_ref();
+            let evicts = evicts_as_due(alloc, at, *now, names, request, reply, victim)?;
+            Ok(evicts && replies_as_due(alloc, at, *site, *now, limit, names, request, reply)?)
+        }
+        (Event::Evict { site, key }, Trace::Evicted(done)) => {
+            Ok(*done == site_of(known, *site)?.held(key).is_some())
         }
         (Event::Tick { site, now }, Trace::Ticked(done)) => {
             Ok(*done == site_of(known, *site)?.flushes_due(*now))
@@ -262,27 +284,40 @@ fn is_due(
     }
 }
 
-/// Whether each trace is what the plain program says of its event.
-fn all_due(
+/// What is known after an event more, with its trace.
+fn follow(alloc: Global, known: &mut Known, event: &[Event], trace: &[Trace]) -> Result<(), Fail> {
+    if known.sites.len() > 16 {
+        return Err("too many sites")?;
+    }
+    known
+        .follow(alloc, event, trace)
+        .ok()
+        .ok_or("not followed")?;
+    Ok(())
+}
+
+/// What is known in the end, where each trace is what the plain program says of its event.
+pub fn all_due(
     alloc: Global,
     setups: &[Setup],
     limit: u64,
     names: &[Key],
     events: &[Event],
     traces: &[Trace],
-) -> Result<bool, Fail> {
-    for (index, (event, trace)) in events.iter().zip(traces).enumerate() {
-        let (Some(before), Some(their)) = (events.get(..index), traces.get(..index)) else {
-            return Err("no events before")?;
+) -> Result<Known, Fail> {
+    let mut known = known_after(alloc, setups, &[], &[])
+        .ok()
+        .ok_or("no knowledge")?;
+    for (event, trace) in events.chunks(1).zip(traces.chunks(1)) {
+        let ([one], [its]) = (event, trace) else {
+            return Err("no event")?;
         };
-        let mut known = known_after(alloc, setups, before, their)
-            .ok()
-            .ok_or("no knowledge")?;
-        if !is_due(alloc, &mut known, limit, names, event, trace)? {
-            return Ok(false);
+        if !is_due(alloc, &mut known, limit, names, one, its)? {
+            return Err("not what is due")?;
         }
+        follow(alloc, &mut known, event, trace)?;
     }
-    Ok(true)
+    Ok(known)
 }
 
 /// How many keys have a version, where all are what the plain program names, and what is held too.
@@ -303,7 +338,7 @@ fn named_alike(plain: &Knowledge, site: &Site, names: &[Key]) -> Result<u64, Fai
     Ok(named)
 }
 
-fn all_named_alike(known: &Known, outcome: &Outcome, names: &[Key]) -> Result<u64, Fail> {
+pub fn all_named_alike(known: &Known, outcome: &Outcome, names: &[Key]) -> Result<u64, Fail> {
     let mut named = 0u64;
     if known.sites.len() != outcome.sites.len() || known.sent.len() != outcome.parcels.len() {
         return Err("not as many")?;
@@ -315,19 +350,21 @@ fn all_named_alike(known: &Known, outcome: &Outcome, names: &[Key]) -> Result<u6
 }
 
 /// What a schedule was worth: versions that were named, and how often parcels were taken, maps were full, values were touched,
-/// flushes were carried out when they were due, and keys were reaped.
+/// flushes were carried out when they were due, keys were reaped, and values were evicted, for what was stored and by themselves.
 #[derive(Clone, Copy)]
-struct Worth {
-    named: u64,
-    taken: u64,
+pub struct Worth {
+    pub named: u64,
+    pub taken: u64,
     full: u64,
     touched: u64,
     ticked: u64,
     reaped: u64,
+    pub evicted: u64,
+    pub victims: u64,
 }
 
 impl Worth {
-    fn none() -> Worth {
+    pub fn none() -> Worth {
         Worth {
             named: 0,
             taken: 0,
@@ -335,15 +372,19 @@ impl Worth {
             touched: 0,
             ticked: 0,
             reaped: 0,
+            evicted: 0,
+            victims: 0,
         }
     }
 
     /// One trace more.
-    fn add(&mut self, trace: &Trace) {
+    pub fn add(&mut self, trace: &Trace) {
         let count = match trace {
             Trace::Taken => &mut self.taken,
-            Trace::Replied(Reply::MapFull) => &mut self.full,
-            Trace::Replied(Reply::Touched) => &mut self.touched,
+            Trace::Replied(Reply::MapFull, _) => &mut self.full,
+            Trace::Replied(Reply::Touched, _) => &mut self.touched,
+            Trace::Replied(_, Some(_)) => &mut self.victims,
+            Trace::Evicted(true) => &mut self.evicted,
             Trace::Ticked(true) => &mut self.ticked,
             Trace::Reaped(true) => &mut self.reaped,
             _ => return,
@@ -377,13 +418,14 @@ fn add_seed(
     if outcome.traces.len() != events.len() {
         return Err("not as many traces")?;
     }
-    if !all_due(alloc, &told, limit, names, &events, &outcome.traces)? {
-        return Err("not what is due")?;
-    }
+    let followed = all_due(alloc, &told, limit, names, &events, &outcome.traces)?;
+    let named = all_named_alike(&followed, &outcome, names)?;
     let known = known_after(alloc, &told, &events, &outcome.traces)
         .ok()
         .ok_or("no knowledge")?;
-    let named = all_named_alike(&known, &outcome, names)?;
+    if all_named_alike(&known, &outcome, names)? != named {
+        return Err("followed otherwise")?;
+    }
     worth.named = worth.named.wrapping_add(named);
     for trace in &outcome.traces {
         worth.add(trace);
@@ -407,5 +449,8 @@ fn two_thousand_schedules_are_what_the_plain_program_says(rt: HostRuntime) -> Re
     assert!(rt; worth.touched > SCHEDULES / 50);
     assert!(rt; worth.ticked > SCHEDULES / 50);
     assert!(rt; worth.reaped > SCHEDULES / 50);
+    assert!(rt; worth.evicted > SCHEDULES / 10);
+    // Each class has more chunks than there are keys.
+    assert_eq!(rt; worth.victims, 0);
     Ok(())
 }

@@ -1,7 +1,7 @@
 use Rattle.std.proofs.Common.{◌≡◌, ℕ, true, List, subst, arith, ap, sym, ◌∙◌, length}
-use Rattle.indexmap.specs.IndexMap.{get}
+use Rattle.geo_values.specs.Held.{stock_in}
+use Rattle.geo_site.proofs.Stocking.{settled_held}
 use Rattle.geo_stamp.specs.Vectors.{vector_joined, greatest_of, raised}
-use Rattle.geo_versions.specs.Keys.{same_key}
 use Rattle.geo_versions.specs.Operations.{above_both, record_joined, floor_joined, version_in}
 use Rattle.geo_versions.specs.Maps.{Rec, listed_at}
 use Rattle.geo_versions.specs.Maps.{floor_in, record_in}
@@ -44,5 +44,5 @@ invariant_of-self c =
       ends = ends_joined s.earliest c.earliest_in-self.result (floor_in c.join_both.new.versions) (record_in s.versions) (listed_at c.args.records) (record_in c.join_both.new.versions) s.ends c.earliest_in-self.ensures.least
           (listed_ends c.earliest_in-self.result c.args.records (subst (λ (es : List (List ℕ × Rec)). All (EndFrom c.earliest_in-self.result) es) c.as_slice.ensures c.earliest_in-self.ensures.ends))
           c.join_both.ensures.records;
-      named = λ q b h. (named_some (version_in (record_in c.join_both.new.versions q)) (get same_key s.held q) b (sym (c.join_both.ensures.kept q) ∙ h)).1;
+      named = λ q b h. (named_some (version_in (record_in c.join_both.new.versions q)) ((stock_in s.values).held q) b (sym (c.join_both.ensures.kept.held q ∙ settled_held (record_in c.join_both.new.versions) (stock_in s.values) q) ∙ h)).1;
     }

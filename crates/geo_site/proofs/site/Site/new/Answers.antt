@@ -1,25 +1,23 @@
 use Rattle.geo_delta.specs.Changes.{Traced, nothing_pending}
+use Rattle.geo_delta.proofs.Tracing.{traced_first}
 use Rattle.geo_versions.specs.Maps.{record_in}
 use Rattle.std.proofs.Common.{arith, subst, ap, sym, ◌∙◌, length}
-use Rattle.std.specs.Map.{lookup}
-use Rattle.geo_versions.specs.Keys.{same_key}
 use Rattle.geo_site.specs.Machine.{knows_floor, knows_record}
 use Rattle.geo_site.proofs.Steps.{zeros_length}
 use Rattle.geo_site.proofs.Sound.{some_none}
 use Rattle.geo_versions.specs.Operations.{Record}
 use Rattle.geo_site.proofs.Verdicts.{none_some}
-use Rattle.geo_delta.proofs.Tracing.{traced_first}
 use Rattle.geo_site.proofs.site.Site.new.Goals as goal
 
 pub invariant_of-result : goal.invariant_of-result
 invariant_of-result c =
     let z = zeros_length c.args.setup.sites in
-    let len = ap length c.new-2.ensures in
+    let len = ap length c.new-3.ensures in
     record {
       numbered = (omega arith, omega (arith, z, len), omega (arith, z, len));
-      floor_known = ap (knows_floor c.new-2.result) c.new-4.ensures.floor;
-      covered = λ key. ap (knows_record c.new-2.result) (c.new-4.ensures.records key);
-      traced = subst (λ ring. Traced nothing_pending (record_in c.new-4.result) ring) (sym c.in-Ok-new.ensures) (traced_first nothing_pending (record_in c.new-4.result) c.args.setup.sites c.new-4.ensures.records);
-      ends = λ q st e h ne. absurd (none_some (sym (ap (λ (r : Record). r.1) (c.new-4.ensures.records q)) ∙ h));
-      named = λ key bytes h. absurd (some_none (sym h ∙ ap (lookup (same_key key)) c.with_hasher.ensures.empty));
+      floor_known = ap (knows_floor c.new-3.result) c.new-5.ensures.floor;
+      covered = λ key. ap (knows_record c.new-3.result) (c.new-5.ensures.records key);
+      traced = subst (λ ring. Traced nothing_pending (record_in c.new-5.result) ring) (sym c.in-Ok-new.ensures) (traced_first nothing_pending (record_in c.new-5.result) c.args.setup.sites c.new-5.ensures.records);
+      ends = λ q st e h ne. absurd (none_some (sym (ap (λ (r : Record). r.1) (c.new-5.ensures.records q)) ∙ h));
+      named = λ key bytes h. absurd (some_none (sym h ∙ c.in-Ok-new-2.ensures.2.held key));
     }

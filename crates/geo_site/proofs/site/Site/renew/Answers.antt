@@ -1,6 +1,7 @@
-use Rattle.std.proofs.Common.{sym, subst, ◌≤◌, ◌≡◌, ◌+◌, ℕ, List, arith, ap, ◌∙◌, length}
+use Rattle.std.proofs.Common.{refl, sym, subst, ◌≤◌, ◌≡◌, ◌+◌, ℕ, List, arith, ap, ◌∙◌, length}
 use Rattle.std.specs.Prelude.{cond, Some, None, true}
-use Rattle.indexmap.specs.IndexMap.{get}
+use Rattle.geo_values.specs.Held.{stock_in}
+use Rattle.geo_site.proofs.Stocking.{stock_same}
 use Rattle.geo_stamp.specs.Stamps.{Moment}
 use Rattle.geo_stamp.specs.Vectors.{raised, greatest_of}
 use Rattle.geo_versions.specs.Keys.{same_key}
@@ -10,8 +11,8 @@ use Rattle.geo_site.specs.Entries.{Held}
 use Rattle.geo_site.specs.Machine.{knows_floor, knows_record}
 use Rattle.geo_site.proofs.Entries.{Within, length_raised}
 use Rattle.geo_site.proofs.Ending.{ends_put}
-use Rattle.geo_site.proofs.Noting.{traced_put}
 use Rattle.geo_site.proofs.Touching.{touch_floor, touch_covers, touch_bodies, touch_named, touch_same}
+use Rattle.geo_site.proofs.Noting.{traced_put}
 use Rattle.geo_site.proofs.site.Site.renew.Goals as goal
 
 pub invariant_of-self : goal.invariant_of-self
@@ -23,7 +24,7 @@ invariant_of-self c =
     let f' = floor_in c.touch.new.self in
     let map = record_in s.versions in
     let map' = record_in c.touch.new.self in
-    let held : Held = λ q. get same_key s.held q in
+    let held : Held = (stock_in s.values).held in
     let key = c.args.key.now in
     let e = c.args.expiry in
     let num : Within v n = record { above = s.numbered.0; below = s.numbered.1 } in
@@ -51,7 +52,7 @@ returns-clause-issued c =
     let f' = floor_in c.touch.new.self in
     let map = record_in s.versions in
     let map' = record_in c.touch.new.self in
-    let held : Held = λ q. get same_key s.held q in
+    let held : Held = (stock_in s.values).held in
     let key = c.args.key.now in
     let e = c.args.expiry in
     let num : Within v n = record { above = s.numbered.0; below = s.numbered.1 } in
@@ -59,8 +60,8 @@ returns-clause-issued c =
     let new : (q : List ℕ) → map' q ≡ cond {A = Record} (same_key q key) (above_both f (record_joined (map q) (None, Some (record { time = greatest_of v + 1; site = n }, e)))) (map q)
     = λ q. c.touch.ensures.records q ∙ (λ i. cond {A = Record} (same_key q key) (above_both f (record_joined (map q) (None, Some (c.requires.next i, e)))) (map q)) in
     let norm : (q : List ℕ) → above_both f (map q) ≡ map q = s.versions.above in
-    let same = touch_same v f f' map map' held n e key s.floor_known s.covered s.named norm num c.touch.ensures.floor new in
-    record { vector = vec; floor = same.floor; map = same.map; held = same.held }
+    let same = touch_same v f f' map map' held n e key s.floor_known s.covered s.named norm num c.touch.ensures.floor new (stock_in s.values) (stock_in s.values) refl (stock_same (stock_in s.values)) in
+    record { vector = vec; floor = same.floor; map = same.map; stock = same.stock }
 
 pub returns-clause-bodies : goal.returns-clause-bodies
 returns-clause-bodies c = λ q.
@@ -71,7 +72,7 @@ returns-clause-bodies c = λ q.
     let f' = floor_in c.touch.new.self in
     let map = record_in s.versions in
     let map' = record_in c.touch.new.self in
-    let held : Held = λ q. get same_key s.held q in
+    let held : Held = (stock_in s.values).held in
     let key = c.args.key.now in
     let e = c.args.expiry in
     let num : Within v n = record { above = s.numbered.0; below = s.numbered.1 } in

@@ -1,10 +1,10 @@
 use Rattle.std.proofs.Common.{◌≡◌, ℕ, List, refl, ap, ◌∙◌}
 use Rattle.geo_site.specs.Sites.{state_in, delta_of}
+use Rattle.geo_site.proofs.Stocking.{stock_same}
 use Rattle.geo_site.proofs.Taking.{take_from_same}
 use Rattle.geo_versions.specs.Maps.{record_in}
 use Rattle.geo_site.proofs.Noting.{traced_same, covers_same, ends_same, named_same}
-use Rattle.indexmap.specs.IndexMap.{get}
-use Rattle.geo_versions.specs.Keys.{same_key}
+use Rattle.geo_values.specs.Held.{stock_in}
 use Rattle.geo_site.specs.Machine.{knows_floor}
 use Rattle.geo_site.proofs.site.Site.take.Goals as goal
 
@@ -13,7 +13,7 @@ returns-clause-does c =
     let ready = c.ready_records.ensures in (
       c.in_default.ensures,
       take_from_same c.args.self.now.number (delta_of c.args.parcel) (state_in c.args.self.now) _ (state_in c.join.new.self)
-          (record { vector = refl; floor = ready.floor; map = ready.records; held = λ q. refl }) c.join.ensures.joined,
+          (record { vector = refl; floor = ready.floor; map = ready.records; stock = stock_same _ }) c.join.ensures.joined,
       c.join.ensures.rose,
       c.join.ensures.dropped,
       c.join.ensures.stays.2 ∙ c.heard.ensures,
@@ -31,7 +31,7 @@ invariant_of-self c =
       covered = covers_same map new same s.vector s.covered;
       traced = traced_same map new s.changes same s.traced;
       ends = ends_same map new same s.earliest s.ends;
-      named = named_same map new same (λ q. get same_key s.held q) (λ q. get same_key s.held q) (λ q. refl) s.named;
+      named = named_same map new same (stock_in s.values).held (stock_in s.values).held (λ q. refl) s.named;
     }
 
 pub invariant_of-self-2 : goal.invariant_of-self-2
@@ -46,5 +46,5 @@ invariant_of-self-2 c =
       covered = covers_same map new same s.vector s.covered;
       traced = traced_same map new s.changes same s.traced;
       ends = ends_same map new same s.earliest s.ends;
-      named = named_same map new same (λ q. get same_key s.held q) (λ q. get same_key s.held q) (λ q. refl) s.named;
+      named = named_same map new same (stock_in s.values).held (stock_in s.values).held (λ q. refl) s.named;
     }

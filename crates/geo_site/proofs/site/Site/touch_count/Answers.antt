@@ -1,8 +1,8 @@
-use Rattle.std.proofs.Common.{ℕ, true, cond, arith, length, take, ap, ◌∙◌}
-use Rattle.std.proofs.lemmas.List.{length-append, length-take}
+use Rattle.std.proofs.Common.{ℕ, List, true, cond, arith, length, take, ap, ◌∙◌}
+use Rattle.std.proofs.lemmas.List.{length-append, length-take, take_all}
 use Rattle.geo_site.specs.Entries.{touched_of, found_after}
 use Rattle.geo_site.specs.Machine.{visible_in}
-use Rattle.geo_site.specs.Sites.{state_in}
+use Rattle.geo_site.specs.Sites.{state_in, touched_in}
 use Rattle.geo_site.proofs.Fetching.{touched_next, touched_at_most}
 use Rattle.geo_site.proofs.site.Site.touch_count.Goals.{then-is_found, else-is_found}
 use Rattle.geo_site.proofs.site.Site.touch_count.Goals as goal
@@ -14,7 +14,7 @@ overflow_add-count c =
     let t = length-take c.loop-index.index c.args.keys.now in
     let i = c.loop-index.invariant true in
     let lt = c.loop-index-test.true in
-    omega (arith, m, t, i, lt, c.loop-index.end-fits)
+    omega (arith, m, t, i, lt)
 
 pub loop-index-preserved : goal.loop-index-preserved
 loop-index-preserved c = λ numbers.
@@ -29,3 +29,6 @@ loop-index-preserved c = λ numbers.
       | then-is_found w ↦ let n = ap (λ t. cond {A = ℕ} t 1 0) w.if-is_found.true in let e = w.count-is in omega (arith, next, i, one, n, e)
       | else-is_found w ↦ let n = ap (λ t. cond {A = ℕ} t 1 0) w.if-is_found.false in let e = w.count-is in omega (arith, next, i, one, n, e)
     ]
+
+pub returns : goal.returns
+returns c = λ numbers. c.loop-index.invariant numbers ∙ ap (λ (keys : List (List ℕ)). length (touched_in c.args.self.now c.args.now c.args.expiry keys numbers)) (take_all c.loop-index.index c.args.keys.now c.loop-index-test.false)

@@ -1,10 +1,10 @@
-use Rattle.std.proofs.Common.{◌≡◌, ◌∙◌, ◌+◌, cond, sym, subst, arith}
+use Rattle.std.proofs.Common.{◌≡◌, ◌∙◌, ◌+◌, cond, None, sym, subst, arith}
 use Rattle.geo_values.specs.Stock.{Same, dropped}
 use Rattle.geo_values.specs.Held.{count_in}
 use Rattle.geo_values.specs.Links.{Kept, links_of, links_in, kept_in, stock_of}
 use Rattle.geo_values.proofs.Found.{counted}
 use Rattle.geo_values.proofs.Linked.{can_go_if_any, held_some}
-use Rattle.geo_values.proofs.Relisted.{linked-takes_out, stock-takes_out}
+use Rattle.geo_values.proofs.Relisted.{linked-takes_out, stock-takes_out, absent-takes_out}
 use Rattle.geo_values.proofs.values.Values.drop_key.Goals as goal
 
 pub take_out-requires-clause-goes : goal.take_out-requires-clause-goes
@@ -19,6 +19,10 @@ returns-clause-was c = rw (← c.self.view_is) (c.take_out.ensures.was ∙ sym (
 pub returns-clause-dropped : goal.returns-clause-dropped
 returns-clause-dropped c =
     subst (λ (k : Kept). Same (dropped c.args.key.now (stock_of (links_of k))) (stock_of (links_in c.take_out.new.self))) c.self.view_is (stock-takes_out _ c.self.invariant.1 c.args.key.now c.take_out.ensures.out)
+
+pub returns-clause-absent : goal.returns-clause-absent
+returns-clause-absent c =
+    subst (λ (k : Kept). (stock_of (links_of k)).held c.args.key.now ≡ None → Same (stock_of (links_of k)) (stock_of (links_in c.take_out.new.self))) c.self.view_is (λ none. absent-takes_out _ c.self.invariant.1 c.args.key.now none c.take_out.ensures.out)
 
 pub returns-clause-counts : goal.returns-clause-counts
 returns-clause-counts c =

@@ -4,12 +4,12 @@ use Rattle.geo_slabs.specs.Storage.{held_in}
 use Rattle.geo_values.specs.Stock.{with_digest}
 use Rattle.geo_values.specs.Held.{stock_in}
 use Rattle.geo_values.specs.Links.{Kept, links_in}
-use Rattle.geo_values.proofs.Found.{not_true, not_false, digest_tells}
+use Rattle.geo_values.proofs.Found.{not_true, not_false, digest_tells, held_fits}
 use Rattle.geo_values.proofs.Linked.{holds_some}
 use Rattle.geo_values.proofs.values.Values.get.Goals as goal
 
-pub returns-then-ne : goal.returns-then-ne
-returns-then-ne c =
+pub returns-then-ne-clause-got : goal.returns-then-ne-clause-got
+returns-then-ne-clause-got c =
     let differs = not_true (bytes_eq c.in_ok-item.item.now.digest c.args.digest.now) (sym c.ne.ensures ∙ c.if-ne.true) in
     let tells = digest_tells (links_in c.self.inside.parts) c.self.invariant.1 c.args.key.now c.args.digest.now c.in_ok-item.item.now (sym c.in_ok-item.ensures.value) in
     subst (λ (k : Kept). None ≡ with_digest c.args.digest.now ((stock_in k).held c.args.key.now)) c.self.view_is
@@ -18,9 +18,12 @@ returns-then-ne c =
 pub bytes-requires : goal.bytes-requires
 bytes-requires c = holds_some c.self.invariant.1 c.args.key.now c.in_ok-item.item.now (sym c.in_ok-item.ensures.value)
 
-pub returns : goal.returns
-returns c =
+pub returns-clause-got : goal.returns-clause-got
+returns-clause-got c =
     let same = not_false (bytes_eq c.in_ok-item.item.now.digest c.args.digest.now) (sym c.ne.ensures ∙ c.if-ne.false) in
     let tells = digest_tells (links_in c.self.inside.parts) c.self.invariant.1 c.args.key.now c.args.digest.now c.in_ok-item.item.now (sym c.in_ok-item.ensures.value) in
     subst (λ (k : Kept). Some c.bytes.result.now ≡ with_digest c.args.digest.now ((stock_in k).held c.args.key.now)) c.self.view_is
     (sym (tells ∙ ap (λ b. cond {A = Option (List ℕ)} b (held_in c.self.inside.parts.slabs c.in_ok-item.item.now.chunk) None) same ∙ c.bytes.ensures))
+
+pub returns-clause-fits : goal.returns-clause-fits
+returns-clause-fits c = held_fits (links_in c.self.inside.parts) c.self.invariant.1 c.args.key.now c.in_ok-item.item.now (sym c.in_ok-item.ensures.value) c.bytes.result.now c.bytes.ensures

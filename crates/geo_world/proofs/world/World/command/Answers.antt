@@ -1,22 +1,43 @@
-use Rattle.std.proofs.Common.{◌-◌, length, arith}
+use Rattle.std.proofs.Common.{◌-◌, None, length, refl, arith}
+use Rattle.geo_grammar.specs.declared.reply.Reply.TheVariants.{OutOfMemory}
 use Rattle.geo_world.proofs.Worlds.{there_is, read_is}
-use Rattle.geo_world.proofs.Answering.{command_lawful, command_agrees}
+use Rattle.geo_world.proofs.Answering.{command_lawful, command_agrees, for_itself}
 use Rattle.geo_world.proofs.world.World.command.Goals as goal
 
-pub returns-clause-lawful : goal.returns-clause-lawful
-returns-clause-lawful c = λ w agrees.
+pub returns-in-Ok-clause-lawful : goal.returns-in-Ok-clause-lawful
+returns-in-Ok-clause-lawful c = λ w agrees.
     let n = length c.args.self.now.sites.items in
     let there = there_is n c.args.site c.requires.there in
     let lo = there.first in
     let hi = there.last in
     let got = read_is c.args.self.now.sites.items (c.args.site - 1) c.index_mut-at.result.now (omega arith) c.index_mut-at.ensures.value in
-    command_lawful _ _ w agrees (c.args.site - 1) c.args.site c.args.now (omega arith) hi c.index_mut-at.result.now c.act.new.self got c.args.request.now c.act.result c.act.ensures.does
+    let e = c.in-Ok.ensures.does in
+    command_lawful _ _ w agrees (c.args.site - 1) c.args.site c.args.now (omega arith) hi c.index_mut-at.result.now c.act_full.new.self got c.args.request.now c.in-Ok.acted.reply c.in-Ok.acted.victim e.does e.told.victim
 
-pub returns-clause-kept : goal.returns-clause-kept
-returns-clause-kept c = λ w agrees.
+pub returns-in-Ok-clause-kept : goal.returns-in-Ok-clause-kept
+returns-in-Ok-clause-kept c = λ w agrees.
     let n = length c.args.self.now.sites.items in
     let there = there_is n c.args.site c.requires.there in
     let lo = there.first in
     let hi = there.last in
     let got = read_is c.args.self.now.sites.items (c.args.site - 1) c.index_mut-at.result.now (omega arith) c.index_mut-at.ensures.value in
-    command_agrees _ _ w agrees (c.args.site - 1) c.args.site c.args.now (omega arith) hi c.index_mut-at.result.now c.act.new.self got c.args.request.now c.act.result c.act.ensures.does
+    let e = c.in-Ok.ensures.does in
+    command_agrees _ _ w agrees (c.args.site - 1) c.args.site c.args.now (omega arith) hi c.index_mut-at.result.now c.act_full.new.self got c.args.request.now c.in-Ok.acted.reply c.in-Ok.acted.victim e.does e.told.victim
+
+pub returns-in-Err-clause-lawful : goal.returns-in-Err-clause-lawful
+returns-in-Err-clause-lawful c = λ w agrees.
+    let n = length c.args.self.now.sites.items in
+    let there = there_is n c.args.site c.requires.there in
+    let lo = there.first in
+    let hi = there.last in
+    let got = read_is c.args.self.now.sites.items (c.args.site - 1) c.index_mut-at.result.now (omega arith) c.index_mut-at.ensures.value in
+    command_lawful _ _ w agrees (c.args.site - 1) c.args.site c.args.now (omega arith) hi c.index_mut-at.result.now c.act_full.new.self got c.args.request.now OutOfMemory None (for_itself c.index_mut-at.result.now c.act_full.new.self c.args.now c.args.request.now c.in-Err.ensures.does) refl
+
+pub returns-in-Err-clause-kept : goal.returns-in-Err-clause-kept
+returns-in-Err-clause-kept c = λ w agrees.
+    let n = length c.args.self.now.sites.items in
+    let there = there_is n c.args.site c.requires.there in
+    let lo = there.first in
+    let hi = there.last in
+    let got = read_is c.args.self.now.sites.items (c.args.site - 1) c.index_mut-at.result.now (omega arith) c.index_mut-at.ensures.value in
+    command_agrees _ _ w agrees (c.args.site - 1) c.args.site c.args.now (omega arith) hi c.index_mut-at.result.now c.act_full.new.self got c.args.request.now OutOfMemory None (for_itself c.index_mut-at.result.now c.act_full.new.self c.args.now c.args.request.now c.in-Err.ensures.does) refl

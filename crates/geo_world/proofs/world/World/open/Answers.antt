@@ -24,7 +24,7 @@ loop-setup-preserved c =
     record {
       many = let l = ap length items in let a = length-append c.loop-setup.sites.items (c.in-Ok-new.site ∷ []) in let h = inv.many in omega (arith, l, a, h);
       each = subst (λ ys. (j number : ℕ) (site : Site) → number ≡ j + 1 → slice_get ys j ≡ Some site → Silent n number site (limits_of xs number)) (sym items)
-          (each_more (limits_of xs) n i c.loop-setup.sites.items c.in-Ok-new.site inv.many inv.each (subst (λ k. Silent n k c.in-Ok-new.site (limits_of xs k)) m (silent_of n (1 + i) _ _ (limits_of xs (1 + i)) _ c.in-Ok-new.site e.3 e.4 e.5 e.6 e.7 e.8 e.0.1 (numbered_get n 1 xs i _ all lt).site (numbered_get n 1 xs i _ all lt).sites_are (limits_read xs i _ lt ∙ ap (limits_at xs) place))));
+          (each_more (limits_of xs) n i c.loop-setup.sites.items c.in-Ok-new.site inv.many inv.each (subst (λ k. Silent n k c.in-Ok-new.site (limits_of xs k)) m (silent_of n (1 + i) _ _ _ (limits_of xs (1 + i)) _ c.in-Ok-new.site e.4 e.5 e.6 e.7 e.8 e.9 e.0.1 (numbered_get n 1 xs i _ all lt).site (numbered_get n 1 xs i _ all lt).sites_are (limits_read xs i _ lt ∙ ap (limits_at xs) place))));
     }
 
 pub returns : goal.returns

@@ -1,0 +1,22 @@
+use Rattle.std.proofs.Common.{◌-◌, length, arith}
+use Rattle.geo_world.proofs.Worlds.{there_is, read_is}
+use Rattle.geo_world.proofs.Answering.{evict_lawful, evict_agrees}
+use Rattle.geo_world.proofs.world.World.evict.Goals as goal
+
+pub returns-clause-lawful : goal.returns-clause-lawful
+returns-clause-lawful c = λ w agrees.
+    let n = length c.args.self.now.sites.items in
+    let there = there_is n c.args.site c.requires.there in
+    let lo = there.first in
+    let hi = there.last in
+    let got = read_is c.args.self.now.sites.items (c.args.site - 1) c.index_mut-at.result.now (omega arith) c.index_mut-at.ensures.value in
+    evict_lawful _ _ w agrees (c.args.site - 1) c.args.site (omega arith) hi c.index_mut-at.result.now c.evict.new.self got c.args.key.now c.evict.result c.evict.ensures
+
+pub returns-clause-kept : goal.returns-clause-kept
+returns-clause-kept c = λ w agrees.
+    let n = length c.args.self.now.sites.items in
+    let there = there_is n c.args.site c.requires.there in
+    let lo = there.first in
+    let hi = there.last in
+    let got = read_is c.args.self.now.sites.items (c.args.site - 1) c.index_mut-at.result.now (omega arith) c.index_mut-at.ensures.value in
+    evict_agrees _ _ w agrees (c.args.site - 1) c.args.site (omega arith) hi c.index_mut-at.result.now c.evict.new.self got c.args.key.now c.evict.result c.evict.ensures
