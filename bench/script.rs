@@ -69,7 +69,7 @@ fn make(out: &mut impl Write, keys: u32, sites: u32, ends: bool, commands: u32) 
     let data = "x".repeat(100);
     let exptime = |number: u32| if ends { 1 + number % 1_000 } else { 0 };
     let mut sent = 0;
-    writeln!(out, "sites {sites} max 1000000")?;
+    writeln!(out, "sites {sites} pages 160 max 1000000")?;
     writeln!(out, "at 100")?;
     for number in 0..keys {
         writeln!(out, "client {} set key:{number:08} 0 {} 100\\r\\n{data}\\r\\n", site_of(number, sites), exptime(number))?;
