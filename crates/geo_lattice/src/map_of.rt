@@ -160,7 +160,8 @@ impl<K: Twin + Eq + Hash, L: Bottom> MapOf<K, L> {
 
     /// Changes each value, and drops those that are empty then. It takes no memory.
     pub fn change_all<C: Change<L>>(&mut self, by: &C)
-        ensures { (q : K) → meaning_at L.least L.meaning K.eq self.new q ≡ meaning_at L.least (λ v. L.meaning (C.changed by.now v)) K.eq self.old q }
+        ensures changed { (q : K) → meaning_at L.least L.meaning K.eq self.new q ≡ meaning_at L.least (λ v. L.meaning (C.changed by.now v)) K.eq self.old q }
+        ensures no_more { length self.new.entries ≤ length self.old.entries }
     {
         // Its contract has that no two keys are equal.
         let _count = self.entries.len();

@@ -1,2 +1,3 @@
 pub mod Vectors
 pub mod Joins
+pub mod Heard

@@ -1,5 +1,5 @@
 -- Vectors of clocks: the entry of site j stands at index j - 1, and one that is missing is 0.
-use Rattle.std.specs.Prelude.{◌≡◌, ℕ, zero, suc, ◌≤◌, max, List, [], ◌∷◌, length, slice_index, slice_set}
+use Rattle.std.specs.Prelude.{◌≡◌, ℕ, zero, suc, ◌≤◌, max, min, List, [], ◌∷◌, length, slice_index, slice_set}
 use Rattle.geo_stamp.specs.Stamps.{Moment, last_time}
 
 abbrev pub entry_of : List ℕ → ℕ → ℕ
@@ -21,6 +21,11 @@ vector_joined (x ∷ xs) (y ∷ ys) = max x y ∷ vector_joined xs ys
 abbrev pub greatest_of : List ℕ → ℕ
 greatest_of [] = 0
 greatest_of (x ∷ xs) = max x (greatest_of xs)
+
+-- the least entry, or the last time where there is none
+abbrev pub least_of : List ℕ → ℕ
+least_of [] = last_time
+least_of (x ∷ xs) = min x (least_of xs)
 
 -- one entry raised
 abbrev pub raised : List ℕ → ℕ → ℕ → List ℕ

@@ -1,7 +1,8 @@
 //! What a site last heard of the other sites' vectors.
 ghost use Rattle.std.specs.Prelude.{◌≡◌, ℕ, ◌≤◌, length};
-ghost use Rattle.geo_stamp.specs.Acks.{row_of, heard, none_heard};
+ghost use Rattle.geo_stamp.specs.Acks.{row_of, heard, none_heard, horizon_of};
 
+use crate::stamp::LAST_TIME;
 use crate::vector::Vector;
 use geo_lattice::Lattice;
 use std::marker::Model;
@@ -68,5 +69,24 @@ impl Acks {
         ensures { self.new ≡ heard self.old site vector.now }
     {
         self.rows[site as usize - 1].join(vector.copied());
+    }
+
+    /// The horizon of a site, 1 to 16, that knows so much: the least entry of its own vector and of what was heard of all others. All
+    /// sites know each operation up to this time, and none issues another one (Almeida et al. 2018). It takes no memory.
+    pub fn horizon(&self, own: u8, vector: &Vector) -> u64
+        requires first { 1 ≤ own }
+        requires last { own ≤ 16 }
+        ensures { result ≡ horizon_of self.now own vector.now }
+    {
+        let mut least = LAST_TIME;
+        for at in 0..vector.sites() {
+            let known = if at + 1 == own as usize {
+                vector
+            } else {
+                &self.rows[at]
+            };
+            least = least.min(known.least());
+        }
+        least
     }
 }

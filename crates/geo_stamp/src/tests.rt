@@ -78,3 +78,31 @@ fn what_is_heard_is_joined_into_the_row_of_its_site(rt: HostRuntime) -> Result<(
     assert_eq!(rt; acks.row(16).sites(), 2);
     Ok(())
 }
+
+/// A vector of three clocks.
+fn clocks(one: u64, two: u64, three: u64) -> Vector {
+    let mut vector = Vector::new(3);
+    vector.raise(1, one);
+    vector.raise(2, two);
+    vector.raise(3, three);
+    vector
+}
+
+#[test]
+fn the_horizon_is_the_least_that_any_site_knows_of_any(rt: HostRuntime) {
+    let own = clocks(7, 6, 9);
+    assert_eq!(rt; own.least(), 6);
+    assert_eq!(rt; Vector::new(2).least(), 0);
+    let mut acks = Acks::new(3);
+    assert_eq!(rt; acks.horizon(2, &own), 0);
+    acks.heard(1, &clocks(8, 5, 9));
+    assert_eq!(rt; acks.horizon(2, &own), 0);
+    acks.heard(3, &clocks(4, 8, 9));
+    assert_eq!(rt; acks.horizon(2, &own), 4);
+    acks.heard(3, &clocks(5, 8, 9));
+    assert_eq!(rt; acks.horizon(2, &own), 5);
+    assert_eq!(rt; acks.horizon(2, &clocks(7, 6, 3)), 3);
+    // What was heard of itself counts for nothing.
+    acks.heard(2, &clocks(1, 1, 1));
+    assert_eq!(rt; acks.horizon(2, &own), 5);
+}

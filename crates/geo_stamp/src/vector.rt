@@ -1,6 +1,6 @@
 //! What a site knows of each site's clock.
 ghost use Rattle.std.specs.Prelude.{◌≡◌, ℕ, ◌≤◌, ◌↔◌, max, length, slice_index, IsTrue, IfOk, List, take};
-ghost use Rattle.geo_stamp.specs.Vectors.{entry_of, zeros, vector_joined, greatest_of, raised, Knows};
+ghost use Rattle.geo_stamp.specs.Vectors.{entry_of, zeros, vector_joined, greatest_of, least_of, raised, Knows};
 
 use crate::stamp::{LAST_TIME, Stamp};
 use geo_lattice::{Flat, Lattice, Twin};
@@ -76,6 +76,19 @@ impl Vector {
             }
         }
         top
+    }
+
+    /// The least entry, 2^56 - 1 where there is none.
+    pub fn least(&self) -> u64
+        ensures least { result ≡ least_of self.now }
+        ensures range { result ≤ LAST_TIME }
+    {
+        let clocks = &self.entries[..self.sites];
+        let mut least = LAST_TIME;
+        for clock in clocks {
+            least = least.min(*clock);
+        }
+        least
     }
 
     /// Raises the entry of a site to a time of at most 2^56 - 1, where it is lower. A site without an entry gets none.
