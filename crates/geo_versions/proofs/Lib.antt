@@ -2,3 +2,4 @@ pub mod Meaning
 pub mod Cut
 pub mod Listed
 pub mod InOrder
+pub mod Sifting

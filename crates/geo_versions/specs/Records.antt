@@ -1,5 +1,5 @@
 -- What the code's records mean, in the words of operations.
-use Rattle.std.specs.Prelude.{◌≡◌, ℕ, Bool, false, cond, not, ◌&&◌, ◌||◌, ◌==◌, nat_le, nat_lt, List, [], ◌∷◌, Option, None, Some, is_some}
+use Rattle.std.specs.Prelude.{◌≡◌, ℕ, Bool, true, false, cond, not, ◌&&◌, ◌||◌, ◌==◌, nat_le, nat_lt, List, [], ◌∷◌, Option, None, Some, is_some}
 use Rattle.std.specs.Ordering.{nat_cmp}
 use Rattle.std.specs.Cmp.Lexicographic.{slice_cmp}
 use Rattle.std.specs.declared.cmp.Ordering.TheVariants.{Less}
@@ -10,7 +10,7 @@ use Rattle.geo_lattice.specs.declared.pair.Pair.{Pair}
 use Rattle.geo_stamp.specs.Stamps.{Moment}
 use Rattle.geo_stamp.specs.Vectors.{entry_of}
 use Rattle.geo_versions.specs.Keys.{same_key}
-use Rattle.geo_versions.specs.Operations.{Record, Register, record_joined, above}
+use Rattle.geo_versions.specs.Operations.{Record, Register, record_joined, above, version_in}
 use Rattle.geo_versions.specs.declared.body.Body.{Body}
 use Rattle.geo_versions.specs.declared.version.Version.{Version}
 
@@ -53,6 +53,38 @@ rec_since base r = cond (is_unknown base r.left.register || is_unknown base r.ri
 abbrev pub has_ended : ℕ → ℕ → Option Version → Bool
 has_ended site before None = false
 has_ended site before (Some v) = (v.stamp.site == site) && (not (v.expiry == 0) && nat_lt v.expiry before)
+
+-- a register of which the time is at or below a horizon, which every site knows already
+abbrev pub is_old : {A : Type 0} → ℕ → Register A → Bool
+is_old horizon None = true
+is_old horizon (Some r) = nat_le r.0.time horizon
+
+-- the register, where it is not old
+abbrev pub recent : {A : Type 0} → ℕ → Register A → Register A
+recent horizon r = cond (is_old horizon r) None r
+
+-- the record, without its old registers
+abbrev pub recent_both : ℕ → Record → Record
+recent_both horizon r = (recent horizon r.0, recent horizon r.1)
+
+abbrev pub rec_recent : ℕ → Rec → Rec
+rec_recent horizon r = record { left = record { register = recent horizon r.left.register }; right = record { register = recent horizon r.right.register } }
+
+-- listed records without their old registers, and without those that are left with none
+abbrev pub sifted : ℕ → List (List ℕ × Rec) → List (List ℕ × Rec)
+sifted horizon [] = []
+sifted horizon (e ∷ es) = cond (has_register (rec_means (rec_recent horizon e.1))) ((e.0, rec_recent horizon e.1) ∷ sifted horizon es) (sifted horizon es)
+
+-- whether a record has no version, and no register that isn't old
+abbrev pub is_over : ℕ → Record → Bool
+is_over horizon r = not (is_some (version_in r)) && (is_old horizon r.0 && is_old horizon r.1)
+
+-- the record, where it isn't over
+abbrev pub remaining : ℕ → Record → Record
+remaining horizon r = cond (is_over horizon r) (None, None) r
+
+abbrev pub rec_remaining : ℕ → Rec → Rec
+rec_remaining horizon r = cond (is_over horizon (rec_means r)) (record { left = record { register = None }; right = record { register = None } }) r
 
 -- each key is greater than the one before it, byte by byte
 abbrev pub Above : {V : Type 0} → List ℕ → List (List ℕ × V) → Type 0

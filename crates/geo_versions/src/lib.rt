@@ -9,6 +9,7 @@ pub mod digest;
 mod floor;
 pub mod key;
 pub mod laws;
+mod removal;
 mod rising;
 mod shown;
 #[cfg(test)]
@@ -19,6 +20,7 @@ pub mod versions;
 pub use body::{Body, Rec};
 pub use digest::Digest;
 pub use key::Key;
+pub use removal::sift;
 pub use rising::are_rising;
 pub use version::Version;
 pub use versions::Versions;

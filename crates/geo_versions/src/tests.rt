@@ -1,5 +1,5 @@
 //! Each public call once, with ample memory. What several tests do stands in functions of its own: short bodies are proved faster.
-use crate::{Body, Digest, Key, Rec, Version, Versions, are_rising};
+use crate::{Body, Digest, Key, Rec, Version, Versions, are_rising, sift};
 use geo_lattice::{Lattice, Lww, Pair, Twin};
 use geo_stamp::{Stamp, Vector};
 use std::alloc::Global;
@@ -404,5 +404,72 @@ fn keys_rise_where_none_is_listed_twice(rt: HostRuntime) -> Result<(), Fail> {
         let records = of_keys(rt.alloc(), names)?;
         assert_eq!(rt; are_rising(records.as_slice()), rising, "{}", names.len());
     }
+    Ok(())
+}
+
+/// A write at 2, one at 5 whose key was touched at 9, and a delete at 3 of site 2.
+fn three_to_sift(alloc: Global) -> Result<Vec<(Key, Rec)>, Fail> {
+    let mut records = Vec::new(alloc);
+    records.push((key(alloc, b"a")?, written((2, 1), value(1, 0, 1), 0)?))?;
+    let touched = Pair {
+        left: Lww::of(stamp((5, 1))?, value(2, 0, 1)),
+        right: Lww::of(stamp((9, 2))?, 70),
+    };
+    records.push((key(alloc, b"b")?, touched))?;
+    records.push((key(alloc, b"c")?, written((3, 2), Body::Gone, 0)?))?;
+    Ok(records)
+}
+
+/// The keys of what is left above a horizon, and how many registers they have.
+fn sifted(alloc: Global, horizon: u64) -> Result<(Vec<u8>, usize), Fail> {
+    let mut records = three_to_sift(alloc)?;
+    sift(&mut records, horizon);
+    let mut keys = Vec::new(alloc);
+    let mut registers = 0usize;
+    for (name, rec) in &records {
+        keys.extend_from_slice(name.bytes())?;
+        let both = rec.left.get().is_some() as usize + rec.right.get().is_some() as usize;
+        registers = registers.saturating_add(both);
+    }
+    Ok((keys, registers))
+}
+
+#[test]
+fn what_is_behind_the_horizon_is_sifted(rt: HostRuntime) -> Result<(), Fail> {
+    let alloc = rt.alloc();
+    for (horizon, keys, registers) in [
+        (1, "abc", 6),
+        (2, "bc", 4),
+        (3, "b", 2),
+        (5, "b", 1),
+        (8, "b", 1),
+        (9, "", 0),
+    ] {
+        let (left, many) = sifted(alloc, horizon)?;
+        assert_eq!(rt; left.as_slice(), keys.as_bytes());
+        assert_eq!(rt; many, registers);
+    }
+    Ok(())
+}
+
+/// A value, a delete at 3, and one at 5.
+fn two_deleted(alloc: Global, known: &mut Versions) -> Result<(), Fail> {
+    write(alloc, known, b"a", (2, 1), value(1, 0, 1), 0)?;
+    write(alloc, known, b"b", (3, 2), Body::Gone, 0)?;
+    write(alloc, known, b"c", (5, 1), Body::Gone, 0)
+}
+
+#[test]
+fn what_is_deleted_is_removed_below_the_horizon(rt: HostRuntime) -> Result<(), Fail> {
+    let alloc = rt.alloc();
+    let mut known = Versions::new(alloc, RandomState::new(&rt)?);
+    two_deleted(alloc, &mut known)?;
+    assert_eq!(rt; known.remove_below(2), 0);
+    assert_eq!(rt; known.len(), 3);
+    assert_eq!(rt; known.remove_below(3), 1);
+    assert!(rt; known.record(&key(alloc, b"b")?).is_none());
+    assert_eq!(rt; known.remove_below(9), 1);
+    assert_eq!(rt; known.len(), 1);
+    assert!(rt; version(alloc, &known, b"a")?.is_some());
     Ok(())
 }

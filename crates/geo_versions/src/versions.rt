@@ -5,6 +5,7 @@ ghost use Rattle.geo_versions.specs.Normal.{IsNormal, normal_prop};
 use crate::body::{Body, Rec};
 use crate::floor::{AboveFloor, counts, later};
 use crate::key::Key;
+use crate::removal::Remaining;
 use crate::shown::{Ended, Shown, UnknownTo, copied};
 use crate::version::{Version, shown_version};
 use geo_lattice::{Bottom, Change, Lattice, Lww, MapOf, Pair};
@@ -21,13 +22,13 @@ pub struct Versions {
 }
 
 impl Versions {
-    ghost use Rattle.std.specs.Prelude.{◌≡◌, ◌↔◌, List, ℕ, None, Some, IsSome, IsOk, OnOk, OnErr, IfOk, MatchOption, true, false, cond, option_copied, length, Bool};
+    ghost use Rattle.std.specs.Prelude.{◌≡◌, ◌+◌, ◌↔◌, List, ℕ, None, Some, IsSome, IsOk, OnOk, OnErr, IfOk, MatchOption, true, false, cond, option_copied, length, Bool};
     ghost use Rattle.std.specs.List.{All, IsDistinct, list_any};
     ghost use Rattle.std.specs.Map.{lookup};
     ghost use Rattle.geo_lattice.specs.Maps.{meaning_or};
     ghost use Rattle.geo_versions.specs.Keys.{same_key};
     ghost use Rattle.geo_versions.specs.Operations.{above_both, record_joined, floor_joined, version_in};
-    ghost use Rattle.geo_versions.specs.Maps.{floor_in, record_in, keys_in, count_in, has_register, HasRoomFor, rec_means, listed_at, since, has_ended, Rising};
+    ghost use Rattle.geo_versions.specs.Maps.{floor_in, record_in, keys_in, count_in, has_register, HasRoomFor, rec_means, listed_at, since, has_ended, remaining, Rising};
 
     /// Nothing known. It takes no memory.
     pub fn new(alloc: Global, hasher: RandomState) -> Versions
@@ -185,6 +186,18 @@ impl Versions {
             self.floor = above.floor;
             self.records.change_all(&above);
         }
+    }
+
+    /// Drops the records that have no version and no operation with a time above the horizon, up to which every site knows all, and
+    /// tells how many it dropped (stable operations: Almeida et al. 2018). It passes over all records and takes no memory.
+    pub fn remove_below(&mut self, horizon: u64) -> usize
+        ensures records { (q : List ℕ) → record_in self.new q ≡ remaining horizon (record_in self.old q) }
+        ensures floor { floor_in self.new ≡ floor_in self.old }
+        ensures counts { count_in self.new + result ≡ count_in self.old }
+    {
+        let before = self.records.len();
+        self.records.change_all(&Remaining { horizon });
+        before - self.records.len()
     }
 
     /// Copies of the records of which the vector does not know some register, by rising key (deltas: Almeida, Shoker and

@@ -10,7 +10,7 @@ pub returns-then-ne-clause-records : goal.returns-then-ne-clause-records
 returns-then-ne-clause-records c = λ q.
     joined_at_rise c.later.result (record_at c.args.self.now.records q) (record_at c.join_list.new.self q) (record_at c.change_all.new.self q) (listed_at c.args.records.items q) _
     (listed_above c.later.result c.args.records.items q) (c.join_list.ensures q)
-    (c.change_all.ensures q ∙ changed_above c.later.result (get same_key c.join_list.new.self q))
+    (c.change_all.ensures.changed q ∙ changed_above c.later.result (get same_key c.join_list.new.self q))
 
 pub returns-else-ne-clause-records : goal.returns-else-ne-clause-records
 returns-else-ne-clause-records c = λ q.

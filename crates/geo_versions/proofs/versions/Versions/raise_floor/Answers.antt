@@ -8,5 +8,5 @@ use Rattle.geo_versions.proofs.versions.Versions.raise_floor.Goals as goal
 pub invariant_of-self : goal.invariant_of-self
 invariant_of-self c = record {
   above = λ q. cut_normal c.later.result (record_at c.args.self.now.records q) (record_at c.change_all.new.self q)
-      (c.change_all.ensures q ∙ changed_above c.later.result (get same_key c.args.self.now.records q));
+      (c.change_all.ensures.changed q ∙ changed_above c.later.result (get same_key c.args.self.now.records q));
 }

@@ -14,7 +14,7 @@ returns-then-ne c =
     let joined = λ (q : List ℕ).
     joined_at_rise c.later.result (record_at v.records q) (record_at c.join_changed.new.self q) (record_at c.change_all.new.self q) (record_at w.records q) _
     (changed_above c.later.result (get same_key w.records q)) (c.join_changed.ensures q)
-    (c.change_all.ensures q ∙ changed_above c.later.result (get same_key c.join_changed.new.self q)) in
+    (c.change_all.ensures.changed q ∙ changed_above c.later.result (get same_key c.join_changed.new.self q)) in
     same_normal _ _ ((λ i. (c.later.result, λ q. joined q i)) ∙ (λ i. (c.later.ensures i, λ q. above_both (c.later.ensures i) (record_joined (record_at v.records q) (record_at w.records q)))))
 
 pub returns-else-ne : goal.returns-else-ne
