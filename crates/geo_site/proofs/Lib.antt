@@ -22,3 +22,4 @@ pub mod Outdated
 pub mod Noting
 pub mod Looking
 pub mod Telling
+pub mod Sifting

@@ -97,7 +97,7 @@ not_below q y = by (by_both stamp_cmp nat_cmp q y) refl
     by Equal e h = same h
     by Greater e h = same h
 
-time_of : (y z : Moment) → is_lt (stamp_cmp y z) ≡ false → z.time ≤ y.time
+pub time_of : (y z : Moment) → is_lt (stamp_cmp y z) ≡ false → z.time ≤ y.time
 time_of y z h = elim (cases_lt y.time z.time) [ inr le ↦ le | inl lt ↦ absurd (true≢false (sym (ap is_lt (earlier y z lt)) ∙ h)) ]
 
 -- an operation that leaves a body leaves an expiry

@@ -23,9 +23,9 @@ use Rattle.geo_grammar.specs.declared.stats.Stats.{Stats}
 use Rattle.geo_memcache.specs.Entries.{Entry, is_live, expiry_at}
 use Rattle.geo_memcache.specs.Decisions.{stores, deletes, touches, counts}
 use Rattle.geo_site.specs.declared.event.Event.{Event}
-use Rattle.geo_site.specs.declared.event.Event.TheVariants.{Command, Evict, Send, Take, Tick, Reap}
+use Rattle.geo_site.specs.declared.event.Event.TheVariants.{Command, Evict, Send, Take, Remove, Tick, Reap}
 use Rattle.geo_site.specs.declared.event.Trace.{Trace}
-use Rattle.geo_site.specs.declared.event.Trace.TheVariants.{Replied, Evicted, Sent, SendRefused, Taken, TakeRefused, Ticked, Reaped, ReapRefused}
+use Rattle.geo_site.specs.declared.event.Trace.TheVariants.{Replied, Evicted, Sent, SendRefused, Taken, TakeRefused, Removed, Ticked, Reaped, ReapRefused}
 use Rattle.geo_site.specs.Entries.{names, entry_in, renewed, found_at, found_of, found_after, touched_after, is_stuck, unique_if, cas_of, Basis, replied, issued, is_crowded, lacks, owed}
 use Rattle.geo_site.specs.Schedule.{Known, visible, basis, flushed, RepliesTo, RepliesBy, happens, known, Lawful, EachLawful}
 use Rattle.geo_site.specs.Served.{Written, NoCollision, ServedBy, EachServed, values_in, ReplyServes, TraceServes, AllServe}
@@ -170,20 +170,20 @@ module _ (w : Known) (s : ℕ) (sound : Sound w) (apart : NoCollision w) where
   serve_plain now stats request.Stats = tt
   serve_plain now stats Quit = tt
 
-  serve_owed : (now records items : ℕ) (request : Request) → ReplyServes w s (owed now (basis w s now records items) request)
-  serve_owed now records items request = by (is_crowded b (issued now (visible w s now) request)) (lacks (latest (w.at s)) (issued now (visible w s now) request))
+  serve_owed : (now : ℕ) (kept : List ℕ → Record) (records items : ℕ) (request : Request) → ReplyServes w s (owed now (basis w s now kept records items) request)
+  serve_owed now kept records items request = by (is_crowded b (issued now (visible w s now) request)) (lacks (latest (w.at s)) (issued now (visible w s now) request))
     where
       b : Basis
-      b = basis w s now records items
+      b = basis w s now kept records items
 
       by : (t u : Bool) → ReplyServes w s (cond t MapFull (cond u ClockEnded (replied now (visible w s now) b.stats request)))
       by true u = tt
       by false true = tt
-      by false false = serve_plain now (basis w s now records items).stats request
+      by false false = serve_plain now (basis w s now kept records items).stats request
 
   serve_reply : (now : ℕ) (request : Request) (reply : Reply) → RepliesTo w s now request reply → ReplyServes w s reply
   serve_reply now request reply h = elim h.answers [
-    | inl e ↦ subst (λ r. ReplyServes w s r) (sym e) (serve_owed now h.records h.items request)
+    | inl e ↦ subst (λ r. ReplyServes w s r) (sym e) (serve_owed now h.kept h.records h.items request)
     | inr e ↦ subst (λ r. ReplyServes w s r) (sym e.0) tt
   ]
 
@@ -202,6 +202,7 @@ serve_trace w (Command s now request) Sent sound apart h = tt
 serve_trace w (Command s now request) (SendRefused why) sound apart h = tt
 serve_trace w (Command s now request) Taken sound apart h = tt
 serve_trace w (Command s now request) (TakeRefused why) sound apart h = tt
+serve_trace w (Command s now request) (Removed horizon count) sound apart h = tt
 serve_trace w (Command s now request) (Ticked done) sound apart h = tt
 serve_trace w (Command s now request) (Reaped done) sound apart h = tt
 serve_trace w (Command s now request) (ReapRefused why) sound apart h = tt
@@ -211,6 +212,7 @@ serve_trace w (Evict s key) Sent sound apart h = tt
 serve_trace w (Evict s key) (SendRefused why) sound apart h = tt
 serve_trace w (Evict s key) Taken sound apart h = tt
 serve_trace w (Evict s key) (TakeRefused why) sound apart h = tt
+serve_trace w (Evict s key) (Removed horizon count) sound apart h = tt
 serve_trace w (Evict s key) (Ticked done) sound apart h = tt
 serve_trace w (Evict s key) (Reaped done) sound apart h = tt
 serve_trace w (Evict s key) (ReapRefused why) sound apart h = tt
@@ -220,6 +222,7 @@ serve_trace w (Send s to) Sent sound apart h = tt
 serve_trace w (Send s to) (SendRefused why) sound apart h = tt
 serve_trace w (Send s to) Taken sound apart h = tt
 serve_trace w (Send s to) (TakeRefused why) sound apart h = tt
+serve_trace w (Send s to) (Removed horizon count) sound apart h = tt
 serve_trace w (Send s to) (Ticked done) sound apart h = tt
 serve_trace w (Send s to) (Reaped done) sound apart h = tt
 serve_trace w (Send s to) (ReapRefused why) sound apart h = tt
@@ -229,15 +232,27 @@ serve_trace w (Take s p) Sent sound apart h = tt
 serve_trace w (Take s p) (SendRefused why) sound apart h = tt
 serve_trace w (Take s p) Taken sound apart h = tt
 serve_trace w (Take s p) (TakeRefused why) sound apart h = tt
+serve_trace w (Take s p) (Removed horizon count) sound apart h = tt
 serve_trace w (Take s p) (Ticked done) sound apart h = tt
 serve_trace w (Take s p) (Reaped done) sound apart h = tt
 serve_trace w (Take s p) (ReapRefused why) sound apart h = tt
+serve_trace w (Remove s) (Replied reply victim) sound apart h = absurd h
+serve_trace w (Remove s) (Evicted done) sound apart h = tt
+serve_trace w (Remove s) Sent sound apart h = tt
+serve_trace w (Remove s) (SendRefused why) sound apart h = tt
+serve_trace w (Remove s) Taken sound apart h = tt
+serve_trace w (Remove s) (TakeRefused why) sound apart h = tt
+serve_trace w (Remove s) (Removed horizon count) sound apart h = tt
+serve_trace w (Remove s) (Ticked done) sound apart h = tt
+serve_trace w (Remove s) (Reaped done) sound apart h = tt
+serve_trace w (Remove s) (ReapRefused why) sound apart h = tt
 serve_trace w (Tick s now) (Replied reply victim) sound apart h = absurd h
 serve_trace w (Tick s now) (Evicted done) sound apart h = tt
 serve_trace w (Tick s now) Sent sound apart h = tt
 serve_trace w (Tick s now) (SendRefused why) sound apart h = tt
 serve_trace w (Tick s now) Taken sound apart h = tt
 serve_trace w (Tick s now) (TakeRefused why) sound apart h = tt
+serve_trace w (Tick s now) (Removed horizon count) sound apart h = tt
 serve_trace w (Tick s now) (Ticked done) sound apart h = tt
 serve_trace w (Tick s now) (Reaped done) sound apart h = tt
 serve_trace w (Tick s now) (ReapRefused why) sound apart h = tt
@@ -247,6 +262,7 @@ serve_trace w (Reap s now key) Sent sound apart h = tt
 serve_trace w (Reap s now key) (SendRefused why) sound apart h = tt
 serve_trace w (Reap s now key) Taken sound apart h = tt
 serve_trace w (Reap s now key) (TakeRefused why) sound apart h = tt
+serve_trace w (Reap s now key) (Removed horizon count) sound apart h = tt
 serve_trace w (Reap s now key) (Ticked done) sound apart h = tt
 serve_trace w (Reap s now key) (Reaped done) sound apart h = tt
 serve_trace w (Reap s now key) (ReapRefused why) sound apart h = tt

@@ -8,9 +8,9 @@ use Rattle.geo_versions.specs.Operations.{Operation, Act, Among, version_of, lat
 use Rattle.geo_versions.specs.Operations.Act.{Write, Delete, Touch, Flush}
 use Rattle.geo_versions.specs.declared.version.Version.{Version}
 use Rattle.geo_site.specs.declared.event.Event.{Event}
-use Rattle.geo_site.specs.declared.event.Event.TheVariants.{Command, Evict, Send, Take, Tick, Reap}
+use Rattle.geo_site.specs.declared.event.Event.TheVariants.{Command, Evict, Send, Take, Remove, Tick, Reap}
 use Rattle.geo_site.specs.declared.event.Trace.{Trace}
-use Rattle.geo_site.specs.declared.event.Trace.TheVariants.{Replied, Evicted, Sent, SendRefused, Taken, TakeRefused, Ticked, Reaped, ReapRefused}
+use Rattle.geo_site.specs.declared.event.Trace.TheVariants.{Replied, Evicted, Sent, SendRefused, Taken, TakeRefused, Removed, Ticked, Reaped, ReapRefused}
 use Rattle.geo_site.specs.declared.setup.Limits.{Limits}
 use Rattle.geo_grammar.specs.declared.request.Request.{Request}
 use Rattle.geo_grammar.specs.declared.reply.Reply.{Reply}
@@ -183,7 +183,7 @@ sent_more [] x (suc p) op h = inl h
 sent_more (y ∷ xs) x zero op h = inl h
 sent_more (y ∷ xs) x (suc p) op h = sent_more xs x p op h
 
-pub sound_sends : (w : Known) (s to : ℕ) → Sound w → Sound (record { at = w.at; held = w.held; counts = w.counts; waiting = w.waiting; limits = w.limits; sent = w.sent ++ (to, w.at s) ∷ [] })
+pub sound_sends : (w : Known) (s to : ℕ) → Sound w → Sound (record { at = w.at; held = w.held; counts = w.counts; waiting = w.waiting; limits = w.limits; sites = w.sites; sent = w.sent ++ (to, w.at s) ∷ [] })
 sound_sends w s to sound = record {
   home = sound.home;
   home_sent = λ p op a. elim (sent_more w.sent (to, w.at s) p op a) [ inl x ↦ sound.home_sent p op x | inr x ↦ sound.home s op x ];
@@ -248,6 +248,7 @@ sound_happens w (Command s now request) Sent sound = sound
 sound_happens w (Command s now request) (SendRefused why) sound = sound
 sound_happens w (Command s now request) Taken sound = sound
 sound_happens w (Command s now request) (TakeRefused why) sound = sound
+sound_happens w (Command s now request) (Removed horizon count) sound = sound
 sound_happens w (Command s now request) (Ticked done) sound = sound
 sound_happens w (Command s now request) (Reaped done) sound = sound
 sound_happens w (Command s now request) (ReapRefused why) sound = sound
@@ -257,6 +258,7 @@ sound_happens w (Evict s key) Sent sound = sound
 sound_happens w (Evict s key) (SendRefused why) sound = sound
 sound_happens w (Evict s key) Taken sound = sound
 sound_happens w (Evict s key) (TakeRefused why) sound = sound
+sound_happens w (Evict s key) (Removed horizon count) sound = sound
 sound_happens w (Evict s key) (Ticked done) sound = sound
 sound_happens w (Evict s key) (Reaped done) sound = sound
 sound_happens w (Evict s key) (ReapRefused why) sound = sound
@@ -266,6 +268,7 @@ sound_happens w (Send s to) Sent sound = sound_sends w s to sound
 sound_happens w (Send s to) (SendRefused why) sound = sound
 sound_happens w (Send s to) Taken sound = sound
 sound_happens w (Send s to) (TakeRefused why) sound = sound
+sound_happens w (Send s to) (Removed horizon count) sound = sound
 sound_happens w (Send s to) (Ticked done) sound = sound
 sound_happens w (Send s to) (Reaped done) sound = sound
 sound_happens w (Send s to) (ReapRefused why) sound = sound
@@ -275,15 +278,27 @@ sound_happens w (Take s p) Sent sound = sound
 sound_happens w (Take s p) (SendRefused why) sound = sound
 sound_happens w (Take s p) Taken sound = sound_takes w s p sound
 sound_happens w (Take s p) (TakeRefused why) sound = sound
+sound_happens w (Take s p) (Removed horizon count) sound = sound
 sound_happens w (Take s p) (Ticked done) sound = sound
 sound_happens w (Take s p) (Reaped done) sound = sound
 sound_happens w (Take s p) (ReapRefused why) sound = sound
+sound_happens w (Remove s) (Replied reply victim) sound = sound
+sound_happens w (Remove s) (Evicted done) sound = sound
+sound_happens w (Remove s) Sent sound = sound
+sound_happens w (Remove s) (SendRefused why) sound = sound
+sound_happens w (Remove s) Taken sound = sound
+sound_happens w (Remove s) (TakeRefused why) sound = sound
+sound_happens w (Remove s) (Removed horizon count) sound = sound
+sound_happens w (Remove s) (Ticked done) sound = sound
+sound_happens w (Remove s) (Reaped done) sound = sound
+sound_happens w (Remove s) (ReapRefused why) sound = sound
 sound_happens w (Tick s now) (Replied reply victim) sound = sound
 sound_happens w (Tick s now) (Evicted done) sound = sound
 sound_happens w (Tick s now) Sent sound = sound
 sound_happens w (Tick s now) (SendRefused why) sound = sound
 sound_happens w (Tick s now) Taken sound = sound
 sound_happens w (Tick s now) (TakeRefused why) sound = sound
+sound_happens w (Tick s now) (Removed horizon count) sound = sound
 sound_happens w (Tick s now) (Ticked done) sound = sound_flushed w s now sound
 sound_happens w (Tick s now) (Reaped done) sound = sound
 sound_happens w (Tick s now) (ReapRefused why) sound = sound
@@ -293,12 +308,13 @@ sound_happens w (Reap s now key) Sent sound = sound
 sound_happens w (Reap s now key) (SendRefused why) sound = sound
 sound_happens w (Reap s now key) Taken sound = sound
 sound_happens w (Reap s now key) (TakeRefused why) sound = sound
+sound_happens w (Reap s now key) (Removed horizon count) sound = sound
 sound_happens w (Reap s now key) (Ticked done) sound = sound
 sound_happens w (Reap s now key) (Reaped done) sound = let v = flushed w s now in sound_issues v s (reaps_on v s now key) (sound_flushed w s now sound)
 sound_happens w (Reap s now key) (ReapRefused why) sound = sound_flushed w s now sound
 
-pub sound_nothing : (limits : ℕ → Limits) → Sound (nothing_known limits)
-sound_nothing limits = record {
+pub sound_nothing : (sites : ℕ) (limits : ℕ → Limits) → Sound (nothing_known sites limits)
+sound_nothing sites limits = record {
   home = λ t op a. absurd a;
   home_sent = λ p op a. absurd (none p op a);
   once = λ t a b x y e. absurd x;
@@ -332,6 +348,7 @@ grown w (Command s now request) Sent t op a = a
 grown w (Command s now request) (SendRefused why) t op a = a
 grown w (Command s now request) Taken t op a = a
 grown w (Command s now request) (TakeRefused why) t op a = a
+grown w (Command s now request) (Removed horizon count) t op a = a
 grown w (Command s now request) (Ticked done) t op a = a
 grown w (Command s now request) (Reaped done) t op a = a
 grown w (Command s now request) (ReapRefused why) t op a = a
@@ -341,6 +358,7 @@ grown w (Evict s key) Sent t op a = a
 grown w (Evict s key) (SendRefused why) t op a = a
 grown w (Evict s key) Taken t op a = a
 grown w (Evict s key) (TakeRefused why) t op a = a
+grown w (Evict s key) (Removed horizon count) t op a = a
 grown w (Evict s key) (Ticked done) t op a = a
 grown w (Evict s key) (Reaped done) t op a = a
 grown w (Evict s key) (ReapRefused why) t op a = a
@@ -350,6 +368,7 @@ grown w (Send s to) Sent t op a = a
 grown w (Send s to) (SendRefused why) t op a = a
 grown w (Send s to) Taken t op a = a
 grown w (Send s to) (TakeRefused why) t op a = a
+grown w (Send s to) (Removed horizon count) t op a = a
 grown w (Send s to) (Ticked done) t op a = a
 grown w (Send s to) (Reaped done) t op a = a
 grown w (Send s to) (ReapRefused why) t op a = a
@@ -359,15 +378,27 @@ grown w (Take s p) Sent t op a = a
 grown w (Take s p) (SendRefused why) t op a = a
 grown w (Take s p) Taken t op a = grows w s (carried w p) (w.held s) t op a
 grown w (Take s p) (TakeRefused why) t op a = a
+grown w (Take s p) (Removed horizon count) t op a = a
 grown w (Take s p) (Ticked done) t op a = a
 grown w (Take s p) (Reaped done) t op a = a
 grown w (Take s p) (ReapRefused why) t op a = a
+grown w (Remove s) (Replied reply victim) t op a = a
+grown w (Remove s) (Evicted done) t op a = a
+grown w (Remove s) Sent t op a = a
+grown w (Remove s) (SendRefused why) t op a = a
+grown w (Remove s) Taken t op a = a
+grown w (Remove s) (TakeRefused why) t op a = a
+grown w (Remove s) (Removed horizon count) t op a = a
+grown w (Remove s) (Ticked done) t op a = a
+grown w (Remove s) (Reaped done) t op a = a
+grown w (Remove s) (ReapRefused why) t op a = a
 grown w (Tick s now) (Replied reply victim) t op a = a
 grown w (Tick s now) (Evicted done) t op a = a
 grown w (Tick s now) Sent t op a = a
 grown w (Tick s now) (SendRefused why) t op a = a
 grown w (Tick s now) Taken t op a = a
 grown w (Tick s now) (TakeRefused why) t op a = a
+grown w (Tick s now) (Removed horizon count) t op a = a
 grown w (Tick s now) (Ticked done) t op a = grown_flushed w s now t op a
 grown w (Tick s now) (Reaped done) t op a = a
 grown w (Tick s now) (ReapRefused why) t op a = a
@@ -377,6 +408,7 @@ grown w (Reap s now key) Sent t op a = a
 grown w (Reap s now key) (SendRefused why) t op a = a
 grown w (Reap s now key) Taken t op a = a
 grown w (Reap s now key) (TakeRefused why) t op a = a
+grown w (Reap s now key) (Removed horizon count) t op a = a
 grown w (Reap s now key) (Ticked done) t op a = a
 grown w (Reap s now key) (Reaped done) t op a = let v = flushed w s now in grown_issues v s (reaps_on v s now key) t op (grown_flushed w s now t op a)
 grown w (Reap s now key) (ReapRefused why) t op a = grown_flushed w s now t op a

@@ -1,29 +1,30 @@
 -- Each step of a site keeps it what it knows and holds.
-use Rattle.std.proofs.Common.{◌≡◌, ℕ, zero, suc, ◌+◌, ◌≤◌, ◌<◌, Bool, true, false, cond, List, [], ◌∷◌, ◌++◌, length, Option, None, Some, refl, sym, ap, ◌∙◌, subst, subst₂, ◌⊎◌, inl, inr, arith, true≢false, nat_le, ◌||◌, not}
+use Rattle.std.proofs.Common.{◌≡◌, ℕ, zero, suc, ◌+◌, ◌≤◌, ◌<◌, Bool, true, false, cond, List, [], ◌∷◌, ◌++◌, length, Option, None, Some, refl, sym, ap, ◌∙◌, subst, subst₂, ◌⊎◌, inl, inr, arith, true≢false, nat_le, ◌||◌, ◌&&◌, not, is_some}
 use Rattle.std.specs.declared.cmp.Ordering.{Ordering}
 use Rattle.std.specs.Ordering.{nat_cmp}
+use Rattle.std.specs.Cmp.{IsTotalOrder}
 use Rattle.std.proofs.lemmas.Cmp.{nat_cmp_total}
-use Rattle.std.proofs.lemmas.Map.Lookups.{exact_pairs, exact_unsigned}
+use Rattle.std.proofs.lemmas.Map.Lookups.{exact_pairs, exact_unsigned, CmpEqualImpliesEq}
 use Rattle.std.proofs.lemmas.Bool.Decides.{nat_tests}
 use Rattle.geo_lattice.specs.Registers.{newer, by_both, both_total}
 use Rattle.geo_stamp.specs.Stamps.{Moment, stamp_cmp, stamps_total, exact_stamps}
 use Rattle.geo_stamp.specs.Vectors.{entry_of, zeros, vector_joined, greatest_of, raised, Knows}
 use Rattle.geo_versions.specs.Keys.{same_key}
 use Rattle.geo_versions.specs.Bodies.{body_cmp, bodies_total, exact_bodies}
-use Rattle.geo_versions.specs.Operations.{Operation, Act, Register, Record, above, above_both, floor_of, flush_of, body_of, expiry_of, winner, latest_expiry, record_joined, floor_joined, latest, Among, version_in, version_of}
+use Rattle.geo_versions.specs.Operations.{Operation, Act, Register, Record, newest, above, above_both, floor_of, flush_of, body_of, expiry_of, winner, latest_expiry, record_joined, floor_joined, latest, Among, version_in, version_of}
 use Rattle.geo_versions.specs.Operations.Act.{Write, Delete, Touch, Flush}
 use Rattle.geo_versions.specs.declared.body.Body.{Body}
-use Rattle.geo_versions.specs.declared.body.Body.TheVariants.{Gone}
-use Rattle.geo_versions.specs.Maps.{is_unknown, since}
+use Rattle.geo_versions.specs.declared.body.Body.TheVariants.{Gone, Value}
+use Rattle.geo_versions.specs.Maps.{is_unknown, since, is_old, recent, recent_both, is_over, remaining}
 use Rattle.geo_versions.proofs.Meaning.{newest_append, absorbed, latest_append}
 use Rattle.geo_site.specs.Entries.{Held, named_by}
 use Rattle.geo_site.proofs.Stocking.{settled_held, act_held_is}
-use Rattle.geo_site.specs.Machine.{act_stock, is_victim, without, victim_by, SiteState, Delta, fresh, clock_of, next_operation, map_after, issue, act_held, map_with, take, Same}
+use Rattle.geo_site.specs.Machine.{act_stock, is_victim, without, victim_by, SiteState, Delta, fresh, clock_of, next_operation, map_after, issue, act_held, map_with, take, sifted_delta, removed, Same}
 use Rattle.geo_site.specs.Schedule.{still_held}
-use Rattle.geo_site.specs.Agreement.{Kept, Holds, NoTime, Tells, StateOf, DeltaOf}
+use Rattle.geo_site.specs.Agreement.{Kept, Old, Holds, UpTo, Tells, StateOf, DeltaOf, has_value}
 use Rattle.geo_site.proofs.Entries.{Within, entry_joined, length_joined, greatest_joined, entry_at_most, greatest_raised, length_raised, entry_raised, entry_rises}
 use Rattle.geo_site.proofs.Registers.{Later, Incoming, Missing, found}
-use Rattle.geo_site.proofs.Records.{B, X, Comes, holds_take, holds_version, above_is}
+use Rattle.geo_site.proofs.Records.{B, X, Comes, holds_take, holds_more, holds_version, above_is}
 
 some_none : {V : Type 0} {x : V} → Some x ≡ None → ⊥
 some_none h = cc
@@ -99,12 +100,12 @@ alone_expiry key op = (λ i. above (newer_none stamp_cmp (flush_of op) i) (newer
     by (Touch k expiry) = one (same_key key k) expiry
     by Flush = refl
 
-never : (t : ℕ) → NoTime t → t ≤ 0
-never t h = absurd h
-
 -- what a state with equal versions shows is the same
-pub state_version : (n s : ℕ) (st : SiteState) (ops : List Operation) (held : Held) (key : List ℕ) → StateOf n s st ops held → version_in (st.map key) ≡ version_of ops key
-state_version n s st ops held key ok = holds_version NoTime (st.map key) ops key (ok.holds key)
+pub state_version : (n s h : ℕ) (st : SiteState) (ops : List Operation) (held : Held) (key : List ℕ) → StateOf n s h st ops held → version_in (st.map key) ≡ version_of ops key
+state_version n s h st ops held key ok = holds_version (UpTo h) (st.map key) ops key (ok.holds key)
+
+upto : (h t : ℕ) → UpTo h t → t ≤ h
+upto h t le = le
 
 pub act_held_same : (act : Act) (a b : Held) (key : List ℕ) → a key ≡ b key → act_held act a key ≡ act_held act b key
 act_held_same (Write k bytes flags expiry) a b key e = ap (λ o. cond (same_key key k) (Some bytes) o) e
@@ -113,7 +114,7 @@ act_held_same (Touch k expiry) a b key e = e
 act_held_same Flush a b key e = e
 
 -- ---- a new operation
-module _ (n s : ℕ) (st : SiteState) (ops : List Operation) (held : Held) (act : Act) (ok : StateOf n s st ops held) (in_range : Within st.vector s) where
+module _ (n s h : ℕ) (st : SiteState) (ops : List Operation) (held : Held) (act : Act) (ok : StateOf n s h st ops held) (in_range : Within st.vector s) where
   issued : Operation
   issued = next_operation (latest ops) s act
 
@@ -123,24 +124,24 @@ module _ (n s : ℕ) (st : SiteState) (ops : List Operation) (held : Held) (act 
   latest_after : latest (ops ++ next_operation (latest ops) s act ∷ []) ≡ latest ops + 1
   latest_after = let a = latest_append ops (next_operation (latest ops) s act ∷ []) in omega (arith, a)
 
-  comes_body : (key : List ℕ) (x : Register Body) → body_of key (next_operation (latest ops) s act) ≡ x → Incoming body_cmp bodies_total exact_bodies 0 (B key ops) (winner (next_operation (latest ops) s act ∷ []) key) x
+  comes_body : (key : List ℕ) (x : Register Body) → body_of key (next_operation (latest ops) s act) ≡ x → Incoming body_cmp bodies_total exact_bodies h (B key ops) (winner (next_operation (latest ops) s act ∷ []) key) x
   comes_body key None e = inr (refl, λ y is. absurd (some_none (sym is ∙ alone_body key (next_operation (latest ops) s act) ∙ e)))
-  comes_body key (Some y) e = inl (sym (alone_body key (next_operation (latest ops) s act) ∙ e), let t = ap (λ (m : Moment). m.time) (body_stamp key (next_operation (latest ops) s act) y e) in let z : 0 < y.0.time = omega (arith, t) in z)
+  comes_body key (Some y) e = inl (sym (alone_body key (next_operation (latest ops) s act) ∙ e), let t = ap (λ (m : Moment). m.time) (body_stamp key (next_operation (latest ops) s act) y e) in let b = ok.behind in let z : h < y.0.time = omega (arith, t, b) in z)
 
-  comes_expiry : (key : List ℕ) (x : Register ℕ) → expiry_of key (next_operation (latest ops) s act) ≡ x → Incoming nat_cmp nat_cmp_total exact_unsigned 0 (X key ops) (latest_expiry (next_operation (latest ops) s act ∷ []) key) x
+  comes_expiry : (key : List ℕ) (x : Register ℕ) → expiry_of key (next_operation (latest ops) s act) ≡ x → Incoming nat_cmp nat_cmp_total exact_unsigned h (X key ops) (latest_expiry (next_operation (latest ops) s act ∷ []) key) x
   comes_expiry key None e = inr (refl, λ y is. absurd (some_none (sym is ∙ alone_expiry key (next_operation (latest ops) s act) ∙ e)))
-  comes_expiry key (Some y) e = inl (sym (alone_expiry key (next_operation (latest ops) s act) ∙ e), let t = ap (λ (m : Moment). m.time) (expiry_stamp key (next_operation (latest ops) s act) y e) in let z : 0 < y.0.time = omega (arith, t) in z)
+  comes_expiry key (Some y) e = inl (sym (alone_expiry key (next_operation (latest ops) s act) ∙ e), let t = ap (λ (m : Moment). m.time) (expiry_stamp key (next_operation (latest ops) s act) y e) in let b = ok.behind in let z : h < y.0.time = omega (arith, t, b) in z)
 
-  holds_after : (key : List ℕ) → Holds NoTime (map_after st (next_operation (latest ops) s act) key) (ops ++ next_operation (latest ops) s act ∷ []) key
+  holds_after : (key : List ℕ) → Holds (UpTo h) (map_after st (next_operation (latest ops) s act) key) (ops ++ next_operation (latest ops) s act ∷ []) key
   holds_after key =
       let op = next_operation (latest ops) s act in
-      subst (λ f. Holds NoTime (above_both f (record_joined (st.map key) (body_of key op, expiry_of key op))) (ops ++ op ∷ []) key)
+      subst (λ f. Holds (UpTo h) (above_both f (record_joined (st.map key) (body_of key op, expiry_of key op))) (ops ++ op ∷ []) key)
       (λ i. floor_joined (sym ok.tells.floors i) (newer_none stamp_cmp (flush_of op) i))
-      (holds_take NoTime 0 never (st.map key) (body_of key op, expiry_of key op) ops (op ∷ []) key (ok.holds key)
+      (holds_take (UpTo h) h (upto h) (st.map key) (body_of key op, expiry_of key op) ops (op ∷ []) key (ok.holds key)
       (record { body = comes_body key (body_of key op) refl; expiry = comes_expiry key (expiry_of key op) refl }))
 
   -- an operation is issued
-  pub state_issues : StateOf n s (issue s act st) (ops ++ next_operation (latest ops) s act ∷ []) (still_held (ops ++ next_operation (latest ops) s act ∷ []) (act_held act (without (victim_by act st.stock) held)))
+  pub state_issues : StateOf n s h (issue s act st) (ops ++ next_operation (latest ops) s act ∷ []) (still_held (ops ++ next_operation (latest ops) s act ∷ []) (act_held act (without (victim_by act st.stock) held)))
   state_issues =
       let op = next_operation (latest ops) s act in
       let same : next_operation (clock_of st) s act ≡ op = ap (λ c. next_operation c s act) ok.tells.clock in
@@ -161,10 +162,11 @@ module _ (n s : ℕ) (st : SiteState) (ops : List Operation) (held : Held) (act 
           positive = λ o h. elim (among_append ops (op ∷ []) o h) [ inl a ↦ ok.tells.positive o a | inr a ↦ new_positive o a ];
           floors = ap (λ o. floor_joined st.floor (flush_of o)) same ∙ (λ i. floor_joined (ok.tells.floors i) (flush_of op)) ∙ ap (floor_joined (floor_of ops)) (sym (newer_none stamp_cmp (flush_of op))) ∙ sym (newest_append stamp_cmp stamps_total exact_stamps flush_of ops (op ∷ []));
         };
-        holds = λ key. subst (λ o. Holds NoTime (map_after st o key) (ops ++ op ∷ []) key) (sym same) (holds_after key);
+        behind = let b = ok.behind in omega (arith, b, l);
+        holds = λ key. subst (λ o. Holds (UpTo h) (map_after st o key) (ops ++ op ∷ []) key) (sym same) (holds_after key);
         same_held = λ key. settled_held (map_after st (next_operation (clock_of st) s act)) (act_stock act st.stock) key ∙ (λ i. named_by (version_in (map_after st (same i) key)) (act_held_is act st.stock key i))
             ∙ (λ i. named_by (version_in (map_after st op key)) (act_held_same act (without (victim_by act st.stock) st.stock.held) (without (victim_by act st.stock) held) key (without_same (victim_by act st.stock) key) i))
-            ∙ ap (λ v. named_by v (act_held act (without (victim_by act st.stock) held) key)) (holds_version NoTime (map_after st op key) (ops ++ op ∷ []) key (holds_after key));
+            ∙ ap (λ v. named_by v (act_held act (without (victim_by act st.stock) held) key)) (holds_version (UpTo h) (map_after st op key) (ops ++ op ∷ []) key (holds_after key));
       }
     where
       without_same : (victim : Option (List ℕ)) (key : List ℕ) → without victim st.stock.held key ≡ without victim held key
@@ -178,28 +180,6 @@ module _ (n s : ℕ) (st : SiteState) (ops : List Operation) (held : Held) (act 
       new_positive o (inl e) = subst (λ (o : Operation). 1 ≤ o.stamp.time) e (omega arith)
       new_positive o (inr h) = absurd h
 
--- ---- what is told has times of at least 1
-module _ (s : ℕ) (v : List ℕ) (f : Option Moment) (ops : List Operation) (tells : Tells s v f ops) where
-  pub told_positive_body : (key : List ℕ) (y : Moment × Body) → winner ops key ≡ Some y → 0 < y.0.time
-  told_positive_body key y is =
-      let op = found (by_both stamp_cmp body_cmp) (body_of key) ops y (above_is (floor_of ops) (B key ops) y is).0 in
-      let p = tells.positive op.0 op.1 in
-      let t = ap (λ (m : Moment). m.time) (body_stamp key op.0 y op.2) in
-      omega (arith, p, t)
-
-  pub told_positive_expiry : (key : List ℕ) (y : Moment × ℕ) → latest_expiry ops key ≡ Some y → 0 < y.0.time
-  told_positive_expiry key y is =
-      let op = found (by_both stamp_cmp nat_cmp) (expiry_of key) ops y (above_is (floor_of ops) (X key ops) y is).0 in
-      let p = tells.positive op.0 op.1 in
-      let t = ap (λ (m : Moment). m.time) (expiry_stamp key op.0 y op.2) in
-      omega (arith, p, t)
-
--- ---- what was not dropped is kept
-pub kept_same : {A : Type 0} (m r : Register A) → Kept NoTime m r → m ≡ r
-kept_same m r (inl e) = e
-kept_same m None (inr e) = absurd e.1
-kept_same m (Some y) (inr e) = absurd e.1
-
 known_stamp : {A : Type 0} (base : List ℕ) (y : Moment × A) → is_unknown base (Some y) ≡ false → Knows base y.0
 known_stamp base y h = by (nat_le y.0.time (entry_of base y.0.site)) refl h
   where
@@ -207,54 +187,69 @@ known_stamp base y h = by (nat_le y.0.time (entry_of base y.0.site)) refl h
     by true e h = grind (arith, nat_tests)
     by false e h = absurd (true≢false h)
 
+-- ---- one register of what comes in a parcel: what is left out of it, what its sender dropped and what is sifted was known
+module _ {A : Type 0} (C : A → A → Ordering) (total : IsTotalOrder C) (exact : CmpEqualImpliesEq C) (f : Operation → Register A) (stamped : (op : Operation) (y : Moment × A) → f op ≡ Some y → y.0 ≡ op.stamp)
+    (h : ℕ) (P : ℕ → Type 0) (base : List ℕ) (ks ls : List Operation) (known : (op : Operation) → Among ls op → Knows base op.stamp → Among ks op) (old : (op : Operation) → Among ls op → op.stamp.time ≤ h → Among ks op) (gone : (op : Operation) → Among ls op → P op.stamp.time → Among ks op) where
+  told : Register A
+  told = above (floor_of ls) (newest (by_both stamp_cmp C) f ls)
+
+  had : Register A
+  had = newest (by_both stamp_cmp C) f ks
+
+  was_known : (Q : Moment → Type 0) → ((op : Operation) → Among ls op → Q op.stamp → Among ks op) → (y : Moment × A) → above (floor_of ls) (newest (by_both stamp_cmp C) f ls) ≡ Some y → Q y.0 → newer (by_both stamp_cmp C) (Some y) (newest (by_both stamp_cmp C) f ks) ≡ newest (by_both stamp_cmp C) f ks
+  was_known Q into y is q =
+      let op = found (by_both stamp_cmp C) f ls y (above_is (floor_of ls) (newest (by_both stamp_cmp C) f ls) y is).0 in
+      let there = into op.0 op.1 (subst Q (stamped op.0 y op.2) q) in
+      ap (λ r. newer (by_both stamp_cmp C) r (newest (by_both stamp_cmp C) f ks)) (sym op.2) ∙ absorbed (by_both stamp_cmp C) (both_total stamps_total total) (exact_pairs stamp_cmp C exact_stamps exact) f ks op.0 there
+
+  was_dropped : (r : Register A) → above (floor_of ls) (newest (by_both stamp_cmp C) f ls) ≡ r → Old P r → Missing C total exact (newest (by_both stamp_cmp C) f ks) r
+  was_dropped None e o y is = absurd o
+  was_dropped (Some z) e o y is = was_known (λ m. P m.time) gone y (e ∙ is) (subst (λ (y : Moment × A). P y.0.time) (some_same is) o)
+
+  -- it is in the parcel
+  pub comes_recent : (m r : Register A) → above (floor_of ls) (newest (by_both stamp_cmp C) f ls) ≡ r → Kept P m r → Incoming C total exact h (newest (by_both stamp_cmp C) f ks) r (recent h m)
+  comes_recent None r e (inl same) = inr (refl, λ y is. absurd (some_none (sym (same ∙ is))))
+  comes_recent (Some y) r e (inl same) = by (nat_le y.0.time h) refl
+    where
+      by : (t : Bool) → nat_le y.0.time h ≡ t → Incoming C total exact h (newest (by_both stamp_cmp C) f ks) r (cond t None (Some y))
+      by true le = inr (refl, λ z is. was_known (λ m. m.time ≤ h) old z (e ∙ is) (subst (λ (z : Moment × A). z.0.time ≤ h) (some_same (same ∙ is)) (grind (arith, nat_tests))))
+      by false le = inl (same, grind (arith, nat_tests))
+  comes_recent m r e (inr gone_is) = subst (λ m. Incoming C total exact h (newest (by_both stamp_cmp C) f ks) r (recent h m)) (sym gone_is.0) (inr (refl, was_dropped r e gone_is.1))
+
+  -- it is left out
+  pub comes_known : (m r : Register A) → above (floor_of ls) (newest (by_both stamp_cmp C) f ls) ≡ r → is_unknown base m ≡ false → Kept P m r → Missing C total exact (newest (by_both stamp_cmp C) f ks) r
+  comes_known m r e out (inl same) y is = was_known (Knows base) known y (e ∙ is) (known_stamp base y (ap (is_unknown base) (sym (same ∙ is)) ∙ out))
+  comes_known m r e out (inr gone_is) y is = was_dropped r e gone_is.1 y is
+
 -- ---- what comes in a parcel
-module _ (n s sender : ℕ) (base : List ℕ) (st : SiteState) (d : Delta) (ks ls : List Operation) (held : Held) (ok : StateOf n s st ks held) (comes : DeltaOf n sender base d ls) (in_range : Within st.vector s)
-    (known : (op : Operation) → Among ls op → Knows base op.stamp → Among ks op) where
-  -- a register that comes whole
-  whole_body : (key : List ℕ) (x r : Register Body) → winner ls key ≡ r → Kept NoTime x r → Incoming body_cmp bodies_total exact_bodies 0 (B key ks) r x
-  whole_body key x None is (inl e) = inr (e, λ y iy. absurd (some_none (sym iy)))
-  whole_body key x (Some y) is (inl e) = inl (e, subst (λ (x : Register Body). Later 0 x) (sym e) (told_positive_body sender d.upto d.floor ls comes.tells key y is))
-  whole_body key x None is (inr e) = absurd e.1
-  whole_body key x (Some y) is (inr e) = absurd e.1
-
-  whole_expiry : (key : List ℕ) (x r : Register ℕ) → latest_expiry ls key ≡ r → Kept NoTime x r → Incoming nat_cmp nat_cmp_total exact_unsigned 0 (X key ks) r x
-  whole_expiry key x None is (inl e) = inr (e, λ y iy. absurd (some_none (sym iy)))
-  whole_expiry key x (Some y) is (inl e) = inl (e, subst (λ (x : Register ℕ). Later 0 x) (sym e) (told_positive_expiry sender d.upto d.floor ls comes.tells key y is))
-  whole_expiry key x None is (inr e) = absurd e.1
-  whole_expiry key x (Some y) is (inr e) = absurd e.1
-
-  -- one that is left out was known
-  left_body : (key : List ℕ) → is_unknown base (winner ls key) ≡ false → Missing body_cmp bodies_total exact_bodies (B key ks) (winner ls key)
-  left_body key out y is =
-      let op = found (by_both stamp_cmp body_cmp) (body_of key) ls y (above_is (floor_of ls) (B key ls) y is).0 in
-      let at = body_stamp key op.0 y op.2 in
-      let there = known op.0 op.1 (subst (λ (m : Moment). Knows base m) at (known_stamp base y (ap (is_unknown base) (sym is) ∙ out))) in
-      ap (λ r. newer (by_both stamp_cmp body_cmp) r (B key ks)) (sym op.2) ∙ absorbed (by_both stamp_cmp body_cmp) (both_total stamps_total bodies_total) (exact_pairs stamp_cmp body_cmp exact_stamps exact_bodies) (body_of key) ks op.0 there
-
-  left_expiry : (key : List ℕ) → is_unknown base (latest_expiry ls key) ≡ false → Missing nat_cmp nat_cmp_total exact_unsigned (X key ks) (latest_expiry ls key)
-  left_expiry key out y is =
-      let op = found (by_both stamp_cmp nat_cmp) (expiry_of key) ls y (above_is (floor_of ls) (X key ls) y is).0 in
-      let at = expiry_stamp key op.0 y op.2 in
-      let there = known op.0 op.1 (subst (λ (m : Moment). Knows base m) at (known_stamp base y (ap (is_unknown base) (sym is) ∙ out))) in
-      ap (λ r. newer (by_both stamp_cmp nat_cmp) r (X key ks)) (sym op.2) ∙ absorbed (by_both stamp_cmp nat_cmp) (both_total stamps_total nat_cmp_total) (exact_pairs stamp_cmp nat_cmp exact_stamps exact_unsigned) (expiry_of key) ks op.0 there
-
-  comes_in : (key : List ℕ) (m : Record) → Kept NoTime m.0 (winner ls key) → Kept NoTime m.1 (latest_expiry ls key) → Comes 0 ks ls key (since base m)
+module _ (n s h sender : ℕ) (P : ℕ → Type 0) (base : List ℕ) (st : SiteState) (d : Delta) (ks ls : List Operation) (held : Held) (ok : StateOf n s h st ks held) (comes : DeltaOf n sender P base d ls) (in_range : Within st.vector s)
+    (known : (op : Operation) → Among ls op → Knows base op.stamp → Among ks op) (old : (op : Operation) → Among ls op → op.stamp.time ≤ h → Among ks op) (gone : (op : Operation) → Among ls op → P op.stamp.time → Among ks op) where
+  comes_in : (key : List ℕ) (m : Record) → Kept P m.0 (winner ls key) → Kept P m.1 (latest_expiry ls key) → Comes h ks ls key (recent_both h (since base m))
   comes_in key m body expiry = by (is_unknown base m.0) (is_unknown base m.1) refl refl
     where
-      by : (t u : Bool) → is_unknown base m.0 ≡ t → is_unknown base m.1 ≡ u → Comes 0 ks ls key (cond {A = Record} (t || u) m (None, None))
-      by true u e f = record { body = whole_body key m.0 (winner ls key) refl body; expiry = whole_expiry key m.1 (latest_expiry ls key) refl expiry }
-      by false true e f = record { body = whole_body key m.0 (winner ls key) refl body; expiry = whole_expiry key m.1 (latest_expiry ls key) refl expiry }
-      by false false e f = record { body = inr (refl, left_body key (ap (is_unknown base) (sym (kept_same m.0 (winner ls key) body)) ∙ e)); expiry = inr (refl, left_expiry key (ap (is_unknown base) (sym (kept_same m.1 (latest_expiry ls key) expiry)) ∙ f)) }
+      whole : Comes h ks ls key (recent_both h m)
+      whole = record {
+        body = comes_recent body_cmp bodies_total exact_bodies (body_of key) (body_stamp key) h P base ks ls known old gone m.0 (winner ls key) refl body;
+        expiry = comes_recent nat_cmp nat_cmp_total exact_unsigned (expiry_of key) (expiry_stamp key) h P base ks ls known old gone m.1 (latest_expiry ls key) refl expiry;
+      }
 
-  holds_with : (key : List ℕ) → Holds NoTime (map_with st d key) (ks ++ ls) key
+      by : (t u : Bool) → is_unknown base m.0 ≡ t → is_unknown base m.1 ≡ u → Comes h ks ls key (recent_both h (cond {A = Record} (t || u) m (None, None)))
+      by true u e f = whole
+      by false true e f = whole
+      by false false e f = record {
+        body = inr (refl, comes_known body_cmp bodies_total exact_bodies (body_of key) (body_stamp key) h P base ks ls known old gone m.0 (winner ls key) refl e body);
+        expiry = inr (refl, comes_known nat_cmp nat_cmp_total exact_unsigned (expiry_of key) (expiry_stamp key) h P base ks ls known old gone m.1 (latest_expiry ls key) refl f expiry);
+      }
+
+  holds_with : (key : List ℕ) → Holds (UpTo h) (map_with st (sifted_delta h d) key) (ks ++ ls) key
   holds_with key =
-      subst (λ f. Holds NoTime (above_both f (record_joined (st.map key) (d.map key))) (ks ++ ls) key)
+      subst (λ f. Holds (UpTo h) (above_both f (record_joined (st.map key) (recent_both h (d.map key)))) (ks ++ ls) key)
       (λ i. floor_joined (sym ok.tells.floors i) (sym comes.tells.floors i))
-      (holds_take NoTime 0 never (st.map key) (d.map key) ks ls key (ok.holds key)
-      (subst (Comes 0 ks ls key) (sym (comes.lacking key)) (comes_in key (comes.kept key) (comes.holds key).body (comes.holds key).expiry)))
+      (holds_take (UpTo h) h (upto h) (st.map key) (recent_both h (d.map key)) ks ls key (ok.holds key)
+      (subst (λ r. Comes h ks ls key (recent_both h r)) (sym (comes.lacking key)) (comes_in key (comes.kept key) (comes.holds key).body (comes.holds key).expiry)))
 
   -- a parcel is taken
-  pub state_takes : StateOf n s (take s d st) (ks ++ ls) (still_held (ks ++ ls) held)
+  pub state_takes : StateOf n s h (take s (sifted_delta h d) st) (ks ++ ls) (still_held (ks ++ ls) held)
   state_takes =
       let joined = vector_joined st.vector d.upto in
       let len : length joined ≡ length st.vector = length_joined st.vector d.upto (ok.many ∙ sym comes.many) in
@@ -283,8 +278,9 @@ module _ (n s sender : ℕ) (base : List ℕ) (st : SiteState) (d : Delta) (ks l
           positive = λ o h. elim (among_append ks ls o h) [ inl a ↦ ok.tells.positive o a | inr a ↦ comes.tells.positive o a ];
           floors = (λ i. floor_joined (ok.tells.floors i) (comes.tells.floors i)) ∙ sym (newest_append stamp_cmp stamps_total exact_stamps flush_of ks ls);
         };
+        behind = let b = ok.behind in omega (arith, b, l);
         holds = holds_with;
-        same_held = λ key. settled_held (map_with st d) st.stock key ∙ (λ i. named_by (version_in (map_with st d key)) (ok.same_held key i)) ∙ ap (λ v. named_by v (held key)) (holds_version NoTime (map_with st d key) (ks ++ ls) key (holds_with key));
+        same_held = λ key. let e = sifted_delta h d in settled_held (map_with st e) st.stock key ∙ (λ i. named_by (version_in (map_with st e key)) (ok.same_held key i)) ∙ ap (λ v. named_by v (held key)) (holds_version (UpTo h) (map_with st e key) (ks ++ ls) key (holds_with key));
       }
 
 -- a site that knows nothing
@@ -296,7 +292,7 @@ pub zeros_length : (n : ℕ) → length (zeros n) ≡ n
 zeros_length zero = refl
 zeros_length (suc n) = let h = zeros_length n in omega (arith, h)
 
-pub state_fresh : (n s pages : ℕ) → StateOf n s (fresh n pages) [] (λ _. None)
+pub state_fresh : (n s pages : ℕ) → StateOf n s 0 (fresh n pages) [] (λ _. None)
 state_fresh n s pages = record {
   many = zeros_length n;
   tells = record {
@@ -306,15 +302,69 @@ state_fresh n s pages = record {
     positive = λ op h. absurd h;
     floors = refl;
   };
+  behind = omega arith;
   holds = λ key. record { body = inl refl; expiry = inl refl; whole = λ h. absurd (true≢false (sym h)) };
   same_held = λ key. refl;
 }
 
 -- a state that says the same
-pub state_same : (n s : ℕ) (st new : SiteState) (ops : List Operation) (held : Held) → StateOf n s st ops held → Same st new → StateOf n s new ops held
-state_same n s st new ops held ok same = record {
+pub state_same : (n s h : ℕ) (st new : SiteState) (ops : List Operation) (held : Held) → StateOf n s h st ops held → Same st new → StateOf n s h new ops held
+state_same n s h st new ops held ok same = record {
   many = ap length same.vector ∙ ok.many;
   tells = subst₂ (λ (v : List ℕ) (f : Option Moment). Tells s v f ops) (sym same.vector) (sym same.floor) ok.tells;
-  holds = λ key. subst (λ (m : Record). Holds NoTime m ops key) (sym (same.map key)) (ok.holds key);
+  behind = ok.behind;
+  holds = λ key. subst (λ (m : Record). Holds (UpTo h) m ops key) (sym (same.map key)) (ok.holds key);
   same_held = λ key. same.stock.held key ∙ ok.same_held key;
+}
+
+-- what was dropped up to a horizon was dropped up to a later one
+pub state_later : (n s h more : ℕ) (st : SiteState) (ops : List Operation) (held : Held) → StateOf n s h st ops held → h ≤ more → more ≤ latest ops → StateOf n s more st ops held
+state_later n s h more st ops held ok le behind = record {
+  many = ok.many;
+  tells = ok.tells;
+  behind = behind;
+  holds = λ key. holds_more (UpTo h) (UpTo more) (λ t at. omega (arith, at, le)) (st.map key) ops key (ok.holds key);
+  same_held = ok.same_held;
+}
+
+-- ---- a removal
+and_both : {V : Type 0} (v : Option V) (a b : Bool) → (not (is_some v) && (a && b)) ≡ true → (v ≡ None) × ((a ≡ true) × (b ≡ true))
+and_both None true true e = (refl, (refl, refl))
+and_both None true false e = absurd (true≢false (sym e))
+and_both None false b e = absurd (true≢false (sym e))
+and_both (Some v) a b e = absurd (true≢false (sym e))
+
+shown : (r : Register Body) (e : Register ℕ) → has_value r ≡ true → version_in (r, e) ≡ None → ⊥
+shown None e s h = true≢false (sym s)
+shown (Some (m, Gone)) e s h = true≢false (sym s)
+shown (Some (m, Value d f l)) None s h = some_none h
+shown (Some (m, Value d f l)) (Some (t, x)) s h = some_none h
+
+-- a record without a version of which all is old is dropped
+dropped_holds : (h : ℕ) (m : Record) (ops : List Operation) (key : List ℕ) → Holds (UpTo h) m ops key → Holds (UpTo h) (remaining h m) ops key
+dropped_holds h m ops key k = by (is_over h m) refl
+  where
+    over : is_over h m ≡ true → (version_in m ≡ None) × ((is_old h m.0 ≡ true) × (is_old h m.1 ≡ true))
+    over e = and_both (version_in m) (is_old h m.0) (is_old h m.1) e
+
+    empty : {A : Type 0} (r q : Register A) → is_old h r ≡ true → Kept (UpTo h) r q → Kept (UpTo h) None q
+    empty None q o (inl e) = inl e
+    empty (Some y) q o (inl e) = inr (refl, subst (Old (UpTo h)) e (grind (arith, nat_tests)))
+    empty r q o (inr e) = inr (refl, e.1)
+
+    hidden : has_value (winner ops key) ≡ true → version_in m ≡ None → ⊥
+    hidden s none = shown (winner ops key) (latest_expiry ops key) s (ap version_in (sym (k.whole s)) ∙ none)
+
+    by : (t : Bool) → is_over h m ≡ t → Holds (UpTo h) (cond {A = Record} t (None, None) m) ops key
+    by true e = let o = over e in record { body = empty m.0 (winner ops key) o.1.0 k.body; expiry = empty m.1 (latest_expiry ops key) o.1.1 k.expiry; whole = λ s. absurd (hidden s o.0) }
+    by false e = k
+
+-- what is old is removed
+pub state_removes : (n s h : ℕ) (st : SiteState) (ops : List Operation) (held : Held) → StateOf n s h st ops held → StateOf n s h (removed h st) ops held
+state_removes n s h st ops held ok = record {
+  many = ok.many;
+  tells = ok.tells;
+  behind = ok.behind;
+  holds = λ key. dropped_holds h (st.map key) ops key (ok.holds key);
+  same_held = ok.same_held;
 }

@@ -1,5 +1,5 @@
 -- When a site is what it knows: what it keeps of each key is what its operations name, but for what was dropped because every
--- site has long known it. Nothing is dropped yet; the form is the one that removal will need.
+-- site has long known it.
 use Rattle.std.specs.Prelude.{◌≡◌, ℕ, ◌≤◌, ◌⊎◌, Bool, true, false, List, length, Option, None, Some}
 use Rattle.geo_stamp.specs.Stamps.{Moment}
 use Rattle.geo_stamp.specs.Vectors.{greatest_of, entry_of, Knows}
@@ -31,9 +31,9 @@ pub record Holds (P : ℕ → Type 0) (m : Record) (ops : List Operation) (key :
   pub expiry : Kept P m.1 (latest_expiry ops key)
   pub whole : has_value (winner ops key) ≡ true → m ≡ record_of ops key
 
--- no time is old yet
-abbrev pub NoTime : ℕ → Type 0
-NoTime t = ⊥
+-- a time at or below a horizon
+abbrev pub UpTo : ℕ → ℕ → Type 0
+UpTo horizon t = t ≤ horizon
 
 -- a vector and a floor are those of the operations, of which a site with this number knows or told all
 pub record Tells (number : ℕ) (vector : List ℕ) (floor : Option Moment) (ops : List Operation) : Type 0 where
@@ -43,17 +43,18 @@ pub record Tells (number : ℕ) (vector : List ℕ) (floor : Option Moment) (ops
   pub positive : (op : Operation) → Among ops op → 1 ≤ op.stamp.time
   pub floors : floor ≡ floor_of ops
 
--- a site's state is what it knows and holds
-pub record StateOf (sites number : ℕ) (st : SiteState) (ops : List Operation) (held : Held) : Type 0 where
+-- a site's state is what it knows and holds, but for what it dropped up to a horizon
+pub record StateOf (sites number horizon : ℕ) (st : SiteState) (ops : List Operation) (held : Held) : Type 0 where
   pub many : length st.vector ≡ sites
   pub tells : Tells number st.vector st.floor ops
-  pub holds : (key : List ℕ) → Holds NoTime (st.map key) ops key
+  pub behind : horizon ≤ latest ops
+  pub holds : (key : List ℕ) → Holds (UpTo horizon) (st.map key) ops key
   pub same_held : (key : List ℕ) → st.stock.held key ≡ held key
 
--- what a parcel brings is what its sender kept, but for what the base knows
-pub record DeltaOf (sites sender : ℕ) (base : List ℕ) (d : Delta) (ops : List Operation) : Type 0 where
+-- what a parcel brings is what its sender kept, but for what the base knows; what its sender dropped has a time of which P holds
+pub record DeltaOf (sites sender : ℕ) (P : ℕ → Type 0) (base : List ℕ) (d : Delta) (ops : List Operation) : Type 0 where
   pub many : length d.upto ≡ sites
   pub tells : Tells sender d.upto d.floor ops
   pub kept : List ℕ → Record
-  pub holds : (key : List ℕ) → Holds NoTime (kept key) ops key
+  pub holds : (key : List ℕ) → Holds P (kept key) ops key
   pub lacking : (key : List ℕ) → d.map key ≡ since base (kept key)

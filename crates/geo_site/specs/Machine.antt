@@ -5,7 +5,7 @@ use Rattle.geo_stamp.specs.Stamps.{Moment, most_sites}
 use Rattle.geo_stamp.specs.Vectors.{zeros, entry_of, vector_joined, greatest_of, raised}
 use Rattle.geo_versions.specs.Keys.{same_key}
 use Rattle.std.specs.List.{IsDistinct, list_any}
-use Rattle.geo_versions.specs.Maps.{has_register}
+use Rattle.geo_versions.specs.Maps.{has_register, recent_both, remaining}
 use Rattle.geo_versions.specs.Operations.{Act, Operation, Record, record_joined, floor_joined, above_both, body_of, expiry_of, flush_of, version_in}
 use Rattle.geo_versions.specs.Operations.Act.{Write, Delete, Touch, Flush}
 pub use Rattle.geo_delta.specs.Changes.{knows_record}
@@ -145,6 +145,14 @@ take number d st =
       map = map_with st d;
       stock = settled (map_with st d) st.stock;
     }
+
+-- of what a parcel brings, what not every site knows already
+abbrev pub sifted_delta : ℕ → Delta → Delta
+sifted_delta horizon d = record { upto = d.upto; floor = d.floor; map = λ key. recent_both horizon (d.map key) }
+
+-- it drops the records without a version of which every site knows all
+abbrev pub removed : ℕ → SiteState → SiteState
+removed horizon st = record { vector = st.vector; floor = st.floor; map = λ key. remaining horizon (st.map key); stock = st.stock }
 
 -- two states are one
 pub record Same (old new : SiteState) : Type 0 where

@@ -1,15 +1,15 @@
 -- Schedules: what each site knows and holds after the events, and what was known when each parcel was sent. (A state is the
 -- join of what was seen: Almeida et al. 2018.)
-use Rattle.std.specs.Prelude.{◌≡◌, ◌≢◌, ℕ, Bool, true, false, cond, if◌then◌else◌, ◌==◌, nat_le, List, [], ◌∷◌, ◌++◌, length, Option, None, Some, is_some, slice_index_or}
+use Rattle.std.specs.Prelude.{◌≡◌, ◌≢◌, ℕ, Bool, true, false, cond, if◌then◌else◌, ◌==◌, ◌≤◌, nat_le, List, [], ◌∷◌, ◌++◌, length, Option, None, Some, is_some, slice_index_or}
 use Rattle.geo_versions.specs.Maps.{has_register}
-use Rattle.geo_versions.specs.Operations.{Operation, Act, latest, record_of, version_of}
+use Rattle.geo_versions.specs.Operations.{Operation, Act, Among, Record, latest, version_of}
 use Rattle.geo_grammar.specs.declared.request.Request.{Request}
 use Rattle.geo_grammar.specs.declared.reply.Reply.{Reply}
 use Rattle.geo_grammar.specs.declared.reply.Reply.TheVariants.{ClockEnded}
 use Rattle.geo_site.specs.declared.event.Event.{Event}
-use Rattle.geo_site.specs.declared.event.Event.TheVariants.{Command, Evict, Send, Take, Tick, Reap}
+use Rattle.geo_site.specs.declared.event.Event.TheVariants.{Command, Evict, Send, Take, Remove, Tick, Reap}
 use Rattle.geo_site.specs.declared.event.Trace.{Trace}
-use Rattle.geo_site.specs.declared.event.Trace.TheVariants.{Replied, Evicted, Sent, SendRefused, Taken, TakeRefused, Ticked, Reaped, ReapRefused}
+use Rattle.geo_site.specs.declared.event.Trace.TheVariants.{Replied, Evicted, Sent, SendRefused, Taken, TakeRefused, Removed, Ticked, Reaped, ReapRefused}
 use Rattle.geo_site.specs.declared.setup.Limits.{Limits}
 use Rattle.geo_site.specs.declared.refusal.SendError.{SendError}
 use Rattle.geo_site.specs.declared.refusal.TakeError.{TakeError}
@@ -20,21 +20,31 @@ use Rattle.geo_site.specs.declared.refusal.TakeError.TheVariants as take
 use Rattle.geo_site.specs.Entries.{Held, Visible, Basis, Counts, none_counted, counted, evicted_on, entry_in, named_by, issued, waits_after, flushes_due, is_stuck, due_acts, waits_on, is_reapable, reap_acts, lacks, Answers, is_done}
 use Rattle.geo_versions.specs.Keys.{same_key}
 use Rattle.geo_versions.specs.Operations.Act.{Write, Delete, Touch, Flush}
+use Rattle.geo_site.specs.Agreement.{Holds}
 use Rattle.geo_site.specs.Machine.{act_held, without, class_for, next_operation, IsRecordCount, IsHeldCount}
 
 -- what each site knows and holds, how many keys it found, did not find and evicted, the moment of the flush that waits there, what it
--- was told at its start, and for whom and with what each parcel was sent
+-- was told at its start, how many sites there are, and for whom and with what each parcel was sent
 pub record Known : Type 0 where
   pub at : ℕ → List Operation
   pub held : ℕ → Held
   pub counts : ℕ → Counts
   pub waiting : ℕ → Option ℕ
   pub limits : ℕ → Limits
+  pub sites : ℕ
   pub sent : List (ℕ × List Operation)
 
--- nothing is known, where this is what each site was told at its start
-abbrev pub nothing_known : (ℕ → Limits) → Known
-nothing_known limits = record { at = λ _. []; held = λ _ _. None; counts = λ _. none_counted; waiting = λ _. None; limits = limits; sent = [] }
+-- nothing is known, where there are so many sites and this is what each was told at its start
+abbrev pub nothing_known : ℕ → (ℕ → Limits) → Known
+nothing_known sites limits = record { at = λ _. []; held = λ _ _. None; counts = λ _. none_counted; waiting = λ _. None; limits = limits; sites = sites; sent = [] }
+
+-- of so many sites each knows every operation up to a time, and none issues another one up to it
+pub record StableAt (sites : ℕ) (at : ℕ → List Operation) (time : ℕ) : Type 0 where
+  pub known : (r s : ℕ) (op : Operation) → 1 ≤ s → s ≤ sites → Among (at r) op → op.stamp.time ≤ time → Among (at s) op
+  pub past : (s : ℕ) → 1 ≤ s → s ≤ sites → time ≤ latest (at s)
+
+abbrev pub Stable : Known → ℕ → Type 0
+Stable w = StableAt w.sites w.at
 
 -- of what is held, what the versions of the operations name
 abbrev pub still_held : List Operation → Held → Held
@@ -42,7 +52,7 @@ still_held ops held key = named_by (version_of ops key) (held key)
 
 -- a site knows these operations now, and of what it holds keeps what its versions name
 abbrev pub settles : Known → ℕ → List Operation → Held → Known
-settles w site ops held = record { at = λ t. if t == site then ops else w.at t; held = λ t. if t == site then still_held ops held else w.held t; counts = w.counts; waiting = w.waiting; limits = w.limits; sent = w.sent }
+settles w site ops held = record { at = λ t. if t == site then ops else w.at t; held = λ t. if t == site then still_held ops held else w.held t; counts = w.counts; waiting = w.waiting; limits = w.limits; sites = w.sites; sent = w.sent }
 
 -- the next operation of a site, after the greatest time that it knows
 abbrev pub new_operation : Known → ℕ → Act → Operation
@@ -74,11 +84,11 @@ issues_on w site now request = issued now (visible w site now) request
 
 -- a site counts the keys of a request
 abbrev pub counts_keys : Known → ℕ → Counts → Known
-counts_keys w site counts = record { at = w.at; held = w.held; counts = λ t. if t == site then counts else w.counts t; waiting = w.waiting; limits = w.limits; sent = w.sent }
+counts_keys w site counts = record { at = w.at; held = w.held; counts = λ t. if t == site then counts else w.counts t; waiting = w.waiting; limits = w.limits; sites = w.sites; sent = w.sent }
 
 -- a site holds the bytes of a victim no longer, if there is one
 abbrev pub lets_go : Known → ℕ → Option (List ℕ) → Known
-lets_go w site victim = record { at = w.at; held = λ t. if t == site then without victim (w.held site) else w.held t; counts = w.counts; waiting = w.waiting; limits = w.limits; sent = w.sent }
+lets_go w site victim = record { at = w.at; held = λ t. if t == site then without victim (w.held site) else w.held t; counts = w.counts; waiting = w.waiting; limits = w.limits; sites = w.sites; sent = w.sent }
 
 -- the bytes of a key are evicted, which is counted
 abbrev pub evicts : Known → ℕ → List ℕ → Known
@@ -99,7 +109,7 @@ VictimOf held (act ∷ acts) (Some victim) = IsVictim held act victim
 
 -- a flush waits at a site for its moment, or none does
 abbrev pub waits : Known → ℕ → Option ℕ → Known
-waits w site waiting = record { at = w.at; held = w.held; counts = w.counts; waiting = λ t. if t == site then waiting else w.waiting t; limits = w.limits; sent = w.sent }
+waits w site waiting = record { at = w.at; held = w.held; counts = w.counts; waiting = λ t. if t == site then waiting else w.waiting t; limits = w.limits; sites = w.sites; sent = w.sent }
 
 -- a site carries out a flush that is due
 abbrev pub flushed : Known → ℕ → ℕ → Known
@@ -115,12 +125,12 @@ carries_out w site now request victim =
 abbrev pub reaps_on : Known → ℕ → ℕ → List ℕ → List Act
 reaps_on w site now key = reap_acts site (w.limits site).reap_after now key (version_of (w.at site) key)
 
--- what a site goes by when it answers, where so many keys have a record, and of so many bytes are held
-abbrev pub basis : Known → ℕ → ℕ → ℕ → ℕ → Basis
-basis w site now records items = record {
+-- what a site goes by when it answers, where it keeps this of each key, so many keys have a record, and of so many bytes are held
+abbrev pub basis : Known → ℕ → ℕ → (List ℕ → Record) → ℕ → ℕ → Basis
+basis w site now kept records items = record {
   visible = visible w site now;
   clock = latest (w.at site);
-  recorded = λ key. has_register (record_of (w.at site) key);
+  recorded = λ key. has_register (kept key);
   full = nat_le (w.limits site).max_records records;
   stats = record {
     curr_items = items;
@@ -133,13 +143,16 @@ basis w site now records items = record {
   };
 }
 
--- the reply is what the site owes to the request, or want of memory where it may be wanted
+-- the reply is what the site owes to the request, or want of memory where it may be wanted. It keeps of each key what its operations
+-- name, but for what every site knows
 pub record RepliesTo (w : Known) (site now : ℕ) (request : Request) (reply : Reply) : Type 0 where
+  pub kept : List ℕ → Record
   pub records : ℕ
   pub items : ℕ
-  pub recorded : IsRecordCount (record_of (w.at site)) records
+  pub holds : (key : List ℕ) → Holds (Stable w) (kept key) (w.at site) key
+  pub recorded : IsRecordCount kept records
   pub held : IsHeldCount (w.held site) items
-  pub answers : Answers now (basis w site now records items) request reply
+  pub answers : Answers now (basis w site now kept records items) request reply
 
 -- after a due flush the reply is what the site owes; where no stamp is left for that flush, all that it says is that its clock
 -- has ended
@@ -151,11 +164,11 @@ RepliesBy false w site now request reply = RepliesTo w site now request reply
 abbrev pub issues_by : Known → ℕ → ℕ → Request → Reply → List Act
 issues_by w site now request reply = cond {A = List Act} (is_done reply) (issues_on w site now request) []
 
--- what is known after an event; one that was refused adds nothing but a due flush
+-- what is known after an event; one that was refused adds nothing but a due flush, and a removal adds nothing
 abbrev pub happens : Known → Event → Trace → Known
 happens w (Command site now request) (Replied reply victim) = let v = flushed w site now in cond (is_done reply) (carries_out v site now request victim) v
 happens w (Evict site key) (Evicted done) = cond done (evicts w site key) w
-happens w (Send site to) Sent = record { at = w.at; held = w.held; counts = w.counts; waiting = w.waiting; limits = w.limits; sent = w.sent ++ (to, w.at site) ∷ [] }
+happens w (Send site to) Sent = record { at = w.at; held = w.held; counts = w.counts; waiting = w.waiting; limits = w.limits; sites = w.sites; sent = w.sent ++ (to, w.at site) ∷ [] }
 happens w (Take site parcel) Taken = learns w site (carried w parcel)
 happens w (Tick site now) (Ticked done) = flushed w site now
 happens w (Reap site now key) (Reaped done) = let v = flushed w site now in issues v site (reaps_on v site now key)
@@ -196,6 +209,7 @@ Lawful w (Send site to) Sent = to ≢ site
 Lawful w (Send site to) (SendRefused why) = SendRefusedFor site to why
 Lawful w (Take site parcel) Taken = addressee w parcel ≡ site
 Lawful w (Take site parcel) (TakeRefused why) = TakeRefusedFor site (addressee w parcel) why
+Lawful w (Remove site) (Removed horizon count) = Stable w horizon
 Lawful w (Tick site now) (Ticked done) = done ≡ flushes_due (w.waiting site) (latest (w.at site)) now
 Lawful w (Reap site now key) (Reaped done) = ReapsIn (flushed w site now) site now key done
 Lawful w (Reap site now key) (ReapRefused why) = ReapRefusedFor (flushed w site now) site now key why

@@ -6,7 +6,7 @@ use Rattle.geo_slabs.specs.Storage.{class_count, most_pages}
 use Rattle.geo_lru.specs.Rules.{juggled_by}
 use Rattle.geo_values.specs.Stock.{dropped, juggled_in}
 use Rattle.geo_values.specs.Held.{stock_in, count_in as values_count}
-use Rattle.geo_stamp.specs.Acks.{row_of, heard, none_heard}
+use Rattle.geo_stamp.specs.Acks.{row_of, heard, none_heard, horizon_of}
 use Rattle.geo_stamp.specs.Vectors.{vector_joined}
 use Rattle.geo_versions.specs.Keys.{same_key}
 use Rattle.geo_versions.specs.Maps.{Rec, rec_means, listed_at, since, Rising}
@@ -37,7 +37,7 @@ use Rattle.geo_grammar.specs.declared.reply.Reply.{Reply}
 use Rattle.geo_grammar.specs.declared.reply.Reply.TheVariants.{Values, ClockEnded, OutOfMemory}
 use Rattle.geo_grammar.specs.declared.reply.Found.{Found}
 use Rattle.geo_site.specs.Entries.{Basis, Counts, none_counted, counted_on, counted, evicted_on, accesses, keys_found, issued, found_of, touched_of, touches_of, waits_after, lacks, due_acts, waits_on, flushes_due, is_stuck, is_reapable, reap_acts, Answers, is_done, made_on}
-use Rattle.geo_site.specs.Machine.{SiteState, Delta, accessed, with_stock, victim_by, VictimFits, Same, fresh, issue_all, take, clock_of, visible_in, knows_record, knows_floor, IsRecordCount, IsHeldCount}
+use Rattle.geo_site.specs.Machine.{SiteState, Delta, accessed, with_stock, victim_by, VictimFits, Same, fresh, issue_all, take, sifted_delta, removed, clock_of, visible_in, knows_record, knows_floor, IsRecordCount, IsHeldCount}
 
 -- a site as a state
 abbrev pub state_in : Site → SiteState
@@ -70,6 +70,10 @@ EndFrom least entry = (s : Moment) (e : ℕ) → (rec_means entry.1).1 ≡ Some 
 -- what it last heard of each site's vector
 abbrev pub heard_in : Site → List (List ℕ)
 heard_in site = site.heard
+
+-- the time up to which every site is known to know each operation
+abbrev pub horizon_in : Site → ℕ
+horizon_in site = horizon_of (heard_in site) site.number site.vector
 
 -- how many values it holds
 abbrev pub held_count : Site → ℕ
@@ -279,8 +283,15 @@ RefusesFor site parcel takes.Memory = Takes site parcel
 
 -- what a take does, by its result
 abbrev pub TakeDoes : Site → Site → Parcel → Result Taken Refused → Type 0
-TakeDoes old new parcel (Ok taken) = Takes old parcel × Same (take old.number (delta_of parcel) (state_in old)) (state_in new) × (IsTrue taken.rose ↔ (vector_joined old.vector parcel.upto ≢ old.vector)) × (held_count new + taken.dropped ≡ held_count old) × (heard_in new ≡ heard (heard_in old) parcel.from parcel.upto)
+TakeDoes old new parcel (Ok taken) = Takes old parcel × Same (take old.number (sifted_delta (horizon_in old) (delta_of parcel)) (state_in old)) (state_in new) × (IsTrue taken.rose ↔ (vector_joined old.vector parcel.upto ≢ old.vector)) × (held_count new + taken.dropped ≡ held_count old) × (heard_in new ≡ heard (heard_in old) parcel.from parcel.upto)
 TakeDoes old new parcel (Err refused) = RefusesFor old parcel refused.why × (refused.parcel ≡ parcel) × Same (state_in old) (state_in new) × (heard_in new ≡ heard_in old)
+
+-- what a removal does, and how many records it drops
+pub record RemoveDoes (old new : Site) (count : ℕ) : Type 0 where
+  pub left : Same (removed (horizon_in old) (state_in old)) (state_in new)
+  pub counted : record_count new + count ≡ record_count old
+  pub rests : Rests old new
+  pub stays : Stays old new
 
 -- a parcel to another site, of all that is known and that it was not heard to know
 pub record IsSent (site : Site) (to : ℕ) (parcel : Parcel) : Type 0 where

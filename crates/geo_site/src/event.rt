@@ -27,6 +27,10 @@ pub enum Event {
         site: u8,
         parcel: usize,
     },
+    /// The site drops what is left of deleted keys, where every site is known to know the deletes.
+    Remove {
+        site: u8,
+    },
     /// The site carries out a flush that waits, where its moment, in seconds, has come.
     Tick {
         site: u8,
@@ -55,6 +59,8 @@ pub enum Trace {
     Taken,
     /// The site is as it was.
     TakeRefused(TakeError),
+    /// The horizon by which records were dropped, and how many.
+    Removed { horizon: u64, count: usize },
     /// Whether a flush was carried out.
     Ticked(bool),
     /// Whether the key was deleted.

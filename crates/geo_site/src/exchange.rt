@@ -290,6 +290,8 @@ impl Site {
             floor,
             records,
         } = parcel;
+        // What is old by the horizon that stood before this parcel was heard was known before it.
+        let records = self.sifted(records);
         self.heard.heard(from, &upto);
         Ok(self.join(upto, floor, records))
     }

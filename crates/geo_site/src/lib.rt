@@ -17,6 +17,7 @@ pub mod flush;
 pub mod notes;
 pub mod reap;
 pub mod refusal;
+pub mod removal;
 pub mod setup;
 pub mod site;
 pub mod touch;

@@ -1,19 +1,26 @@
-use Rattle.std.proofs.Common.{◌≡◌, ℕ, List, refl, ap, ◌∙◌}
-use Rattle.geo_site.specs.Sites.{state_in, delta_of}
+use Rattle.std.proofs.Common.{◌≡◌, ℕ, List, refl, ap, ◌∙◌, subst, arith, length, ◌≤◌}
+use Rattle.geo_site.specs.Sites.{state_in, delta_of, horizon_in, knows_all}
 use Rattle.geo_site.proofs.Stocking.{stock_same}
 use Rattle.geo_site.proofs.Taking.{take_from_same}
-use Rattle.geo_versions.specs.Maps.{record_in}
+use Rattle.geo_versions.specs.Maps.{record_in, listed_at, HasRoomFor, Rec}
+use Rattle.geo_lattice.specs.Maps.{missing}
+use Rattle.geo_versions.specs.Keys.{same_key}
 use Rattle.geo_site.proofs.Noting.{traced_same, covers_same, ends_same, named_same}
 use Rattle.geo_values.specs.Held.{stock_in}
-use Rattle.geo_site.specs.Machine.{knows_floor}
+use Rattle.geo_site.specs.Machine.{Delta, Same, take, sifted_delta, knows_floor}
+use Rattle.geo_site.proofs.Sifting.{listed_sifted, missing_sifted, knows_sifted, sound_records}
 use Rattle.geo_site.proofs.site.Site.take.Goals as goal
 
 pub returns-clause-does : goal.returns-clause-does
 returns-clause-does c =
-    let ready = c.ready_records.ensures in (
+    let s = c.args.self.now in
+    let p = c.args.parcel in
+    let ready = c.ready_records.ensures in
+    let brought : Delta = record { upto = p.upto; floor = p.floor; map = listed_at c.sifted-records.result } in
+    let is : brought ≡ sifted_delta (horizon_in s) (delta_of p) = λ i. record { upto = p.upto; floor = p.floor; map = λ q. (ap (λ es. listed_at es q) c.sifted-records.ensures ∙ listed_sifted (horizon_in s) p.records q) i } in (
       c.in_default.ensures,
-      take_from_same c.args.self.now.number (delta_of c.args.parcel) (state_in c.args.self.now) _ (state_in c.join.new.self)
-          (record { vector = refl; floor = ready.floor; map = ready.records; stock = stock_same _ }) c.join.ensures.joined,
+      subst (λ d. Same (take s.number d (state_in s)) (state_in c.join.new.self)) is
+          (take_from_same s.number brought (state_in s) _ (state_in c.join.new.self) (record { vector = refl; floor = ready.floor; map = ready.records; stock = stock_same _ }) c.join.ensures.joined),
       c.join.ensures.rose,
       c.join.ensures.dropped,
       c.join.ensures.stays.2 ∙ c.heard.ensures,
@@ -48,3 +55,19 @@ invariant_of-self-2 c =
       ends = ends_same map new same s.earliest s.ends;
       named = named_same map new same (stock_in s.values).held (stock_in s.values).held (λ q. refl) s.named;
     }
+
+pub join-requires-clause-room : goal.join-requires-clause-room
+join-requires-clause-room c =
+    let s = c.args.self.now in
+    let records = c.args.parcel.records in
+    let new = c.ready_records.new.self in
+    let room : HasRoomFor new records = subst (λ es. HasRoomFor new es) c.as_slice.ensures c.in-Ok.ensures.room in
+    let fewer = missing_sifted (horizon_in s) new.records.entries records in
+    let is = ap (λ (es : List (List ℕ × Rec)). missing same_key new.records.entries es) c.sifted-records.ensures in
+    omega (arith, room, fewer, is)
+
+pub join-requires-clause-records_known : goal.join-requires-clause-records_known
+join-requires-clause-records_known c =
+    let s = c.args.self.now in
+    let p = c.args.parcel in
+    ap (knows_all p.upto) c.sifted-records.ensures ∙ knows_sifted p.upto (horizon_in s) p.records (sound_records (length s.vector) s.number p c.in_default.ensures.1)

@@ -1,0 +1,36 @@
+//! What every site knows, and this one need not keep.
+ghost use Rattle.std.specs.Prelude.{◌≡◌};
+ghost use Rattle.geo_versions.specs.Maps.{Rec, sifted};
+ghost use Rattle.geo_site.specs.Sites.{horizon_in, RemoveDoes};
+
+use crate::site::Site;
+use geo_lattice::Items;
+use geo_versions::{Key, Rec, sift};
+
+impl Site {
+    /// The horizon: the time up to which every site is known to know each operation, as far as it was heard, and behind which no
+    /// site issues another (stable operations: Almeida et al. 2018). It takes no memory.
+    pub fn horizon(&self) -> u64
+        ensures { result ≡ horizon_in self.now }
+    {
+        self.heard.horizon(self.number, &self.vector)
+    }
+
+    /// Drops the records that have no version and no operation with a time above the horizon, and tells how many. What it drops no
+    /// site misses: a parcel that still brings it is sifted. It passes over all records and takes no memory.
+    pub fn remove(&mut self) -> usize
+        ensures { RemoveDoes self.old self.new result }
+    {
+        let horizon = self.horizon();
+        self.versions.remove_below(horizon)
+    }
+
+    /// Of records that come, what not every site is known to know.
+    pub(crate) fn sifted(&self, records: Items<(Key, Rec)>) -> Items<(Key, Rec)>
+        ensures { result ≡ sifted (horizon_in self.now) records }
+    {
+        let mut all = records.into_vec();
+        sift(&mut all, self.horizon());
+        Items::of(all)
+    }
+}
