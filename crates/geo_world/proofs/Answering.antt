@@ -1,29 +1,36 @@
 -- What a site does at a command, a tick and a reap: first a flush that is due, and then the rest; and at an eviction.
-use Rattle.std.proofs.Common.{◌≡◌, ◌≢◌, ◌⊎◌, ℕ, zero, suc, ◌+◌, ◌≤◌, Bool, true, false, cond, nat_le, List, [], ◌∷◌, length, Option, None, Some, Ok, Err, refl, sym, ap, ◌∙◌, subst, slice_get, slice_set, inl, inr, true≢false}
+use Rattle.std.proofs.Common.{◌≡◌, ◌≢◌, ◌⊎◌, ℕ, zero, suc, ◌+◌, ◌≤◌, Bool, true, false, cond, nat_le, List, [], ◌∷◌, length, Option, None, Some, Ok, Err, refl, sym, ap, ◌∙◌, subst, subst₂, arith, slice_get, slice_set, inl, inr, true≢false}
 use Rattle.std.proofs.lemmas.List.{length-set}
 use Rattle.std.specs.Prelude.{is_some}
 use Rattle.geo_versions.specs.Maps.{has_register}
-use Rattle.geo_versions.specs.Operations.{Act, latest, record_of, version_in, version_of}
+use Rattle.geo_versions.specs.Operations.{Act, latest, version_in, version_of}
 use Rattle.geo_versions.specs.Operations.Act.{Delete}
 use Rattle.geo_delta.specs.declared.parcel.Parcel.{Parcel}
 use Rattle.geo_grammar.specs.declared.request.Request.{Request}
 use Rattle.geo_grammar.specs.declared.reply.Reply.{Reply}
 use Rattle.geo_grammar.specs.declared.reply.Reply.TheVariants.{OutOfMemory}
 use Rattle.geo_site.specs.declared.site.Site.{Site}
-use Rattle.geo_site.specs.declared.event.Event.TheVariants.{Command, Evict, Tick, Reap}
-use Rattle.geo_site.specs.declared.event.Trace.TheVariants.{Replied, Evicted, Ticked, Reaped, ReapRefused}
+use Rattle.geo_site.specs.declared.event.Event.TheVariants.{Command, Evict, Remove, Tick, Reap}
+use Rattle.geo_site.specs.declared.event.Trace.TheVariants.{Replied, Evicted, Removed, Ticked, Reaped, ReapRefused}
 use Rattle.geo_site.specs.declared.refusal.ReapError.{ReapError}
 use Rattle.geo_site.specs.declared.refusal.ReapError.TheVariants.{ClockEnded, Memory}
 use Rattle.geo_site.specs.Entries.{Basis, Counts, Visible, entry_in, issued, accesses, counted, evicted_on, waits_after, flushes_due, is_stuck, is_reapable, reap_acts, lacks, Answers, is_done}
-use Rattle.geo_site.specs.Machine.{Same, visible_in, IsRecordCount, IsHeldCount}
-use Rattle.geo_site.specs.Sites.{state_in, basis_in, counts_in, waiting_in, clock_in, record_count, held_count, issued_in, victim_in, to_reap, reaped_in, Rests, Stays, HasIssued, HasIssuedAfter, FirstVictimFits, FlushDoes, RequestDoes, RequestDoesBy, ActDoes, TickDoes, ReapDoes, ReapResult, EvictDoes}
-use Rattle.geo_site.specs.Schedule.{Known, issues_on, issues_by, carries_out, evicts, visible, basis, flushed, reaps_on, happens, RepliesTo, RepliesBy, VictimOf, ReapRefusedFor, Lawful}
-use Rattle.geo_site.specs.Agreement.{NoTime}
-use Rattle.geo_site.proofs.Steps.{state_version}
+use Rattle.geo_site.specs.Machine.{Same, removed, visible_in, IsRecordCount, IsHeldCount}
+use Rattle.geo_site.specs.Sites.{state_in, basis_in, counts_in, waiting_in, clock_in, record_count, held_count, issued_in, victim_in, to_reap, reaped_in, Rests, Stays, HasIssued, HasIssuedAfter, FirstVictimFits, FlushDoes, RequestDoes, RequestDoesBy, ActDoes, TickDoes, ReapDoes, ReapResult, EvictDoes, RemoveDoes, heard_in, horizon_in}
+use Rattle.geo_site.specs.Schedule.{Known, Stable, StableAt, issues_on, issues_by, carries_out, evicts, visible, basis, flushed, reaps_on, happens, RepliesTo, RepliesBy, VictimOf, ReapRefusedFor, Lawful}
+use Rattle.geo_site.specs.Agreement.{UpTo}
+use Rattle.geo_site.proofs.Steps.{state_version, state_later, state_removes, state_same}
+use Rattle.geo_site.proofs.Records.{holds_more}
+use Rattle.geo_stamp.specs.Acks.{row_of, with_own, horizon_of}
+use Rattle.geo_stamp.specs.Vectors.{entry_of}
 use Rattle.geo_world.specs.Agreement.{about, Stands, Agrees}
+use Rattle.geo_world.proofs.Horizon.{horizon_at_most, horizon_at_least, horizon_in_range, own_here, stable_below}
+use Rattle.geo_world.proofs.Bounding.{bounded_same, vector_was, vector_here, vector_there, rows_stay}
+use Rattle.geo_world.specs.Bounds.{vectors, rows}
+use Rattle.std.proofs.lemmas.Bool.{cases_eq}
 use Rattle.geo_world.proofs.Worlds.{some_none}
 use Rattle.geo_world.proofs.Victims.{AreQuiet, one_quiet, request_goes, victim_fits}
-use Rattle.geo_world.proofs.Changing.{exact, count_same, agrees_still, agrees_acts, agrees_carried, agrees_flushed, agrees_evicted, agrees_missing}
+use Rattle.geo_world.proofs.Changing.{reached_stable, agrees_changed, count_same, agrees_still, agrees_acts, agrees_carried, agrees_flushed, agrees_evicted, agrees_missing}
 
 -- an element that is written twice
 set_twice : {A : Type 0} (xs : List A) (k : ℕ) (x y : A) → slice_set (slice_set xs k x) k y ≡ slice_set xs k y
@@ -43,31 +50,33 @@ TellsVictim site now request reply victim = victim ≡ cond {A = Option (List �
 -- ---- a request where no flush is due
 module _ (sites : List Site) (parcels : List Parcel) (w : Known) (agrees : Agrees sites parcels w) (k s now : ℕ) (request : Request) (reply : Reply) (at_number : s ≡ k + 1) (hi : s ≤ length sites) (old new : Site) (got : slice_get sites k ≡ Some old) where
   seen : visible_in (state_in old) now ≡ visible w s now
-  seen = λ i key. entry_in now (state_version (length sites) s (state_in old) (w.at s) (w.held s) key (agrees.each k s old at_number got).state i) ((agrees.each k s old at_number got).state.same_held key i)
+  seen = λ i key. entry_in now (state_version (length sites) s (agrees.each k s old at_number got).horizon (state_in old) (w.at s) (w.held s) key (agrees.each k s old at_number got).state i) ((agrees.each k s old at_number got).state.same_held key i)
 
-  kept : (key : List ℕ) → (state_in old).map key ≡ record_of (w.at s) key
-  kept key = exact NoTime ((state_in old).map key) (w.at s) key (λ t h. h) ((agrees.each k s old at_number got).state.holds key)
-
-  basis_same : basis_in old now ≡ basis w s now (record_count old) (held_count old)
+  basis_same : basis_in old now ≡ basis w s now (state_in old).map (record_count old) (held_count old)
   basis_same =
       let known = agrees.each k s old at_number got in
       let clock = known.state.tells.clock in
       λ i. record {
         visible = seen i;
         clock = clock i;
-        recorded = λ key. has_register (kept key i);
+        recorded = λ key. has_register ((state_in old).map key);
         full = nat_le (known.limits i).max_records (record_count old);
         stats = record { curr_items = held_count old; get_hits = (known.counts i).hits; get_misses = (known.counts i).misses; evictions = (known.counts i).evictions; site = known.own i; clock = clock i; records = record_count old };
       }
 
   pub request_lawful : IsRecordCount (state_in old).map (record_count old) → IsHeldCount (state_in old).stock.held (held_count old) → RequestDoes old new now request reply → RepliesTo w s now request reply
-  request_lawful recorded held does = record {
-    records = record_count old;
-    items = held_count old;
-    recorded = count_same (λ key. has_register ((state_in old).map key)) (λ key. has_register (record_of (w.at s) key)) (record_count old) (λ key. ap has_register (kept key)) recorded;
-    held = count_same (λ key. is_some ((state_in old).stock.held key)) (λ key. is_some (w.held s key)) (held_count old) (λ key. ap is_some ((agrees.each k s old at_number got).state.same_held key)) held;
-    answers = subst (λ (b : Basis). Answers now b request reply) basis_same does.answer;
-  }
+  request_lawful recorded held does =
+      let st = agrees.each k s old at_number got in
+      let stable = reached_stable sites parcels w agrees k s at_number hi old got st.horizon st.reached in
+      record {
+        kept = (state_in old).map;
+        records = record_count old;
+        items = held_count old;
+        holds = λ key. holds_more (UpTo st.horizon) (Stable w) (λ time le. subst (λ n. StableAt n w.at time) (sym agrees.numbers) (stable_below (length sites) w.at st.horizon time le stable)) ((state_in old).map key) (w.at s) key (st.state.holds key);
+        recorded = recorded;
+        held = count_same (λ key. is_some ((state_in old).stock.held key)) (λ key. is_some (w.held s key)) (held_count old) (λ key. ap is_some (st.state.same_held key)) held;
+        answers = subst (λ (b : Basis). Answers now b request reply) basis_same does.answer;
+      }
 
   -- the victim of a request that was done; no other has one
   module _ (victim : Option (List ℕ)) (told : TellsVictim old now request reply victim) where
@@ -155,7 +164,7 @@ module _ (sites : List Site) (parcels : List Parcel) (w : Known) (agrees : Agree
   module _ (key : List ℕ) where
     module _ (mid : Site) (flush : FlushDoes old mid now) where
       version : version_in ((state_in mid).map key) ≡ version_of ((flushed w s now).at s) key
-      version = state_version (length (slice_set sites k mid)) s (state_in mid) ((flushed w s now).at s) ((flushed w s now).held s) key (stands mid flush).state
+      version = state_version (length (slice_set sites k mid)) s (stands mid flush).horizon (state_in mid) ((flushed w s now).at s) ((flushed w s now).held s) key (stands mid flush).state
 
       reapable : to_reap mid now key ≡ is_reapable s ((flushed w s now).limits s).reap_after now (version_of ((flushed w s now).at s) key)
       reapable = let st = stands mid flush in λ i. is_reapable (st.own i) (st.limits i).reap_after now (version i)
@@ -218,3 +227,52 @@ module _ (sites : List Site) (parcels : List Parcel) (w : Known) (agrees : Agree
           let st = agrees.each k s old at_number got in
           agrees_evicted sites parcels w agrees k s at_number hi old new got does.stays key done does (evicted_on (Some key) (w.counts s)) (does.counts ∙ ap Counted e ∙ ap (evicted_on (Some key)) st.counts)
       by false e = agrees_missing sites parcels w agrees k s at_number hi old new got does.stays key done does (none_held (w.held s key) (sym (does.told ∙ ap is_some ((agrees.each k s old at_number got).state.same_held key)) ∙ e)) (does.counts ∙ ap Counted e)
+
+-- ---- a removal
+module _ (sites : List Site) (parcels : List Parcel) (w : Known) (agrees : Agrees sites parcels w) (k s : ℕ) (at_number : s ≡ k + 1) (hi : s ≤ length sites) (old new : Site) (got : slice_get sites k ≡ Some old) where
+  lo : 1 ≤ s
+  lo = omega (arith, at_number)
+
+  reach : (q j : ℕ) → 1 ≤ q → q ≤ length sites → 1 ≤ j → j ≤ length sites → horizon_of (heard_in old) s old.vector ≤ entry_of (row_of (with_own (heard_in old) s old.vector) q) j
+  reach = let st = agrees.each k s old at_number got in horizon_at_most (length sites) s (heard_in old) old.vector lo hi st.state.many st.rows
+
+  own_horizon : horizon_in old ≡ horizon_of (heard_in old) s old.vector
+  own_horizon = let st = agrees.each k s old at_number got in ap (λ m. horizon_of (heard_in old) m old.vector) st.own
+
+  pub remove_lawful : (horizon count : ℕ) → horizon ≡ horizon_in old → Lawful w (Remove s) (Removed horizon count)
+  remove_lawful horizon count is =
+      subst₂ (λ n h. StableAt n w.at h) (sym agrees.numbers) (sym (is ∙ own_horizon)) (reached_stable sites parcels w agrees k s at_number hi old got (horizon_of (heard_in old) s old.vector) reach)
+
+  pub remove_agrees : (horizon count : ℕ) → RemoveDoes old new count → Agrees (slice_set sites k new) parcels (happens w (Remove s) (Removed horizon count))
+  remove_agrees horizon count does =
+      let st = agrees.each k s old at_number got in
+      let n = length sites in
+      let h = horizon_of (heard_in old) s old.vector in
+      let later : st.horizon ≤ h = horizon_at_least n s (heard_in old) old.vector lo hi st.state.many st.rows st.horizon st.top st.reached in
+      let some = st.rows s lo hi in
+      let behind : h ≤ latest (w.at s) = (
+      let r = reach s s lo hi lo hi in
+      let e = ap (λ v. entry_of v s) (own_here (heard_in old) s old.vector (omega (arith, some, lo, hi))) in
+      let own = st.state.tells.own in
+      omega (arith, r, e, own)) in
+      let left : Same (removed h (state_in old)) (state_in new) = subst (λ h. Same (removed h (state_in old)) (state_in new)) own_horizon does.left in
+      let state = state_same n s h (removed h (state_in old)) (state_in new) (w.at s) (w.held s) (state_removes n s h (state_in old) (w.at s) (w.held s) (state_later n s st.horizon h (state_in old) (w.at s) (w.held s) st.state later behind)) left in
+      let vector : new.vector ≡ old.vector = left.vector in
+      agrees_changed sites parcels w w agrees k s at_number new
+      (record {
+        own = does.stays.0 ∙ st.own;
+        horizon = h;
+        top = horizon_in_range (heard_in old) s old.vector;
+        state = state;
+        reached = subst₂ (λ (all : List (List ℕ)) (v : List ℕ). (q j : ℕ) → 1 ≤ q → q ≤ n → 1 ≤ j → j ≤ n → h ≤ entry_of (row_of (with_own all s v) q) j) (sym does.stays.2) (sym vector) reach;
+        counts = does.rests.0 ∙ st.counts;
+        waiting = does.rests.1 ∙ st.waiting;
+        limits = does.stays.1 ∙ st.limits;
+        rows = λ other first last. ap (λ all. length (row_of all other)) does.stays.2 ∙ st.rows other first last;
+      })
+      (λ t ne. refl) refl refl (λ time stable. stable)
+      (bounded_same n (vectors sites) (vectors (slice_set sites k new)) (rows sites) (rows (slice_set sites k new)) parcels w.at w.at w.sent w.sent
+      (λ t. elim (cases_eq t s) [
+        | inl e ↦ ap (vectors (slice_set sites k new)) e ∙ vector_here sites k s at_number hi old new got ∙ vector ∙ sym (vector_was sites k s at_number hi old new got) ∙ ap (vectors sites) (sym e)
+        | inr ne ↦ vector_there sites k s at_number hi old new got t ne
+      ]) (rows_stay sites k s at_number hi old new got does.stays.2) (λ t. refl) refl agrees.bounds)

@@ -15,7 +15,7 @@ use Rattle.geo_delta.specs.declared.parcel.Parcel.{Parcel}
 use Rattle.geo_site.specs.declared.site.Site.{Site}
 use Rattle.geo_site.specs.Entries.{Held}
 use Rattle.geo_site.specs.Machine.{SiteState, clock_of, issue, issue_all, act_held, without, victim_by}
-use Rattle.geo_site.specs.Schedule.{Known, still_held, settles, new_operation, issues}
+use Rattle.geo_site.specs.Schedule.{Known, StableAt, still_held, settles, new_operation, issues}
 use Rattle.geo_site.specs.Agreement.{StateOf}
 use Rattle.geo_site.proofs.Entries.{Within, entry_joined, entry_raised, entry_stays}
 use Rattle.geo_site.proofs.Sound.{here, there, among_left, among_right}
@@ -48,6 +48,8 @@ above_entry v u j h = let e = entry_joined v u j in let f = ap (λ x. entry_of x
 
 -- ---- operations that one site learns or issues
 pub record Grows (n s : ℕ) (V V' : ℕ → List ℕ) (H' : ℕ → ℕ → List ℕ) (at at' : ℕ → List Operation) (more : List Operation) : Type 0 where
+  pub low : 1 ≤ s
+  pub high : s ≤ n
   pub others : (t : ℕ) → t ≢ s → V' t ≡ V t
   pub rises : IsAbove (V' s) (V s)
   pub gains : at' s ≡ at s ++ more
@@ -94,6 +96,8 @@ module _ (n s : ℕ) (V V' : ℕ → List ℕ) (H H' : ℕ → ℕ → List ℕ)
 
   pub bounded_grows : Bounded n V' H' parcels at' sent
   bounded_grows = record {
+    first = λ t op a. elim (told t op a) [ inl k ↦ b.first k.0 op k.1 | inr new ↦ subst (λ t. 1 ≤ t) (sym new.0) g.low ];
+    last = λ t op a. elim (told t op a) [ inl k ↦ b.last k.0 op k.1 | inr new ↦ subst (λ t. t ≤ n) (sym new.0) g.high ];
     home = λ t op a. elim (told t op a) [
       | inl k ↦ keeps op.stamp.site op (b.home k.0 op k.1)
       | inr new ↦ subst (λ t. Among (at' t) op) (sym new.0) new.2
@@ -125,6 +129,16 @@ module _ (n s : ℕ) (V V' : ℕ → List ℕ) (H H' : ℕ → ℕ → List ℕ)
     sent_base = λ p parcel got. above_trans (V' parcel.to) (V parcel.to) parcel.base (above parcel.to) (b.sent_base p parcel got);
   }
 
+  -- what every site knows it knows still
+  pub stable_grows : (time : ℕ) → StableAt n at time → StableAt n at' time
+  stable_grows time stable = record {
+    known = λ r q op lo hi a le. elim (told r op a) [
+      | inl k ↦ keeps q op (stable.known k.0 q op lo hi k.1 le)
+      | inr new ↦ let late = stable.past s g.low g.high in let after = new.1 in absurd (omega (arith, late, after, le))
+    ];
+    past = λ q lo hi. let l = later q in let p = stable.past q lo hi in omega (arith, l, p);
+  }
+
 -- ---- the same, said otherwise
 pub bounded_same : (n : ℕ) (V V' : ℕ → List ℕ) (H H' : ℕ → ℕ → List ℕ) (parcels : List Parcel) (at at' : ℕ → List Operation) (sent sent' : List (ℕ × List Operation)) → ((t : ℕ) → V' t ≡ V t) → ((r q : ℕ) → H' r q ≡ H r q) → ((t : ℕ) → at' t ≡ at t) → sent' ≡ sent
     → Bounded n V H parcels at sent → Bounded n V' H' parcels at' sent'
@@ -146,7 +160,7 @@ the_one op o (inl e) = e
 the_one op o (inr h) = absurd h
 
 module _ (n s : ℕ) (H : ℕ → ℕ → List ℕ) (parcels : List Parcel) (lo : 1 ≤ s) (hi : s ≤ n) where
-  module _ (w : Known) (st : SiteState) (act : Act) (held : Held) (V V' : ℕ → List ℕ) (b : Bounded n V H parcels w.at w.sent) (ok : StateOf n s st (w.at s) held) (mine : V s ≡ st.vector) where
+  module _ (w : Known) (st : SiteState) (act : Act) (held : Held) (V V' : ℕ → List ℕ) (b : Bounded n V H parcels w.at w.sent) (h : ℕ) (ok : StateOf n s h st (w.at s) held) (mine : V s ≡ st.vector) where
     abbrev ops : List Operation
     ops = w.at s ++ new_operation w s act ∷ []
 
@@ -158,10 +172,12 @@ module _ (n s : ℕ) (H : ℕ → ℕ → List ℕ) (parcels : List Parcel) (lo 
         let clock = ok.tells.clock in
         let many = ok.many in
         let inside : Within st.vector s = record { above = lo; below = omega (arith, many, hi) } in
-        let next = state_issues n s st (w.at s) held act ok inside in
+        let next = state_issues n s h st (w.at s) held act ok inside in
         let gains = here w s ops (act_held act (w.held s)) in
         let rises : IsAbove (V' s) (V s) = ap (λ v. vector_joined v (V s)) is ∙ ap (vector_joined (issue s act st).vector) mine ∙ above_raised st.vector s (clock_of st + 1) ∙ sym is in
         record {
+          low = lo;
+          high = hi;
           others = others;
           rises = rises;
           gains = gains;
@@ -198,14 +214,14 @@ module _ (n s : ℕ) (H : ℕ → ℕ → List ℕ) (parcels : List Parcel) (lo 
         }
 
   -- whatever is held
-  pub bounded_issues : (acts : List Act) (w : Known) (st : SiteState) (held : Held) (V V' : ℕ → List ℕ) → Bounded n V H parcels w.at w.sent → StateOf n s st (w.at s) held → V s ≡ st.vector
+  pub bounded_issues : (acts : List Act) (w : Known) (st : SiteState) (held : Held) (V V' : ℕ → List ℕ) → Bounded n V H parcels w.at w.sent → (h : ℕ) → StateOf n s h st (w.at s) held → V s ≡ st.vector
       → V' s ≡ (issue_all s acts st).vector → ((t : ℕ) → t ≢ s → V' t ≡ V t) → Bounded n V' H parcels (issues w s acts).at (issues w s acts).sent
-  bounded_issues [] w st held V V' b ok mine is others =
+  bounded_issues [] w st held V V' b h ok mine is others =
       bounded_same n V V' H H parcels w.at w.at w.sent w.sent (λ t. elim (cases_eq t s) [
         | inl e ↦ subst (λ t. V' t ≡ V t) (sym e) (is ∙ sym mine)
         | inr ne ↦ others t ne
       ]) (λ r q. refl) (λ t. refl) refl b
-  bounded_issues (act ∷ acts) w st held V V' b ok mine is others =
+  bounded_issues (act ∷ acts) w st held V V' b low ok mine is others =
       let more = w.at s ++ new_operation w s act ∷ [] in
       let h = act_held act (w.held s) in
       let v = settles w s more h in
@@ -214,10 +230,28 @@ module _ (n s : ℕ) (H : ℕ → ℕ → List ℕ) (parcels : List Parcel) (lo 
       let at_s : U s ≡ next = put_here V s next in
       let elsewhere : (t : ℕ) → t ≢ s → U t ≡ V t = λ t ne. put_there V s next t ne in
       let many = ok.many in
-      let g = grows_issue w st act held V U b ok mine at_s elsewhere in
+      let g = grows_issue w st act held V U b low ok mine at_s elsewhere in
       let left = still_held more (act_held act (without (victim_by act st.stock) held)) in
-      let stands = subst (λ (o : List Operation). StateOf n s (issue s act st) o left) (sym (here w s more h)) (state_issues n s st (w.at s) held act ok (record { above = lo; below = omega (arith, many, hi) })) in
-      bounded_issues acts v (issue s act st) left U V' (bounded_grows n s V U H H parcels w.at v.at (new_operation w s act ∷ []) w.sent b g) stands at_s is (λ t ne. others t ne ∙ sym (elsewhere t ne))
+      let stands = subst (λ (o : List Operation). StateOf n s low (issue s act st) o left) (sym (here w s more h)) (state_issues n s low st (w.at s) held act ok (record { above = lo; below = omega (arith, many, hi) })) in
+      bounded_issues acts v (issue s act st) left U V' (bounded_grows n s V U H H parcels w.at v.at (new_operation w s act ∷ []) w.sent b g) low stands at_s is (λ t ne. others t ne ∙ sym (elsewhere t ne))
+
+  -- and what every site knew it knows once they are issued
+  pub stable_issues : (acts : List Act) (w : Known) (st : SiteState) (held : Held) (V : ℕ → List ℕ) → Bounded n V H parcels w.at w.sent → (h : ℕ) → StateOf n s h st (w.at s) held → V s ≡ st.vector → (time : ℕ) → StableAt n w.at time → StableAt n (issues w s acts).at time
+  stable_issues [] w st held V b low ok mine time stable = stable
+  stable_issues (act ∷ acts) w st held V b low ok mine time stable =
+      let more = w.at s ++ new_operation w s act ∷ [] in
+      let h = act_held act (w.held s) in
+      let v = settles w s more h in
+      let next = (issue s act st).vector in
+      let U : ℕ → List ℕ = λ t. cond (t == s) next (V t) in
+      let at_s : U s ≡ next = put_here V s next in
+      let elsewhere : (t : ℕ) → t ≢ s → U t ≡ V t = λ t ne. put_there V s next t ne in
+      let many = ok.many in
+      let g = grows_issue w st act held V U b low ok mine at_s elsewhere in
+      let left = still_held more (act_held act (without (victim_by act st.stock) held)) in
+      let stands = subst (λ (o : List Operation). StateOf n s low (issue s act st) o left) (sym (here w s more h)) (state_issues n s low st (w.at s) held act ok (record { above = lo; below = omega (arith, many, hi) })) in
+      stable_issues acts v (issue s act st) left U (bounded_grows n s V U H H parcels w.at v.at (new_operation w s act ∷ []) w.sent b g) low stands at_s time
+      (stable_grows n s V U H H parcels w.at v.at (new_operation w s act ∷ []) w.sent b g time stable)
 
 -- ---- a site takes a parcel
 module _ (n s p : ℕ) (V V' : ℕ → List ℕ) (H H' : ℕ → ℕ → List ℕ) (parcels : List Parcel) (at at' : ℕ → List Operation) (sent : List (ℕ × List Operation)) (parcel : Parcel)
@@ -252,6 +286,8 @@ module _ (n s p : ℕ) (V V' : ℕ → List ℕ) (H H' : ℕ → ℕ → List �
 
     pub grows_take : Grows n s V V' H' at at' (told_in sent p)
     grows_take = record {
+      low = lo;
+      high = hi;
       others = others;
       rises = rises;
       gains = gains;
@@ -289,6 +325,9 @@ module _ (n s p : ℕ) (V V' : ℕ → List ℕ) (H H' : ℕ → ℕ → List �
     pub bounded_takes : Bounded n V' H' parcels at' sent
     bounded_takes = bounded_grows n s V V' H H' parcels at at' (told_in sent p) sent b grows_take
 
+    pub stable_takes : (time : ℕ) → StableAt n at time → StableAt n at' time
+    stable_takes = stable_grows n s V V' H H' parcels at at' (told_in sent p) sent b grows_take
+
 -- ---- a site sends a parcel
 module _ (n s to : ℕ) (V : ℕ → List ℕ) (H : ℕ → ℕ → List ℕ) (parcels : List Parcel) (at : ℕ → List Operation) (sent : List (ℕ × List Operation)) (parcel : Parcel)
     (b : Bounded n V H parcels at sent) (many : length sent ≡ length parcels) (from : parcel.from ≡ s) (addressee : parcel.to ≡ to) (upto : parcel.upto ≡ V s) (base : parcel.base ≡ H s to) (lo : 1 ≤ to) (hi : to ≤ n) where
@@ -303,6 +342,8 @@ module _ (n s to : ℕ) (V : ℕ → List ℕ) (H : ℕ → ℕ → List ℕ) (p
 
   pub bounded_sends : Bounded n V H (parcels ++ parcel ∷ []) at (sent ++ new ∷ [])
   bounded_sends = record {
+    first = b.first;
+    last = b.last;
     home = b.home;
     complete = b.complete;
     past = b.past;
@@ -328,6 +369,8 @@ module _ (n s to : ℕ) (V : ℕ → List ℕ) (H : ℕ → ℕ → List ℕ) (p
 -- ---- sites that know nothing
 pub bounded_nothing : (n : ℕ) (V : ℕ → List ℕ) (H : ℕ → ℕ → List ℕ) → ((r s : ℕ) → entry_of (V r) s ≡ 0) → ((r s : ℕ) → 1 ≤ s → s ≤ n → IsAbove (V s) (H r s)) → Bounded n V H [] (λ t. []) []
 bounded_nothing n V H zero_entries heard_known = record {
+  first = λ t op a. absurd a;
+  last = λ t op a. absurd a;
   home = λ t op a. absurd a;
   complete = λ r t op a k. absurd a;
   past = λ r s. let z = zero_entries r s in omega (arith, z);

@@ -4,24 +4,27 @@ use Rattle.std.proofs.lemmas.List.{length-set}
 use Rattle.std.proofs.lemmas.Bool.Decides.{eqb_tells}
 use Rattle.std.specs.Cmp.Lexicographic.{same_text}
 use Rattle.geo_versions.specs.Keys.{same_key}
-use Rattle.geo_versions.specs.Operations.{Operation, Act, Register, Record, winner, latest_expiry, latest, record_of}
+use Rattle.geo_versions.specs.Operations.{Operation, Act, Record, latest}
 use Rattle.geo_versions.specs.Operations.Act.{Flush}
 use Rattle.geo_delta.specs.declared.parcel.Parcel.{Parcel}
 use Rattle.geo_site.specs.declared.site.Site.{Site}
 use Rattle.geo_site.specs.declared.setup.Limits.{Limits}
 use Rattle.geo_site.specs.Entries.{Held, Counts, flushes_due, due_acts, waits_on}
 use Rattle.geo_site.specs.Machine.{SiteState, Same, issue, issue_all, accessed, act_held, without, victim_by, IsCount}
-use Rattle.geo_site.specs.Sites.{state_in, counts_in, waiting_in, clock_in, HasIssued, HasIssuedAfter, Stays, Rests, FlushDoes, EvictDoes}
-use Rattle.geo_site.specs.Schedule.{Known, still_held, settles, new_operation, issues, counts_keys, lets_go, waits, flushed}
+use Rattle.geo_site.specs.Sites.{state_in, heard_in, counts_in, waiting_in, clock_in, HasIssued, HasIssuedAfter, Stays, Rests, FlushDoes, EvictDoes}
+use Rattle.geo_site.specs.Schedule.{Known, StableAt, still_held, settles, new_operation, issues, counts_keys, lets_go, waits, flushed}
 use Rattle.geo_stamp.specs.Stamps.{Moment}
-use Rattle.geo_site.specs.Agreement.{Kept, Holds, NoTime, Tells, StateOf}
+use Rattle.geo_site.specs.Agreement.{Holds, UpTo, Tells, StateOf}
 use Rattle.geo_site.proofs.Sound.{here, there, held_here, held_there}
 use Rattle.geo_site.proofs.Steps.{state_issues, state_same}
+use Rattle.geo_site.proofs.Records.{holds_more}
 use Rattle.geo_world.specs.Agreement.{SiteKnown, about, Stands, Carries, Agrees}
-use Rattle.geo_stamp.specs.Acks.{row_of}
+use Rattle.geo_stamp.specs.Acks.{row_of, with_own}
+use Rattle.geo_stamp.specs.Vectors.{entry_of}
 use Rattle.std.proofs.lemmas.Bool.{cases_eq}
-use Rattle.geo_world.specs.Bounds.{Bounded, vectors, rows}
-use Rattle.geo_world.proofs.Bounding.{bounded_same, bounded_issues, vector_was, vector_here, vector_there, rows_stay}
+use Rattle.geo_world.specs.Bounds.{Bounded, IsAbove, vectors, rows}
+use Rattle.geo_world.proofs.Bounding.{bounded_same, bounded_issues, stable_issues, vector_was, vector_here, vector_there, row_was, rows_stay}
+use Rattle.geo_world.proofs.Horizon.{issued_above, reached_more, horizon_stable, own_here, own_there}
 use Rattle.geo_world.proofs.Victims.{AreQuiet, GoesFor, quiet_goes, one_quiet, hit_held}
 use Rattle.geo_world.proofs.Worlds.{some_same, some_none}
 
@@ -33,17 +36,38 @@ get_written (a ∷ xs) zero x (suc k) y h = inr (omega arith, h)
 get_written (a ∷ xs) (suc s) x zero y h = inr (omega arith, h)
 get_written (a ∷ xs) (suc s) x (suc k) y h = elim (get_written xs s x k y h) [ inl p ↦ inl (ap suc p.0, p.1) | inr p ↦ let ne = p.0 in inr (omega arith, p.1) ]
 
+-- a parcel brings what it brought, as more is known
+pub carries_later : (n : ℕ) (at later : ℕ → List Operation) (parcel : Parcel) (sent : ℕ × List Operation) → ((time : ℕ) → StableAt n at time → StableAt n later time) → Carries n at parcel sent → Carries n later parcel sent
+carries_later n at later parcel sent stable c = record {
+  addressee = c.addressee;
+  other = c.other;
+  from_first = c.from_first;
+  from_last = c.from_last;
+  base = c.base;
+  floor_known = c.floor_known;
+  records_known = c.records_known;
+  delta = record {
+    many = c.delta.many;
+    tells = c.delta.tells;
+    kept = c.delta.kept;
+    holds = λ key. holds_more (StableAt n at) (StableAt n later) stable (c.delta.kept key) sent.1 key (c.delta.holds key);
+    lacking = c.delta.lacking;
+  };
+}
+
 module _ (sites : List Site) (parcels : List Parcel) (w v : Known) (agrees : Agrees sites parcels w) (k s : ℕ) (at_number : s ≡ k + 1) (new : Site) where
-  pub agrees_changed : Stands (length sites) s new (about v s) → ((t : ℕ) → t ≢ s → about v t ≡ about w t) → v.sent ≡ w.sent
+  pub agrees_changed : Stands (length sites) s new (about v s) → ((t : ℕ) → t ≢ s → about v t ≡ about w t) → v.sites ≡ w.sites → v.sent ≡ w.sent → ((time : ℕ) → StableAt (length sites) w.at time → StableAt (length sites) v.at time)
       → Bounded (length sites) (vectors (slice_set sites k new)) (rows (slice_set sites k new)) parcels v.at v.sent → Agrees (slice_set sites k new) parcels v
-  agrees_changed st others sent bounds = record {
+  agrees_changed st others numbers sent stable bounds = record {
     each = λ j number site e got. subst (λ n. Stands n number site (about v number)) (sym (length-set sites k new)) (elim (get_written sites k new j site got) [
       | inl p ↦ let m : s ≡ number = let q = p.0 in omega arith in subst₂ (λ (t : ℕ) (x : Site). Stands (length sites) t x (about v t)) m (sym p.1) st
       | inr p ↦ let ne : number ≢ s = let q = p.0 in omega arith in
           subst (λ (known : SiteKnown). Stands (length sites) number site known) (sym (others number ne)) (agrees.each j number site e p.1)
     ]);
+    numbers = numbers ∙ agrees.numbers ∙ sym (length-set sites k new);
     as_many = ap length sent ∙ agrees.as_many;
-    each_sent = λ p parcel got. subst₂ (λ (n : ℕ) (all : List (ℕ × List Operation)). Carries n parcel (slice_index_or all p (0, []))) (sym (length-set sites k new)) (sym sent) (agrees.each_sent p parcel got);
+    each_sent = λ p parcel got. subst₂ (λ (n : ℕ) (all : List (ℕ × List Operation)). Carries n v.at parcel (slice_index_or all p (0, []))) (sym (length-set sites k new)) (sym sent)
+        (carries_later (length sites) w.at v.at parcel (slice_index_or w.sent p (0, [])) stable (agrees.each_sent p parcel got));
     bounds = subst (λ n. Bounded n (vectors (slice_set sites k new)) (rows (slice_set sites k new)) parcels v.at v.sent) (sym (length-set sites k new)) bounds;
   }
 
@@ -70,6 +94,10 @@ pub issues_limits : (w : Known) (s : ℕ) (acts : List Act) → (issues w s acts
 issues_limits w s [] = refl
 issues_limits w s (act ∷ acts) = issues_limits (settles w s (w.at s ++ new_operation w s act ∷ []) (act_held act (w.held s))) s acts
 
+pub issues_sites : (w : Known) (s : ℕ) (acts : List Act) → (issues w s acts).sites ≡ w.sites
+issues_sites w s [] = refl
+issues_sites w s (act ∷ acts) = issues_sites (settles w s (w.at s ++ new_operation w s act ∷ []) (act_held act (w.held s))) s acts
+
 pub issues_sent : (w : Known) (s : ℕ) (acts : List Act) → (issues w s acts).sent ≡ w.sent
 issues_sent w s [] = refl
 issues_sent w s (act ∷ acts) = issues_sent (settles w s (w.at s ++ new_operation w s act ∷ []) (act_held act (w.held s))) s acts
@@ -95,7 +123,7 @@ left_there w s victim t ne = let other = put_there w.held s (without victim (w.h
 -- where none go all is as it was
 pub left_all : (w : Known) (s : ℕ) → lets_go w s None ≡ w
 left_all w s = let all = put_same w.held s (without None (w.held s)) refl in
-    λ i. record { at = w.at; held = λ t. all t i; counts = w.counts; waiting = w.waiting; limits = w.limits; sent = w.sent }
+    λ i. record { at = w.at; held = λ t. all t i; counts = w.counts; waiting = w.waiting; limits = w.limits; sites = w.sites; sent = w.sent }
 
 -- a key of which none are held
 without_missing : (held : Held) (key : List ℕ) → held key ≡ None → without (Some key) held ≡ held
@@ -107,34 +135,34 @@ without_missing held key none = λ i q. by q (same_key q key) refl i
 
 -- ---- what a site knows and holds once it has issued operations
 -- one, for which the bytes of a victim go
-issue_state : (n s : ℕ) (act : Act) (w : Known) (st : SiteState) (victim : Option (List ℕ)) → victim ≡ victim_by act st.stock → 1 ≤ s → s ≤ n → StateOf n s st (w.at s) (w.held s)
-    → StateOf n s (issue s act st) ((issues (lets_go w s victim) s (act ∷ [])).at s) ((issues (lets_go w s victim) s (act ∷ [])).held s)
-issue_state n s act w st victim is lo hi ok =
+issue_state : (n s h : ℕ) (act : Act) (w : Known) (st : SiteState) (victim : Option (List ℕ)) → victim ≡ victim_by act st.stock → 1 ≤ s → s ≤ n → StateOf n s h st (w.at s) (w.held s)
+    → StateOf n s h (issue s act st) ((issues (lets_go w s victim) s (act ∷ [])).at s) ((issues (lets_go w s victim) s (act ∷ [])).held s)
+issue_state n s low act w st victim is lo hi ok =
     let u = lets_go w s victim in
     let ops = w.at s ++ new_operation w s act ∷ [] in
     let h = act_held act (u.held s) in
     let many = ok.many in
     let goes : without (victim_by act st.stock) (w.held s) ≡ u.held s = ap (λ v. without v (w.held s)) (sym is) ∙ sym (left_here w s victim) in
-    subst₂ (λ (ops : List Operation) (h : Held). StateOf n s (issue s act st) ops h) (sym (here u s ops h)) (sym (held_here u s ops h))
-    (subst (λ (held : Held). StateOf n s (issue s act st) ops (still_held ops (act_held act held))) goes
-    (state_issues n s st (w.at s) (w.held s) act ok (record { above = lo; below = omega (arith, many) })))
+    subst₂ (λ (ops : List Operation) (h : Held). StateOf n s low (issue s act st) ops h) (sym (here u s ops h)) (sym (held_here u s ops h))
+    (subst (λ (held : Held). StateOf n s low (issue s act st) ops (still_held ops (act_held act held))) goes
+    (state_issues n s low st (w.at s) (w.held s) act ok (record { above = lo; below = omega (arith, many) })))
 
 -- any number, for which none go
-issues_state : (n s : ℕ) (acts : List Act) (w : Known) (st : SiteState) → AreQuiet acts → 1 ≤ s → s ≤ n → StateOf n s st (w.at s) (w.held s) → StateOf n s (issue_all s acts st) ((issues w s acts).at s) ((issues w s acts).held s)
-issues_state n s [] w st quiet lo hi ok = ok
-issues_state n s (act ∷ acts) w st quiet lo hi ok =
-    issues_state n s acts (settles w s (w.at s ++ new_operation w s act ∷ []) (act_held act (w.held s))) (issue s act st) quiet.1 lo hi
-    (subst (λ (u : Known). StateOf n s (issue s act st) ((issues u s (act ∷ [])).at s) ((issues u s (act ∷ [])).held s)) (left_all w s) (issue_state n s act w st None (sym (quiet.0 st)) lo hi ok))
+issues_state : (n s h : ℕ) (acts : List Act) (w : Known) (st : SiteState) → AreQuiet acts → 1 ≤ s → s ≤ n → StateOf n s h st (w.at s) (w.held s) → StateOf n s h (issue_all s acts st) ((issues w s acts).at s) ((issues w s acts).held s)
+issues_state n s h [] w st quiet lo hi ok = ok
+issues_state n s h (act ∷ acts) w st quiet lo hi ok =
+    issues_state n s h acts (settles w s (w.at s ++ new_operation w s act ∷ []) (act_held act (w.held s))) (issue s act st) quiet.1 lo hi
+    (subst (λ (u : Known). StateOf n s h (issue s act st) ((issues u s (act ∷ [])).at s) ((issues u s (act ∷ [])).held s)) (left_all w s) (issue_state n s h act w st None (sym (quiet.0 st)) lo hi ok))
 
 -- any number, for whose first the bytes of a victim go
-pub goes_state : (n s : ℕ) (acts : List Act) (w : Known) (st : SiteState) (victim : Option (List ℕ)) → GoesFor acts st victim → 1 ≤ s → s ≤ n → StateOf n s st (w.at s) (w.held s)
-    → StateOf n s (issue_all s acts st) ((issues (lets_go w s victim) s acts).at s) ((issues (lets_go w s victim) s acts).held s)
-goes_state n s [] w st victim goes lo hi ok = subst (λ (u : Known). StateOf n s st (u.at s) (u.held s)) (sym (left_all w s) ∙ ap (lets_go w s) (sym goes.first)) ok
-goes_state n s (act ∷ acts) w st victim goes lo hi ok = issues_state n s acts (issues (lets_go w s victim) s (act ∷ [])) (issue s act st) goes.rest lo hi (issue_state n s act w st victim goes.first lo hi ok)
+pub goes_state : (n s h : ℕ) (acts : List Act) (w : Known) (st : SiteState) (victim : Option (List ℕ)) → GoesFor acts st victim → 1 ≤ s → s ≤ n → StateOf n s h st (w.at s) (w.held s)
+    → StateOf n s h (issue_all s acts st) ((issues (lets_go w s victim) s acts).at s) ((issues (lets_go w s victim) s acts).held s)
+goes_state n s h [] w st victim goes lo hi ok = subst (λ (u : Known). StateOf n s h st (u.at s) (u.held s)) (sym (left_all w s) ∙ ap (lets_go w s) (sym goes.first)) ok
+goes_state n s h (act ∷ acts) w st victim goes lo hi ok = issues_state n s h acts (issues (lets_go w s victim) s (act ∷ [])) (issue s act st) goes.rest lo hi (issue_state n s h act w st victim goes.first lo hi ok)
 
 -- keys that are found change nothing that is known
-pub accessed_state : (n s : ℕ) (keys : List (List ℕ)) (st : SiteState) (ops : List Operation) (held : Held) → StateOf n s st ops held → StateOf n s (accessed keys st) ops held
-accessed_state n s keys st ops held ok = record { many = ok.many; tells = ok.tells; holds = ok.holds; same_held = λ key. hit_held keys st key ∙ ok.same_held key }
+pub accessed_state : (n s h : ℕ) (keys : List (List ℕ)) (st : SiteState) (ops : List Operation) (held : Held) → StateOf n s h st ops held → StateOf n s h (accessed keys st) ops held
+accessed_state n s h keys st ops held ok = record { many = ok.many; tells = ok.tells; behind = ok.behind; holds = ok.holds; same_held = λ key. hit_held keys st key ∙ ok.same_held key }
 
 -- ---- keys that a site counts, and the flush that waits there
 pub counts_here : (w : Known) (s : ℕ) (c : Counts) → (counts_keys w s c).counts s ≡ c
@@ -160,50 +188,59 @@ module _ (sites : List Site) (parcels : List Parcel) (w : Known) (agrees : Agree
       let V' = vectors (slice_set sites k new) in
       let u = lets_go w s victim in
       let i = issues u s acts in
-      let issued = bounded_issues n s (rows sites) parcels (omega (arith, at_number)) hi acts u (accessed keys (state_in old)) (w.held s) (vectors sites) V' agrees.bounds (accessed_state n s keys (state_in old) (w.at s) (w.held s) st.state) (vector_was sites k s at_number hi old new got)
+      let issued = bounded_issues n s (rows sites) parcels (omega (arith, at_number)) hi acts u (accessed keys (state_in old)) (w.held s) (vectors sites) V' agrees.bounds st.horizon (accessed_state n s st.horizon keys (state_in old) (w.at s) (w.held s) st.state) (vector_was sites k s at_number hi old new got)
       (vector_here sites k s at_number hi old new got ∙ vector) (λ t ne. vector_there sites k s at_number hi old new got t ne) in
       bounded_same n V' V' (rows sites) (rows (slice_set sites k new)) parcels i.at v.at i.sent v.sent (λ t. refl) (rows_stay sites k s at_number hi old new got stays.2)
       (λ t. elim (cases_eq t s) [ inl e ↦ ap v.at e ∙ ops ∙ ap i.at (sym e) | inr ne ↦ ap (λ (x : SiteKnown). x.ops) (others t ne) ]) sent issued
 
   -- it knows and holds what is known of it once the bytes of a victim have gone and operations are issued
-  agrees_left : (keys : List (List ℕ)) (acts : List Act) (victim : Option (List ℕ)) (v : Known) → StateOf (length sites) s (state_in new) (v.at s) (v.held s) → new.vector ≡ (issue_all s acts (accessed keys (state_in old))).vector → v.at s ≡ (issues (lets_go w s victim) s acts).at s
-      → counts_in new ≡ v.counts s → waiting_in new ≡ v.waiting s → v.limits s ≡ w.limits s → ((t : ℕ) → t ≢ s → about v t ≡ about (issues (lets_go w s victim) s acts) t) → v.sent ≡ (issues (lets_go w s victim) s acts).sent
+  agrees_left : (st : Stands (length sites) s old (about w s)) (keys : List (List ℕ)) (acts : List Act) (victim : Option (List ℕ)) (v : Known) → StateOf (length sites) s st.horizon (state_in new) (v.at s) (v.held s) → new.vector ≡ (issue_all s acts (accessed keys (state_in old))).vector → v.at s ≡ (issues (lets_go w s victim) s acts).at s
+      → counts_in new ≡ v.counts s → waiting_in new ≡ v.waiting s → v.limits s ≡ w.limits s → ((t : ℕ) → t ≢ s → about v t ≡ about (issues (lets_go w s victim) s acts) t) → v.sites ≡ w.sites → v.sent ≡ (issues (lets_go w s victim) s acts).sent
       → Agrees (slice_set sites k new) parcels v
-  agrees_left keys acts victim v state vector ops counts waiting limits others sent =
-      let st = agrees.each k s old at_number got in
+  agrees_left st keys acts victim v state vector ops counts waiting limits others numbers sent =
       let u = lets_go w s victim in
+      let n = length sites in
+      let lo : 1 ≤ s = omega (arith, at_number) in
+      let from = accessed keys (state_in old) in
+      let rises : IsAbove new.vector old.vector = subst (λ v. IsAbove v old.vector) (sym vector) (issued_above s acts from) in
+      let i = issues u s acts in
+      let ops_are : v.at ≡ i.at = λ j t. (elim (cases_eq t s) as (λ x. v.at t ≡ i.at t) [ inl e ↦ ap v.at e ∙ ops ∙ ap i.at (sym e) | inr ne ↦ ap (λ (x : SiteKnown). x.ops) (others t ne) ]) j in
       agrees_changed sites parcels w v agrees k s at_number new
       (record {
         own = stays.0 ∙ st.own;
+        horizon = st.horizon;
+        top = st.top;
         state = state;
+        reached = subst (λ (h : List (List ℕ)). (q j : ℕ) → 1 ≤ q → q ≤ n → 1 ≤ j → j ≤ n → st.horizon ≤ entry_of (row_of (with_own h s new.vector) q) j) (sym stays.2) (reached_more n s (heard_in old) old.vector new.vector st.horizon rises lo hi st.rows st.reached);
         counts = counts;
         waiting = waiting;
         limits = stays.1 ∙ st.limits ∙ sym limits;
         rows = λ other lo most. ap (λ h. length (row_of h other)) stays.2 ∙ st.rows other lo most;
       })
-      (λ t ne. others t ne ∙ issues_others u s acts t ne ∙ left_there w s victim t ne) (sent ∙ issues_sent u s acts)
+      (λ t ne. others t ne ∙ issues_others u s acts t ne ∙ left_there w s victim t ne) numbers (sent ∙ issues_sent u s acts)
+      (λ time stable. subst (λ at. StableAt n at time) (sym ops_are) (stable_issues n s (rows sites) parcels lo hi acts u from (w.held s) (vectors sites) agrees.bounds st.horizon (accessed_state n s st.horizon keys (state_in old) (w.at s) (w.held s) st.state) (vector_was sites k s at_number hi old new got) time stable))
       (bounds_issued keys acts victim v st vector ops others sent)
 
   -- keys are found there, the bytes of a victim go and it issues operations, and counts and waits as is known then
   pub agrees_issued : (keys : List (List ℕ)) (acts : List Act) (victim : Option (List ℕ)) (v : Known) → GoesFor acts (accessed keys (state_in old)) victim → HasIssuedAfter keys old new acts
       → v.at s ≡ (issues (lets_go w s victim) s acts).at s → v.held s ≡ (issues (lets_go w s victim) s acts).held s
-      → counts_in new ≡ v.counts s → waiting_in new ≡ v.waiting s → v.limits s ≡ w.limits s → ((t : ℕ) → t ≢ s → about v t ≡ about (issues (lets_go w s victim) s acts) t) → v.sent ≡ (issues (lets_go w s victim) s acts).sent
+      → counts_in new ≡ v.counts s → waiting_in new ≡ v.waiting s → v.limits s ≡ w.limits s → ((t : ℕ) → t ≢ s → about v t ≡ about (issues (lets_go w s victim) s acts) t) → v.sites ≡ w.sites → v.sent ≡ (issues (lets_go w s victim) s acts).sent
       → Agrees (slice_set sites k new) parcels v
-  agrees_issued keys acts victim v goes issued ops held counts waiting limits others sent =
+  agrees_issued keys acts victim v goes issued ops held counts waiting limits others numbers sent =
       let st = agrees.each k s old at_number got in
       let n = length sites in
       let i = issues (lets_go w s victim) s acts in
       let from = accessed keys (state_in old) in
       let same : Same (issue_all s acts from) (state_in new) = subst (λ (m : ℕ). Same (issue_all m acts from) (state_in new)) st.own issued in
-      let first = accessed_state n s keys (state_in old) (w.at s) (w.held s) st.state in
-      let state = state_same n s (issue_all s acts from) (state_in new) (i.at s) (i.held s) (goes_state n s acts w from victim goes (omega (arith, at_number)) hi first) same in
-      agrees_left keys acts victim v (subst₂ (λ (o : List Operation) (h : Held). StateOf n s (state_in new) o h) (sym ops) (sym held) state) same.vector ops counts waiting limits others sent
+      let first = accessed_state n s st.horizon keys (state_in old) (w.at s) (w.held s) st.state in
+      let state = state_same n s st.horizon (issue_all s acts from) (state_in new) (i.at s) (i.held s) (goes_state n s st.horizon acts w from victim goes (omega (arith, at_number)) hi first) same in
+      agrees_left st keys acts victim v (subst₂ (λ (o : List Operation) (h : Held). StateOf n s st.horizon (state_in new) o h) (sym ops) (sym held) state) same.vector ops counts waiting limits others numbers sent
 
   -- it changes nothing
   pub agrees_still : Same (state_in old) (state_in new) → Rests old new → Agrees (slice_set sites k new) parcels w
   agrees_still same rests =
       let st = agrees.each k s old at_number got in
-      agrees_left [] [] None w (state_same (length sites) s (state_in old) (state_in new) (w.at s) (w.held s) st.state same) same.vector refl (rests.0 ∙ st.counts) (rests.1 ∙ st.waiting) refl (λ t ne. sym (left_there w s None t ne)) refl
+      agrees_left st [] [] None w (state_same (length sites) s st.horizon (state_in old) (state_in new) (w.at s) (w.held s) st.state same) same.vector refl (rests.0 ∙ st.counts) (rests.1 ∙ st.waiting) refl (λ t ne. sym (left_there w s None t ne)) refl refl
 
   -- it issues operations for which no bytes go, and a flush waits there after them as before or otherwise
   pub agrees_waits : (acts : List Act) (x : Option ℕ) → AreQuiet acts → HasIssued old new acts → counts_in new ≡ counts_in old → waiting_in new ≡ x → Agrees (slice_set sites k new) parcels (waits (issues w s acts) s x)
@@ -212,14 +249,14 @@ module _ (sites : List Site) (parcels : List Parcel) (w : Known) (agrees : Agree
       let u = lets_go w s None in
       let i = issues u s acts in
       subst (λ (u : Known). Agrees (slice_set sites k new) parcels (waits (issues u s acts) s x)) (left_all w s)
-      (agrees_issued [] acts None (waits i s x) (quiet_goes acts (accessed [] (state_in old)) quiet) issued refl refl (counts ∙ st.counts ∙ ap (λ (f : ℕ → Counts). f s) (sym (issues_counts u s acts))) (waiting ∙ sym (waits_here i s x)) (ap (λ (f : ℕ → Limits). f s) (issues_limits u s acts)) (λ t ne. waits_there i s x t ne) refl)
+      (agrees_issued [] acts None (waits i s x) (quiet_goes acts (accessed [] (state_in old)) quiet) issued refl refl (counts ∙ st.counts ∙ ap (λ (f : ℕ → Counts). f s) (sym (issues_counts u s acts))) (waiting ∙ sym (waits_here i s x)) (ap (λ (f : ℕ → Limits). f s) (issues_limits u s acts)) (λ t ne. waits_there i s x t ne) (issues_sites u s acts) refl)
 
   pub agrees_acts : (acts : List Act) → AreQuiet acts → HasIssued old new acts → Rests old new → Agrees (slice_set sites k new) parcels (issues w s acts)
   agrees_acts acts quiet issued rests =
       let st = agrees.each k s old at_number got in
       let u = lets_go w s None in
       subst (λ (u : Known). Agrees (slice_set sites k new) parcels (issues u s acts)) (left_all w s)
-      (agrees_issued [] acts None (issues u s acts) (quiet_goes acts (accessed [] (state_in old)) quiet) issued refl refl (rests.0 ∙ st.counts ∙ ap (λ (f : ℕ → Counts). f s) (sym (issues_counts u s acts))) (rests.1 ∙ st.waiting ∙ ap (λ (f : ℕ → Option ℕ). f s) (sym (issues_waiting u s acts))) (ap (λ (f : ℕ → Limits). f s) (issues_limits u s acts)) (λ t ne. refl) refl)
+      (agrees_issued [] acts None (issues u s acts) (quiet_goes acts (accessed [] (state_in old)) quiet) issued refl refl (rests.0 ∙ st.counts ∙ ap (λ (f : ℕ → Counts). f s) (sym (issues_counts u s acts))) (rests.1 ∙ st.waiting ∙ ap (λ (f : ℕ → Option ℕ). f s) (sym (issues_waiting u s acts))) (ap (λ (f : ℕ → Limits). f s) (issues_limits u s acts)) (λ t ne. refl) (issues_sites u s acts) refl)
 
   -- it carries a request out
   pub agrees_carried : (keys : List (List ℕ)) (acts : List Act) (victim : Option (List ℕ)) (c : Counts) (x : Option ℕ) → GoesFor acts (accessed keys (state_in old)) victim → HasIssuedAfter keys old new acts → counts_in new ≡ c → waiting_in new ≡ x
@@ -228,7 +265,7 @@ module _ (sites : List Site) (parcels : List Parcel) (w : Known) (agrees : Agree
       let u = lets_go w s victim in
       let i = issues u s acts in
       let v = counts_keys i s c in
-      agrees_issued keys acts victim (waits v s x) goes issued refl refl (counts ∙ sym (counts_here i s c)) (waiting ∙ sym (waits_here v s x)) (ap (λ (f : ℕ → Limits). f s) (issues_limits u s acts)) (λ t ne. waits_there v s x t ne ∙ counts_there i s c t ne) refl
+      agrees_issued keys acts victim (waits v s x) goes issued refl refl (counts ∙ sym (counts_here i s c)) (waiting ∙ sym (waits_here v s x)) (ap (λ (f : ℕ → Limits). f s) (issues_limits u s acts)) (λ t ne. waits_there v s x t ne ∙ counts_there i s c t ne) (issues_sites u s acts) refl
 
   -- a due flush
   pub agrees_flushed : (now : ℕ) → FlushDoes old new now → Agrees (slice_set sites k new) parcels (flushed w s now)
@@ -241,14 +278,14 @@ module _ (sites : List Site) (parcels : List Parcel) (w : Known) (agrees : Agree
 
   -- the bytes of a key are dropped, and nothing else
   module _ (key : List ℕ) (done : Bool) (does : EvictDoes old new key done) where
-    dropped_state : StateOf (length sites) s (state_in new) (w.at s) (without (Some key) (w.held s))
-    dropped_state =
-        let st = agrees.each k s old at_number got in
+    dropped_state : (st : Stands (length sites) s old (about w s)) → StateOf (length sites) s st.horizon (state_in new) (w.at s) (without (Some key) (w.held s))
+    dropped_state st =
         let left = does.left in
         record {
           many = ap length left.vector ∙ st.state.many;
           tells = subst₂ (λ (v : List ℕ) (f : Option Moment). Tells s v f (w.at s)) (sym left.vector) (sym left.floor) st.state.tells;
-          holds = λ q. subst (λ (m : Record). Holds NoTime m (w.at s) q) (sym (left.map q)) (st.state.holds q);
+          behind = st.state.behind;
+          holds = λ q. subst (λ (m : Record). Holds (UpTo st.horizon) m (w.at s) q) (sym (left.map q)) (st.state.holds q);
           same_held = λ q. left.stock.held q ∙ ap (λ (o : Option (List ℕ)). cond (same_key q key) None o) (st.state.same_held q);
         }
 
@@ -256,24 +293,36 @@ module _ (sites : List Site) (parcels : List Parcel) (w : Known) (agrees : Agree
     agrees_evicted c counts =
         let st = agrees.each k s old at_number got in
         let u = lets_go w s (Some key) in
-        agrees_left [] [] (Some key) (counts_keys u s c) (subst (λ (h : Held). StateOf (length sites) s (state_in new) (w.at s) h) (sym (left_here w s (Some key))) dropped_state)
-        does.left.vector refl (counts ∙ sym (counts_here u s c)) (does.waiting ∙ st.waiting) refl (λ t ne. counts_there u s c t ne) refl
+        agrees_left st [] [] (Some key) (counts_keys u s c) (subst (λ (h : Held). StateOf (length sites) s st.horizon (state_in new) (w.at s) h) (sym (left_here w s (Some key))) (dropped_state st))
+        does.left.vector refl (counts ∙ sym (counts_here u s c)) (does.waiting ∙ st.waiting) refl (λ t ne. counts_there u s c t ne) refl refl
 
     -- of which none are held
     pub agrees_missing : w.held s key ≡ None → counts_in new ≡ counts_in old → Agrees (slice_set sites k new) parcels w
     agrees_missing none counts =
         let st = agrees.each k s old at_number got in
-        agrees_left [] [] None w (subst (λ (h : Held). StateOf (length sites) s (state_in new) (w.at s) h) (without_missing (w.held s) key none) dropped_state)
-        does.left.vector refl (counts ∙ st.counts) (does.waiting ∙ st.waiting) refl (λ t ne. sym (left_there w s None t ne)) refl
+        agrees_left st [] [] None w (subst (λ (h : Held). StateOf (length sites) s st.horizon (state_in new) (w.at s) h) (without_missing (w.held s) key none) (dropped_state st))
+        does.left.vector refl (counts ∙ st.counts) (does.waiting ∙ st.waiting) refl (λ t ne. sym (left_there w s None t ne)) refl refl
 
--- ---- what is kept, and how much of it
-pub exact : (P : ℕ → Type 0) (m : Record) (ops : List Operation) (key : List ℕ) → ((t : ℕ) → P t → ⊥) → Holds P m ops key → m ≡ record_of ops key
-exact P m ops key never h = λ i. (same m.0 (winner ops key) h.body i, same m.1 (latest_expiry ops key) h.expiry i)
-  where
-    same : {A : Type 0} (x r : Register A) → Kept P x r → x ≡ r
-    same x r (inl e) = e
-    same x None (inr e) = absurd e.1
-    same x (Some y) (inr e) = absurd (never y.0.time e.1)
+-- ---- what a site heard all others know, all know
+pub reached_stable : (sites : List Site) (parcels : List Parcel) (w : Known) → Agrees sites parcels w → (k s : ℕ) → s ≡ k + 1 → s ≤ length sites → (site : Site) → slice_get sites k ≡ Some site
+    → (h : ℕ) → ((q j : ℕ) → 1 ≤ q → q ≤ length sites → 1 ≤ j → j ≤ length sites → h ≤ entry_of (row_of (with_own (heard_in site) s site.vector) q) j) → StableAt (length sites) w.at h
+reached_stable sites parcels w agrees k s at_number hi site got h reached =
+    let n = length sites in
+    let lo : 1 ≤ s = omega (arith, at_number) in
+    let st = agrees.each k s site at_number got in
+    let some = st.rows s lo hi in
+    horizon_stable n s (vectors sites) (rows sites) parcels w.at w.sent agrees.bounds h
+    (λ j j1 jn.
+    let r = reached s j lo hi j1 jn in
+    let a = ap (λ v. entry_of v j) (own_here (heard_in site) s site.vector (omega (arith, some, lo, hi))) in
+    let b = ap (λ v. entry_of v j) (vector_was sites k s at_number hi site site got) in
+    omega (arith, r, a, b))
+    (λ q j ne q1 qn j1 jn.
+    let r = reached q j q1 qn j1 jn in
+    let a = ap (λ v. entry_of v j) (own_there (heard_in site) s q site.vector ne) in
+    let b = ap (λ v. entry_of v j) (row_was sites k s at_number hi site site got q) in
+    omega (arith, r, a, b))
 
+-- ---- how much is kept
 pub count_same : (a b : List ℕ → Bool) (n : ℕ) → ((key : List ℕ) → a key ≡ b key) → IsCount a n → IsCount b n
 count_same a b n same h = record { keys = h.keys; many = h.many; apart = h.apart; those = λ key. h.those key ∙ same key }

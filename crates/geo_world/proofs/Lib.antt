@@ -11,3 +11,4 @@ pub mod Meeting
 pub mod Requesting
 pub mod Touching
 pub mod Happening
+pub mod Horizon

@@ -122,7 +122,7 @@ module _ (sites : List Knowledge) (sent : List (ℕ × List Operation)) (w : Kno
           (λ t ne. waits_there w s waiting t ne) refl
 
       -- what it knows goes into a parcel
-      pub meets_sent : (to : ℕ) (known : List Operation) → known ≡ old.ops.items → Meets sites (sent ++ (to, known) ∷ []) (record { at = w.at; held = w.held; counts = w.counts; waiting = w.waiting; limits = w.limits; sent = w.sent ++ (to, w.at s) ∷ [] })
+      pub meets_sent : (to : ℕ) (known : List Operation) → known ≡ old.ops.items → Meets sites (sent ++ (to, known) ∷ []) (record { at = w.at; held = w.held; counts = w.counts; waiting = w.waiting; limits = w.limits; sites = w.sites; sent = w.sent ++ (to, w.at s) ∷ [] })
       meets_sent to known is =
           let told : operations_of known ≡ w.at s = ap operations_of is ∙ (meets.each k s old at_number got).operations in
           record {
@@ -137,9 +137,9 @@ module _ (sites : List Knowledge) (sent : List (ℕ × List Operation)) (w : Kno
 pub counts_more : {A : Type 0} (xs ys : List A) (x : A) (n : ℕ) → ys ≡ xs ++ x ∷ [] → length xs ≡ n → length ys ≡ n + 1
 counts_more xs ys x n more many = ap length more ∙ length-append xs (x ∷ []) ∙ ap (λ m. m + 1) many
 
-pub meets_more : (limits : ℕ → Limits) (sites more : List Knowledge) (new : Knowledge) (n : ℕ) → length sites ≡ n → more ≡ sites ++ new ∷ [] → new.ops.items ≡ [] → new.changes.items ≡ [] → counts_of new ≡ none_counted → new.waiting ≡ None → new.reap_after ≡ (limits (n + 1)).reap_after
-    → Meets sites [] (nothing_known limits) → Meets more [] (nothing_known limits)
-meets_more limits sites more new n many is ops changes counts waiting reap_after meets = record {
+pub meets_more : (total : ℕ) (limits : ℕ → Limits) (sites more : List Knowledge) (new : Knowledge) (n : ℕ) → length sites ≡ n → more ≡ sites ++ new ∷ [] → new.ops.items ≡ [] → new.changes.items ≡ [] → counts_of new ≡ none_counted → new.waiting ≡ None → new.reap_after ≡ (limits (n + 1)).reap_after
+    → Meets sites [] (nothing_known total limits) → Meets more [] (nothing_known total limits)
+meets_more total limits sites more new n many is ops changes counts waiting reap_after meets = record {
   each = λ k number site e got. elim (get_appended sites new k site (ap (λ all. slice_get all k) (sym is) ∙ got)) [
     | inl old ↦ meets.each k number site e old
     | inr p ↦ subst (λ (s : Knowledge). Knows s [] (λ _. None)) (sym p.1) (record { operations = ap operations_of ops; holds = λ key. ap (held_after key None) changes })
@@ -159,8 +159,8 @@ meets_more limits sites more new n many is ops changes counts waiting reap_after
   sent_is = refl;
 }
 
-pub meets_none : (limits : ℕ → Limits) (sites : List Knowledge) → sites ≡ [] → Meets sites [] (nothing_known limits)
-meets_none limits sites none = subst (λ (all : List Knowledge). Meets all [] (nothing_known limits)) (sym none) (record {
+pub meets_none : (n : ℕ) (limits : ℕ → Limits) (sites : List Knowledge) → sites ≡ [] → Meets sites [] (nothing_known n limits)
+meets_none n limits sites none = subst (λ (all : List Knowledge). Meets all [] (nothing_known n limits)) (sym none) (record {
   each = λ k number site e got. absurd (some_none (sym got));
   counted = λ k number site e got. absurd (some_none (sym got));
   waits = λ k number site e got. absurd (some_none (sym got));
@@ -184,7 +184,7 @@ module _ (sites : List Knowledge) (sent : List (ℕ × List Operation)) (w : Kno
 -- what was done was not refused for want of a stamp
 pub done_has_stamp : (w : Known) (s now : ℕ) (request : Request) (reply : Reply) → is_done reply ≡ true → lacks (latest (w.at s)) (issues_on w s now request) ≡ true → RepliesTo w s now request reply → ⊥
 done_has_stamp w s now request reply done ended h = elim h.answers [
-  | inl e ↦ refused (is_crowded (basis w s now h.records h.items) (issues_on w s now request)) (e ∙ (λ i. cond {A = Reply} (is_crowded (basis w s now h.records h.items) (issues_on w s now request)) MapFull (cond {A = Reply} (ended i) ClockEnded (replied now (visible w s now) (basis w s now h.records h.items).stats request))))
+  | inl e ↦ refused (is_crowded (basis w s now h.kept h.records h.items) (issues_on w s now request)) (e ∙ (λ i. cond {A = Reply} (is_crowded (basis w s now h.kept h.records h.items) (issues_on w s now request)) MapFull (cond {A = Reply} (ended i) ClockEnded (replied now (visible w s now) (basis w s now h.kept h.records h.items).stats request))))
   | inr e ↦ true≢false (sym done ∙ ap is_done e.0)
 ]
   where

@@ -37,7 +37,10 @@ silent_of n number a b pages limits most site is at_most none waits heard same f
     record {
       stands = record {
         own = is ∙ p;
-        state = state_same n number (fresh n pages) (state_in site) [] (λ _. None) (state_fresh n number pages) (subst (λ m. Same (fresh m pages) (state_in site)) q same);
+        horizon = 0;
+        top = omega arith;
+        reached = λ q j q1 qn j1 jn. omega arith;
+        state = state_same n number 0 (fresh n pages) (state_in site) [] (λ _. None) (state_fresh n number pages) (subst (λ m. Same (fresh m pages) (state_in site)) q same);
         counts = none;
         waiting = waits;
         limits = at_most ∙ r;
@@ -93,16 +96,17 @@ module _ (limits : ℕ → Limits) (sites : List Site) (few : length sites ≤ 1
   bounds_open : Bounded (length sites) (vectors sites) (rows sites) [] (λ t. []) []
   bounds_open = bounded_nothing (length sites) (vectors sites) (rows sites) no_entry above_row
 
-  agrees_none : Agrees sites [] (nothing_known limits)
+  agrees_none : Agrees sites [] (nothing_known (length sites) limits)
   agrees_none = record {
+    numbers = refl;
     each = λ k number site e got. (each k number site e got).stands;
     as_many = refl;
     each_sent = λ p parcel got. absurd (some_none (sym got));
     bounds = bounds_open;
   }
 
-pub agrees_open : (limits : ℕ → Limits) (sites : List Site) (parcels : List Parcel) (n : ℕ) → length sites ≡ n → n ≤ 16 → parcels ≡ [] → ((k number : ℕ) (site : Site) → number ≡ k + 1 → slice_get sites k ≡ Some site → Silent n number site (limits number)) → Agrees sites parcels (nothing_known limits)
-agrees_open limits sites parcels n many few none each = subst (λ ps. Agrees sites ps (nothing_known limits)) (sym none)
+pub agrees_open : (limits : ℕ → Limits) (sites : List Site) (parcels : List Parcel) (n : ℕ) → length sites ≡ n → n ≤ 16 → parcels ≡ [] → ((k number : ℕ) (site : Site) → number ≡ k + 1 → slice_get sites k ≡ Some site → Silent n number site (limits number)) → Agrees sites parcels (nothing_known n limits)
+agrees_open limits sites parcels n many few none each = subst₂ (λ (ps : List Parcel) (n : ℕ). Agrees sites ps (nothing_known n limits)) (sym none) many
     (agrees_none limits sites (omega (arith, many, few)) (λ k number site e got. subst (λ m. Silent m number site (limits number)) (sym many) (each k number site e got)))
 
 le_from : (a b : ℕ) → nat_le a b ≡ true → a ≤ b

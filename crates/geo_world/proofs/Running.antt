@@ -92,7 +92,7 @@ all_run first sites parcels events traces index le ge run =
 pub shows : (n number : ℕ) (site : Site) (known : SiteKnown) → Stands n number site known → ShowsVersions site known.ops
 shows n number site known st = record {
   floor = st.state.tells.floors;
-  versions = λ key. state_version n number (state_in site) known.ops known.held key st.state;
+  versions = λ key. state_version n number st.horizon (state_in site) known.ops known.held key st.state;
 }
 
 pub same_versions : (one other : Site) (ks ls : List Operation) → ShowsVersions one ks → ShowsVersions other ls → SameOperations ks ls → SameVersions one other

@@ -1,13 +1,15 @@
 -- Sites and parcels of the code are what is known of them.
 use Rattle.std.specs.Prelude.{Result, Ok, Err, ◌≡◌, ◌≢◌, ℕ, ◌+◌, ◌≤◌, true, false, List, [], length, Option, Some, None, slice_get, slice_index_or}
-use Rattle.geo_stamp.specs.Acks.{row_of}
+use Rattle.geo_stamp.specs.Acks.{row_of, with_own}
+use Rattle.geo_stamp.specs.Vectors.{entry_of}
+use Rattle.geo_stamp.specs.Stamps.{last_time}
 use Rattle.geo_versions.specs.Operations.{Operation, version_in, version_of, floor_of}
 use Rattle.geo_delta.specs.declared.parcel.Parcel.{Parcel}
 use Rattle.geo_site.specs.declared.site.Site.{Site}
 use Rattle.geo_site.specs.Entries.{Held, Counts, none_counted}
 use Rattle.geo_site.specs.Machine.{knows_floor}
 use Rattle.geo_site.specs.Sites.{state_in, counts_in, waiting_in, limits_of, heard_in, delta_of, knows_all}
-use Rattle.geo_site.specs.Schedule.{Known, happens, Lawful}
+use Rattle.geo_site.specs.Schedule.{Known, StableAt, happens, Lawful}
 use Rattle.geo_site.specs.declared.setup.Setup.{Setup}
 use Rattle.geo_site.specs.declared.setup.Limits.{Limits}
 use Rattle.geo_site.specs.declared.event.Event.{Event}
@@ -34,17 +36,22 @@ about w number = record { ops = w.at number; held = w.held number; counts = w.co
 abbrev pub nothing_about : Limits → SiteKnown
 nothing_about limits = record { ops = []; held = λ _. None; counts = none_counted; waiting = None; limits = limits }
 
--- the site has this number among so many, and is what is known of it
+-- the site has this number among so many, and is what is known of it, but for what it dropped up to a horizon that each entry of all
+-- vectors that it heard has reached
 pub record Stands (sites number : ℕ) (site : Site) (known : SiteKnown) : Type 0 where
   pub own : site.number ≡ number
-  pub state : StateOf sites number (state_in site) known.ops known.held
+  pub horizon : ℕ
+  pub top : horizon ≤ last_time
+  pub state : StateOf sites number horizon (state_in site) known.ops known.held
+  pub reached : (q j : ℕ) → 1 ≤ q → q ≤ sites → 1 ≤ j → j ≤ sites → horizon ≤ entry_of (row_of (with_own (heard_in site) number site.vector) q) j
   pub counts : counts_in site ≡ known.counts
   pub waiting : waiting_in site ≡ known.waiting
   pub limits : limits_of site ≡ known.limits
   pub rows : (other : ℕ) → 1 ≤ other → other ≤ sites → length (row_of (heard_in site) other) ≡ sites
 
--- the parcel is for its addressee, from another site, knows all its stamps, and is what its sender knew and the base does not
-pub record Carries (sites : ℕ) (parcel : Parcel) (sent : ℕ × List Operation) : Type 0 where
+-- the parcel is for its addressee, from another site, knows all its stamps, and is what its sender knew and the base does not, but for
+-- what every site knows
+pub record Carries (sites : ℕ) (at : ℕ → List Operation) (parcel : Parcel) (sent : ℕ × List Operation) : Type 0 where
   pub addressee : parcel.to ≡ sent.0
   pub other : parcel.from ≢ parcel.to
   pub from_first : 1 ≤ parcel.from
@@ -52,13 +59,14 @@ pub record Carries (sites : ℕ) (parcel : Parcel) (sent : ℕ × List Operation
   pub base : length parcel.base ≡ sites
   pub floor_known : knows_floor parcel.upto parcel.floor ≡ true
   pub records_known : knows_all parcel.upto parcel.records ≡ true
-  pub delta : DeltaOf sites parcel.from parcel.base (delta_of parcel) sent.1
+  pub delta : DeltaOf sites parcel.from (StableAt sites at) parcel.base (delta_of parcel) sent.1
 
 -- each site and each parcel is what is known of it, and no vector promises more than is known
 pub record Agrees (sites : List Site) (parcels : List Parcel) (w : Known) : Type 0 where
   pub each : (k number : ℕ) (site : Site) → number ≡ k + 1 → slice_get sites k ≡ Some site → Stands (length sites) number site (about w number)
+  pub numbers : w.sites ≡ length sites
   pub as_many : length w.sent ≡ length parcels
-  pub each_sent : (p : ℕ) (parcel : Parcel) → slice_get parcels p ≡ Some parcel → Carries (length sites) parcel (slice_index_or w.sent p (0, []))
+  pub each_sent : (p : ℕ) (parcel : Parcel) → slice_get parcels p ≡ Some parcel → Carries (length sites) w.at parcel (slice_index_or w.sent p (0, []))
   pub bounds : Bounded (length sites) (vectors sites) (rows sites) parcels w.at w.sent
 
 -- the site's floor and versions are those that the operations name

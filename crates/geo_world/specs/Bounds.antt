@@ -32,7 +32,9 @@ told_in sent p = (slice_index_or sent p (0, [])).1
 
 -- so many sites have these vectors, heard this of one another, and know these operations
 pub record Bounded (sites : ℕ) (vector : ℕ → List ℕ) (heard : ℕ → ℕ → List ℕ) (parcels : List Parcel) (at : ℕ → List Operation) (sent : List (ℕ × List Operation)) : Type 0 where
-  -- each operation is known where it was issued
+  -- each operation is of one of the sites, and is known where it was issued
+  pub first : (t : ℕ) (op : Operation) → Among (at t) op → 1 ≤ op.stamp.site
+  pub last : (t : ℕ) (op : Operation) → Among (at t) op → op.stamp.site ≤ sites
   pub home : (t : ℕ) (op : Operation) → Among (at t) op → Among (at op.stamp.site) op
   -- a site knows all that was issued up to its entries, and has no entry past a clock
   pub complete : (r t : ℕ) (op : Operation) → Among (at t) op → Knows (vector r) op.stamp → Among (at r) op

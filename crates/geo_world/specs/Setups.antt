@@ -25,4 +25,4 @@ limits_of setups number = limits_at setups (number - 1)
 
 -- at the start nothing is known
 abbrev pub start : List Setup → Known
-start setups = nothing_known (limits_of setups)
+start setups = nothing_known (length setups) (limits_of setups)

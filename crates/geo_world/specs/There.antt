@@ -2,7 +2,7 @@
 use Rattle.std.specs.Prelude.{◌≡◌, ℕ, ◌^◌, Bool, true, false, ◌&&◌, nat_le, nat_lt, List, [], ◌∷◌, length, Some, take, slice_get}
 use Rattle.std.specs.List.{list_all}
 use Rattle.geo_site.specs.declared.event.Event.{Event}
-use Rattle.geo_site.specs.declared.event.Event.TheVariants.{Command, Evict, Send, Take, Tick, Reap}
+use Rattle.geo_site.specs.declared.event.Event.TheVariants.{Command, Evict, Send, Take, Remove, Tick, Reap}
 use Rattle.geo_site.specs.declared.event.Trace.{Trace}
 use Rattle.geo_site.specs.Schedule.{Known, happens, known, EachLawful}
 
@@ -16,6 +16,7 @@ is_there sites parcels (Command site now request) = is_site sites site
 is_there sites parcels (Evict site key) = is_site sites site
 is_there sites parcels (Send site to) = is_site sites site && is_site sites to
 is_there sites parcels (Take site parcel) = is_site sites site && nat_lt parcel parcels
+is_there sites parcels (Remove site) = is_site sites site
 is_there sites parcels (Tick site now) = is_site sites site
 is_there sites parcels (Reap site now key) = is_site sites site
 
@@ -25,6 +26,7 @@ is_in_time (Command site now request) = nat_le now (2 ^ 40)
 is_in_time (Evict site key) = true
 is_in_time (Send site to) = true
 is_in_time (Take site parcel) = true
+is_in_time (Remove site) = true
 is_in_time (Tick site now) = nat_le now (2 ^ 40)
 is_in_time (Reap site now key) = nat_le now (2 ^ 40)
 

@@ -23,7 +23,8 @@ fn is_in_time_event(event: &Event) -> bool
         Event::Command { now, .. } | Event::Tick { now, .. } | Event::Reap { now, .. } => {
             *now <= LAST_MOMENT
         }
-        Event::Evict { .. } | Event::Send { .. } | Event::Take { .. } => true,
+        Event::Evict { .. } | Event::Send { .. } | Event::Take { .. } | Event::Remove { .. } =>
+            true,
     }
 }
 

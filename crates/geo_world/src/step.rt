@@ -38,6 +38,21 @@ impl World {
         Trace::Evicted(at.evict(key))
     }
 
+    /// What every site knows to be deleted is dropped.
+    fn remove(&mut self, site: u8) -> Trace
+        requires there { is_site (length self.old.sites.items) site ≡ true }
+        ensures lawful { (w : Known) → Agrees self.old.sites.items self.old.parcels.items w → Lawful w (Event.Remove site) result }
+        ensures kept { (w : Known) → Agrees self.old.sites.items self.old.parcels.items w → Agrees self.new.sites.items self.new.parcels.items (happens w (Event.Remove site) result) }
+        ensures as_many { length self.new.sites.items ≡ length self.old.sites.items }
+    {
+        let at = &mut self.sites[site as usize - 1];
+        let horizon = at.horizon();
+        Trace::Removed {
+            horizon,
+            count: at.remove(),
+        }
+    }
+
     /// A flush that waits is carried out where it is due.
     fn tick(&mut self, site: u8, now: u64) -> Trace
         requires there { is_site (length self.old.sites.items) site ≡ true }
@@ -113,6 +128,7 @@ impl World {
         match event {
             Event::Command { site, .. }
             | Event::Evict { site, .. }
+            | Event::Remove { site }
             | Event::Tick { site, .. }
             | Event::Reap { site, .. } => self.has(*site),
             Event::Send { site, to } => self.has(*site) && self.has(*to),
@@ -142,6 +158,7 @@ impl World {
                 Ok(trace) => Ok(trace),
                 Err(_) => Err(WorldError::Memory),
             },
+            Event::Remove { site } => Ok(self.remove(*site)),
             Event::Tick { site, now } => Ok(self.tick(*site, *now)),
             Event::Reap { site, now, key } => Ok(self.reap(alloc, *site, *now, key)),
         }

@@ -3,6 +3,7 @@ mod due;
 mod evictions;
 mod large;
 mod moments;
+mod removals;
 mod seeded;
 
 use crate::{Outcome, WorldError, are_good, are_in_time, run_schedule};

@@ -77,7 +77,7 @@ impl Known {
             Event::Command { site, now, .. }
             | Event::Tick { site, now }
             | Event::Reap { site, now, .. } => self.has(*site) && *now <= LAST_MOMENT,
-            Event::Evict { site, .. } => self.has(*site),
+            Event::Evict { site, .. } | Event::Remove { site } => self.has(*site),
             Event::Send { site, to } => self.has(*site) && self.has(*to),
             Event::Take { site, parcel } => self.has(*site) && *parcel < self.sent.len(),
         }

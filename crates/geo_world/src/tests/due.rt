@@ -12,14 +12,21 @@ use geo_versions::Key;
 use std::alloc::Global;
 use std::test::Fail;
 
-/// Whether a reply is the one that is due to a request, at a site that knows and holds this much, may have so many records, and
-/// has carried out a flush that was due.
+/// How many records a site may have, and whether it drops any.
+#[derive(Clone, Copy)]
+pub struct Table {
+    pub limit: u64,
+    pub removes: bool,
+}
+
+/// Whether a reply is the one that is due to a request, at a site that knows and holds this much, has such a table, and has carried
+/// out a flush that was due.
 pub fn replies_as_due(
     alloc: Global,
     at: &Knowledge,
     site: u8,
     now: u64,
-    limit: u64,
+    table: Table,
     names: &[Key],
     request: &Request,
     reply: &Reply,
@@ -28,7 +35,7 @@ pub fn replies_as_due(
         return Err("out of time")?;
     }
     let room = Room {
-        limit,
+        limit: table.limit,
         records: recorded(at, names),
     };
     if let Some((key, ask)) = ask_of(request) {
@@ -52,7 +59,8 @@ pub fn replies_as_due(
         }
         (Request::FlushAll { .. }, Reply::Done) => true,
         (Request::Stats, Reply::Stats(stats)) => {
-            *stats == stats_due(at, site, room.records, names)
+            counts_records(at, table, room.records, names, stats.records)
+                && *stats == stats_due(at, site, stats.records, names)
         }
         (Request::ShowVersion, Reply::Version) => true,
         _ => false,
@@ -84,6 +92,16 @@ fn is_recorded(at: &Knowledge, name: &Key) -> bool {
 
 fn recorded(at: &Knowledge, names: &[Key]) -> u64 {
     names.iter().filter(|name| is_recorded(at, *name)).count() as u64
+}
+
+/// Whether a site may have so many records, where its operations leave `most`: all of them, or where it drops some at least those
+/// with a version.
+fn counts_records(at: &Knowledge, table: Table, most: u64, names: &[Key], records: u64) -> bool {
+    let least = names
+        .iter()
+        .filter(|name| at.version_of(*name).is_some())
+        .count() as u64;
+    records == most || (table.removes && least <= records && records < most)
 }
 
 fn stats_due(at: &Knowledge, site: u8, records: u64, names: &[Key]) -> Stats {

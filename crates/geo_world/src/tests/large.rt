@@ -1,6 +1,7 @@
 //! Seeded schedules of two sites over large values, of which a page has one or two chunks, so that stores evict.
 ghost use Rattle.std.specs.Prelude.{◌<◌};
 
+use super::due::Table;
 use super::seeded::{Dice, Worth, add_stats, all_due, all_named_alike};
 use super::{fetch, key, set_until, setups};
 use crate::{are_in_time, run_schedule};
@@ -94,7 +95,11 @@ fn add_seed(
     if outcome.traces.len() != events.len() {
         return Err("not as many traces")?;
     }
-    let known = all_due(alloc, &told, 1000, names, &events, &outcome.traces)?;
+    let table = Table {
+        limit: 1000,
+        removes: false,
+    };
+    let known = all_due(alloc, &told, table, names, &events, &outcome.traces)?;
     let named = all_named_alike(&known, &outcome, names)?;
     worth.named = worth.named.wrapping_add(named);
     for trace in &outcome.traces {

@@ -2,10 +2,11 @@
 //! what the plain program says.
 ghost use Rattle.std.specs.Prelude.{◌<◌, ◌≤◌, ◌^◌};
 
-use super::due::{evicts_as_due, replies_as_due};
+use super::due::{Table, evicts_as_due, replies_as_due};
 use super::{key, setups_of};
 use crate::plain::knowledge::Knowledge;
 use crate::plain::known::{Known, known_after};
+use crate::plain::meaning::latest;
 use crate::{Outcome, are_in_time, run_schedule};
 use geo_grammar::{Reply, Request, ValueBytes, Verb};
 use geo_lattice::Items;
@@ -164,14 +165,16 @@ fn two_keys(alloc: Global, dice: &mut Dice) -> Result<Items<Key>, Fail> {
     Ok(Items::of(keys))
 }
 
-fn schedule(alloc: Global, dice: &mut Dice, sites: u8) -> Result<Vec<Event>, Fail>
+fn schedule(alloc: Global, dice: &mut Dice, sites: u8, removes: bool) -> Result<Vec<Event>, Fail>
     requires positive { 1 ≤ sites }
 {
+    let faces = if removes { 23 } else { 20 };
     let mut events = Vec::new(alloc);
     let mut addressees: Vec<u8> = Vec::new(alloc);
     for index in 0..EVENTS {
         let site = dice.site(sites);
-        let event = match dice.below(20) {
+        let event = match dice.below(faces) {
+            20 | 21 | 22 => Event::Remove { site },
             0 | 1 | 2 | 3 | 4 | 5 | 16 | 17 => Event::Command {
                 site,
                 now: dice.now(index),
@@ -244,11 +247,26 @@ fn flushed(alloc: Global, known: &mut Known, site: u8, now: u64) -> Result<&Know
     site_of(known, site)
 }
 
+/// Whether a site knows each operation that any site knows up to a time.
+fn knows_up_to(site: &Knowledge, known: &Known, time: u64) -> bool {
+    known.sites.iter().all(|other| {
+        other.ops.iter().all(|op| {
+            op.stamp.time() > time || site.ops.iter().any(|own| own.stamp == op.stamp)
+        })
+    })
+}
+
+/// Whether each site knows every operation up to a time, and issues no other one there.
+fn is_stable(known: &Known, time: u64) -> bool {
+    known.sites.iter().all(|site| latest(site.ops.as_slice()) >= time
+        && knows_up_to(site, known, time))
+}
+
 /// Whether the trace is what the plain program says of the event.
 fn is_due(
     alloc: Global,
     known: &mut Known,
-    limit: u64,
+    table: Table,
     names: &[Key],
     event: &Event,
     trace: &Trace,
@@ -258,7 +276,7 @@ fn is_due(
             let at = flushed(alloc, known, *site, *now)?;
             let victim = victim.as_ref();
             let evicts = evicts_as_due(alloc, at, *now, names, request, reply, victim)?;
-            Ok(evicts && replies_as_due(alloc, at, *site, *now, limit, names, request, reply)?)
+            Ok(evicts && replies_as_due(alloc, at, *site, *now, table, names, request, reply)?)
         }
         (Event::Evict { site, key }, Trace::Evicted(done)) => {
             Ok(*done == site_of(known, *site)?.held(key).is_some())
@@ -270,6 +288,7 @@ fn is_due(
             let at = flushed(alloc, known, *site, *now)?;
             Ok(*done == at.is_to_reap(*site, *now, key))
         }
+        (Event::Remove { .. }, Trace::Removed { horizon, .. }) => Ok(is_stable(known, *horizon)),
         (Event::Send { site, to }, Trace::Sent) => Ok(site != to),
         (Event::Send { site, to }, Trace::SendRefused(SendError::NoSuchSite)) => Ok(site == to),
         (Event::Take { site, parcel }, Trace::Taken) => {
@@ -300,7 +319,7 @@ fn follow(alloc: Global, known: &mut Known, event: &[Event], trace: &[Trace]) ->
 pub fn all_due(
     alloc: Global,
     setups: &[Setup],
-    limit: u64,
+    table: Table,
     names: &[Key],
     events: &[Event],
     traces: &[Trace],
@@ -312,7 +331,7 @@ pub fn all_due(
         let ([one], [its]) = (event, trace) else {
             return Err("no event")?;
         };
-        if !is_due(alloc, &mut known, limit, names, one, its)? {
+        if !is_due(alloc, &mut known, table, names, one, its)? {
             return Err("not what is due")?;
         }
         follow(alloc, &mut known, event, trace)?;
@@ -359,6 +378,7 @@ pub struct Worth {
     touched: u64,
     ticked: u64,
     reaped: u64,
+    removed: u64,
     pub evicted: u64,
     pub victims: u64,
 }
@@ -372,6 +392,7 @@ impl Worth {
             touched: 0,
             ticked: 0,
             reaped: 0,
+            removed: 0,
             evicted: 0,
             victims: 0,
         }
@@ -387,6 +408,7 @@ impl Worth {
             Trace::Evicted(true) => &mut self.evicted,
             Trace::Ticked(true) => &mut self.ticked,
             Trace::Reaped(true) => &mut self.reaped,
+            Trace::Removed { count, .. } if *count > 0 => &mut self.removed,
             _ => return,
         };
         *count = count.wrapping_add(1);
@@ -394,19 +416,25 @@ impl Worth {
 }
 
 /// Runs the schedule of a seed, of two to four sites with room for one, two or all three of the keys, that keep what ended for
-/// up to twenty seconds, and adds what it was worth.
+/// up to twenty seconds, and adds what it was worth. Sites that drop deletes are one or two, with room for all keys.
 fn add_seed(
     alloc: Global,
     hasher: &RandomState,
     seed: u64,
+    removes: bool,
     names: &[Key],
     worth: &mut Worth,
 ) -> Result<(), Fail> {
     let mut dice = Dice { state: seed };
-    let sites = 2 + dice.below(3) as u8;
-    let limit = 1 + dice.below(3);
+    let sites = if removes {
+        1 + dice.below(2) as u8
+    } else {
+        2 + dice.below(3) as u8
+    };
+    let limit = if removes { 3 } else { 1 + dice.below(3) };
+    let table = Table { limit, removes };
     let kept = dice.below(20) as u32;
-    let events = schedule(alloc, &mut dice, sites)?;
+    let events = schedule(alloc, &mut dice, sites, removes)?;
     if !are_in_time(&events) {
         return Err("out of time")?;
     }
@@ -418,7 +446,7 @@ fn add_seed(
     if outcome.traces.len() != events.len() {
         return Err("not as many traces")?;
     }
-    let followed = all_due(alloc, &told, limit, names, &events, &outcome.traces)?;
+    let followed = all_due(alloc, &told, table, names, &events, &outcome.traces)?;
     let named = all_named_alike(&followed, &outcome, names)?;
     let known = known_after(alloc, &told, &events, &outcome.traces)
         .ok()
@@ -440,7 +468,7 @@ fn two_thousand_schedules_are_what_the_plain_program_says(rt: HostRuntime) -> Re
     let names = [key(alloc, b"a")?, key(alloc, b"b")?, key(alloc, b"c")?];
     let mut worth = Worth::none();
     for seed in 0..SCHEDULES {
-        add_seed(alloc, &hasher, seed, &names, &mut worth)?;
+        add_seed(alloc, &hasher, seed, false, &names, &mut worth)?;
     }
     // The schedules are worth running: each of these came often.
     assert!(rt; worth.taken > SCHEDULES);
@@ -452,5 +480,20 @@ fn two_thousand_schedules_are_what_the_plain_program_says(rt: HostRuntime) -> Re
     assert!(rt; worth.evicted > SCHEDULES / 10);
     // Each class has more chunks than there are keys.
     assert_eq!(rt; worth.victims, 0);
+    Ok(())
+}
+
+#[test]
+fn schedules_with_removals_are_what_the_plain_program_says(rt: HostRuntime) -> Result<(), Fail> {
+    let alloc = rt.alloc();
+    let hasher = RandomState::new(&rt)?;
+    let names = [key(alloc, b"a")?, key(alloc, b"b")?, key(alloc, b"c")?];
+    let mut worth = Worth::none();
+    for seed in 0..SCHEDULES {
+        add_seed(alloc, &hasher, seed, true, &names, &mut worth)?;
+    }
+    assert!(rt; worth.taken > SCHEDULES / 10);
+    assert!(rt; worth.named > SCHEDULES / 10);
+    assert!(rt; worth.removed > SCHEDULES / 50);
     Ok(())
 }

@@ -1,4 +1,4 @@
-use Rattle.std.proofs.Common.{◌≡◌, ◌+◌, cond, not, [], ◌∷◌, ◌++◌, refl, sym, ap, ◌∙◌, subst, arith}
+use Rattle.std.proofs.Common.{◌≡◌, ◌+◌, cond, not, [], ◌∷◌, ◌++◌, length, refl, sym, ap, ◌∙◌, subst, arith}
 use Rattle.std.proofs.lemmas.Result.{err_from_is_err_and}
 use Rattle.geo_site.proofs.Served.{all_serve}
 use Rattle.geo_site.proofs.Sound.{sound_nothing}
@@ -53,4 +53,4 @@ returns-clause-equal c = λ j k one other at_one at_other same.
 pub returns-clause-served : goal.returns-clause-served
 returns-clause-served c = λ apart.
     let run = all_run (start c.args.setups.items) c.loop-index.world.sites.items c.loop-index.world.parcels.items c.args.events.now c.loop-index.traces.items c.loop-index.index (omega arith) (omega arith) c.loop-index.invariant.run in
-    all_serve (start c.args.setups.items) c.args.events.now c.loop-index.traces.items (sound_nothing (limits_of c.args.setups.items)) run.lawful apart
+    all_serve (start c.args.setups.items) c.args.events.now c.loop-index.traces.items (sound_nothing (length c.args.setups.items) (limits_of c.args.setups.items)) run.lawful apart

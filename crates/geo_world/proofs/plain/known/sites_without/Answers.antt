@@ -5,14 +5,14 @@ use Rattle.geo_world.proofs.Worlds.{reap_read}
 use Rattle.geo_world.proofs.plain.known.sites_without.Goals as goal
 
 pub loop-setup-init : goal.loop-setup-init
-loop-setup-init c = record { many = ap length c.new-all.ensures.items; meets = meets_none (limits_of c.args.setups.now) _ c.new-all.ensures.items }
+loop-setup-init c = record { many = ap length c.new-all.ensures.items; meets = meets_none (length c.args.setups.now) (limits_of c.args.setups.now) _ c.new-all.ensures.items }
 
 pub loop-setup-preserved : goal.loop-setup-preserved
 loop-setup-preserved c =
     let inv = c.loop-setup.invariant in
     record {
       many = counts_more _ _ _ _ c.in_ok-push.ensures.items inv.many;
-      meets = meets_more (limits_of c.args.setups.now) _ _ _ c.loop-setup.setup-index inv.many c.in_ok-push.ensures.items c.new.ensures.items c.new-in-loop-setup.ensures.items refl refl (reap_read c.args.setups.now c.loop-setup.setup-index _ c.loop-setup-test.true) inv.meets;
+      meets = meets_more (length c.args.setups.now) (limits_of c.args.setups.now) _ _ _ c.loop-setup.setup-index inv.many c.in_ok-push.ensures.items c.new.ensures.items c.new-in-loop-setup.ensures.items refl refl (reap_read c.args.setups.now c.loop-setup.setup-index _ c.loop-setup-test.true) inv.meets;
     }
 
 pub returns : goal.returns

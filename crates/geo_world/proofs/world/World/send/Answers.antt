@@ -2,6 +2,7 @@ use Rattle.std.proofs.Common.{◌-◌, List, [], ◌∷◌, ◌++◌, length, ar
 use Rattle.geo_delta.specs.declared.parcel.Parcel.{Parcel}
 use Rattle.geo_world.specs.Agreement.{Agrees, about}
 use Rattle.geo_world.proofs.Worlds.{there_is, read_is}
+use Rattle.geo_world.proofs.Changing.{reached_stable}
 use Rattle.geo_world.proofs.Exchanging.{carries_sent, agrees_sent, send_refused}
 use Rattle.geo_world.proofs.world.World.send.Goals as goal
 
@@ -26,8 +27,8 @@ returns-in_ok-push-in-Ok-clause-kept c = λ w agrees.
     let to_there = there_is n c.args.to c.requires.to_there in
     let first = to_there.first in
     let last = to_there.last in
-    subst (λ (ps : List Parcel). Agrees c.args.self.now.sites.items ps (record { at = w.at; held = w.held; counts = w.counts; waiting = w.waiting; limits = w.limits; sent = w.sent ++ (c.args.to, w.at c.args.site) ∷ [] })) (sym c.in_ok-push-in-Ok.ensures.items)
-    (agrees_sent _ _ w (c.args.site - 1) c.args.site c.args.to c.index-at.result.now c.in-Ok.parcel agrees (omega arith) got hi first last c.in-Ok.ensures.1 (carries_sent n c.args.site c.args.to c.index-at.result.now c.in-Ok.parcel (about w c.args.site) st lo hi first last c.in-Ok.ensures.0.2 c.in-Ok.ensures.1))
+    subst (λ (ps : List Parcel). Agrees c.args.self.now.sites.items ps (record { at = w.at; held = w.held; counts = w.counts; waiting = w.waiting; limits = w.limits; sites = w.sites; sent = w.sent ++ (c.args.to, w.at c.args.site) ∷ [] })) (sym c.in_ok-push-in-Ok.ensures.items)
+    (agrees_sent _ _ w (c.args.site - 1) c.args.site c.args.to c.index-at.result.now c.in-Ok.parcel agrees (omega arith) got hi first last c.in-Ok.ensures.1 (carries_sent n c.args.site c.args.to w.at c.index-at.result.now c.in-Ok.parcel (about w c.args.site) st (reached_stable _ _ w agrees (c.args.site - 1) c.args.site (omega arith) hi c.index-at.result.now got st.horizon st.reached) lo hi first last c.in-Ok.ensures.0.2 c.in-Ok.ensures.1))
 
 pub returns-in-Err-clause-lawful : goal.returns-in-Err-clause-lawful
 returns-in-Err-clause-lawful c = λ w agrees.

@@ -11,5 +11,5 @@ returns-clause-kept c = λ w meets.
     let lo = there.first in
     let hi = there.last in
     let got = read_is c.args.self.now.sites.items (c.args.site - 1) c.index.result.now (omega arith) c.index.ensures in
-    subst (λ (sent : List (ℕ × List Operation)). Meets c.args.self.now.sites.items sent (record { at = w.at; held = w.held; counts = w.counts; waiting = w.waiting; limits = w.limits; sent = w.sent ++ (c.args.to, w.at c.args.site) ∷ [] })) (sym c.in_ok-push.ensures.items)
+    subst (λ (sent : List (ℕ × List Operation)). Meets c.args.self.now.sites.items sent (record { at = w.at; held = w.held; counts = w.counts; waiting = w.waiting; limits = w.limits; sites = w.sites; sent = w.sent ++ (c.args.to, w.at c.args.site) ∷ [] })) (sym c.in_ok-push.ensures.items)
     (meets_sent c.args.self.now.sites.items c.args.self.now.sent.items w meets (c.args.site - 1) c.args.site (omega arith) c.index.result.now got c.args.to c.in_ok-known.known (c.in_ok-known.ensures ∙ c.as_slice.ensures.value))

@@ -1,0 +1,22 @@
+use Rattle.std.proofs.Common.{◌-◌, length, arith, sym, ◌∙◌}
+use Rattle.geo_world.proofs.Worlds.{there_is, read_is}
+use Rattle.geo_world.proofs.Answering.{remove_lawful, remove_agrees}
+use Rattle.geo_world.proofs.world.World.remove.Goals as goal
+
+pub returns-clause-lawful : goal.returns-clause-lawful
+returns-clause-lawful c = λ w agrees.
+    let n = length c.args.self.now.sites.items in
+    let there = there_is n c.args.site c.requires.there in
+    let lo = there.first in
+    let hi = there.last in
+    let got = read_is c.args.self.now.sites.items (c.args.site - 1) c.index_mut-at.result.now (omega arith) c.index_mut-at.ensures.value in
+    remove_lawful _ _ w agrees (c.args.site - 1) c.args.site (omega arith) hi c.index_mut-at.result.now c.remove.new.self got c.horizon-horizon.result c.remove.result c.horizon-horizon.ensures
+
+pub returns-clause-kept : goal.returns-clause-kept
+returns-clause-kept c = λ w agrees.
+    let n = length c.args.self.now.sites.items in
+    let there = there_is n c.args.site c.requires.there in
+    let lo = there.first in
+    let hi = there.last in
+    let got = read_is c.args.self.now.sites.items (c.args.site - 1) c.index_mut-at.result.now (omega arith) c.index_mut-at.ensures.value in
+    remove_agrees _ _ w agrees (c.args.site - 1) c.args.site (omega arith) hi c.index_mut-at.result.now c.remove.new.self got c.horizon-horizon.result c.remove.result c.remove.ensures
