@@ -2,9 +2,9 @@
 use Rattle.std.proofs.Common.{◌≡◌, ℕ, zero, suc, Bool, true, false, ◌&&◌, List, [], ◌∷◌, ◌++◌, length, refl, sym, ap, subst, ◌∙◌, arith, length-set, append_assoc, append-nil}
 use Rattle.geo_stamp.specs.Vectors.{raised, vector_joined}
 use Rattle.geo_versions.specs.Operations.{Act}
-use Rattle.geo_site.specs.Machine.{SiteState, Same, issue, issue_all, take, Delta}
+use Rattle.geo_site.specs.Machine.{SiteState, Same, issue, issue_all, take, sifted_delta, Delta}
 use Rattle.geo_site.specs.declared.site.Site.{Site}
-use Rattle.geo_site.specs.Sites.{state_in, delta_of, Takes}
+use Rattle.geo_site.specs.Sites.{state_in, horizon_in, delta_of, Takes}
 use Rattle.geo_delta.specs.declared.parcel.Parcel.{Parcel}
 use Rattle.std.proofs.lemmas.Bool.{eqb-true}
 use Rattle.geo_grammar.specs.declared.item.Item.{Item}
@@ -49,5 +49,5 @@ and_right false b h = cc
 pub taken_sites : (site : Site) (parcel : Parcel) → Takes site parcel → length parcel.upto ≡ length site.vector
 taken_sites site parcel h = eqb-true (length parcel.upto) (length site.vector) (and_right _ _ (and_left _ _ (and_left _ _ h.1)))
 
-pub taken_seat : (site new : Site) (parcel : Parcel) → Takes site parcel → Same (take site.number (delta_of parcel) (state_in site)) (state_in new) → length new.vector ≡ length site.vector
-taken_seat site new parcel h same = ap (λ (v : List ℕ). length v) same.vector ∙ length-take site.number (delta_of parcel) (state_in site) (taken_sites site parcel h)
+pub taken_seat : (site new : Site) (parcel : Parcel) → Takes site parcel → Same (take site.number (sifted_delta (horizon_in site) (delta_of parcel)) (state_in site)) (state_in new) → length new.vector ≡ length site.vector
+taken_seat site new parcel h same = ap (λ (v : List ℕ). length v) same.vector ∙ length-take site.number (sifted_delta (horizon_in site) (delta_of parcel)) (state_in site) (taken_sites site parcel h)

@@ -8,12 +8,12 @@ use Rattle.geo_versions.specs.Maps.{Rising}
 use Rattle.geo_versions.specs.Operations.{version_in}
 use Rattle.geo_versions.specs.declared.version.Version.{Version}
 use Rattle.geo_site.specs.Entries.{none_counted}
-use Rattle.geo_site.specs.Machine.{Same, fresh, take}
+use Rattle.geo_site.specs.Machine.{Same, fresh, take, sifted_delta}
 use Rattle.geo_stamp.specs.Acks.{heard}
-use Rattle.geo_site.specs.Sites.{heard_in, state_in, counts_in, waiting_in, limits_of, delta_of, Takes, RefusesFor, Rests, TickDoes, ReapDoes, EvictDoes}
+use Rattle.geo_site.specs.Sites.{heard_in, horizon_in, state_in, counts_in, waiting_in, limits_of, delta_of, Takes, RefusesFor, Rests, TickDoes, RemoveDoes, ReapDoes, EvictDoes}
 use Rattle.geo_site.specs.declared.refusal.TakeError.{TakeError}
 use Rattle.geo_site.specs.declared.refusal.ReapError.{ReapError}
-use Rattle.geo_cluster.specs.Prints.{taken_text, tick_text, evict_text, versions_text}
+use Rattle.geo_cluster.specs.Prints.{taken_text, tick_text, remove_text, evict_text, versions_text}
 use Rattle.geo_cluster.specs.Answering.{number_of, sites_of, KeepsSeat, AnswersItems, has_quit, until_quit, IsRefusalText, IsReapText}
 use Rattle.geo_cluster.specs.declared.script.post.Post.{Post}
 
@@ -51,7 +51,7 @@ pub record AnswersBytes (old : Post) (now : ℕ) (bytes answer : List ℕ) (new 
 pub record TakesWell (old : Post) (parcel : Parcel) (text : List ℕ) (new : Post) : Type 0 where
   pub prints : text ≡ taken_text
   pub may : Takes old.site parcel
-  pub state : Same (take (number_of old.site) (delta_of parcel) (state_in old.site)) (state_in new.site)
+  pub state : Same (take (number_of old.site) (sifted_delta (horizon_in old.site) (delta_of parcel)) (state_in old.site)) (state_in new.site)
   pub hears : heard_in new.site ≡ heard (heard_in old.site) parcel.from parcel.upto
 
 pub record Declines (old : Post) (parcel : Parcel) (text : List ℕ) (new : Post) : Type 0 where
@@ -73,6 +73,14 @@ pub record TicksAt (old : Post) (now : ℕ) (text : List ℕ) (new : Post) : Typ
   pub done : Bool
   pub does : TickDoes old.site new.site now done
   pub prints : text ≡ tick_text done
+  pub reader : new.reader ≡ old.reader
+  pub ended : new.ended ≡ old.ended
+
+-- a site drops what every site knows to be deleted, whatever the moment: a flush that is due waits on
+pub record RemovesAt (old : Post) (text : List ℕ) (new : Post) : Type 0 where
+  pub count : ℕ
+  pub does : RemoveDoes old.site new.site count
+  pub prints : text ≡ remove_text count
   pub reader : new.reader ≡ old.reader
   pub ended : new.ended ≡ old.ended
 

@@ -25,6 +25,9 @@ nothing_text = codes "nothing\n"
 abbrev pub tick_text : Bool → List ℕ
 tick_text done = if done then codes "flushed\n" else nothing_text
 
+abbrev pub remove_text : ℕ → List ℕ
+remove_text count = codes "removed " ++ decimal count ++ codes "\n"
+
 abbrev pub reap_text : Bool → List ℕ
 reap_text done = if done then codes "reaped\n" else nothing_text
 

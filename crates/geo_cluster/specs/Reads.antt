@@ -1,8 +1,8 @@
 -- The Rust type of a line as what it stands for, without where it lies in memory.
 use Rattle.std.specs.Prelude.{◌≢◌, ◌≤◌, ◌^◌}
-use Rattle.geo_cluster.specs.Sayings.{Said, SaysSites, SaysAt, SaysClient, SaysSend, SaysTake, SaysTick, SaysReap, SaysEvict, SaysVersions}
+use Rattle.geo_cluster.specs.Sayings.{Said, SaysSites, SaysAt, SaysClient, SaysSend, SaysTake, SaysTick, SaysRemove, SaysReap, SaysEvict, SaysVersions}
 use Rattle.geo_cluster.specs.declared.script.line.Line.{Line}
-use Rattle.geo_cluster.specs.declared.script.line.Line.TheVariants.{Sites, At, Client, Send, Take, Tick, Reap, Evict, Versions}
+use Rattle.geo_cluster.specs.declared.script.line.Line.TheVariants.{Sites, At, Client, Send, Take, Tick, Remove, Reap, Evict, Versions}
 
 -- what a line says
 abbrev pub said_by : Line → Said
@@ -12,6 +12,7 @@ said_by (Client site text) = SaysClient site text.items
 said_by (Send from to) = SaysSend from to
 said_by (Take site parcel) = SaysTake site parcel
 said_by (Tick site) = SaysTick site
+said_by (Remove site) = SaysRemove site
 said_by (Reap site key) = SaysReap site key
 said_by (Evict site key) = SaysEvict site key
 said_by (Versions site) = SaysVersions site
@@ -25,6 +26,7 @@ IsInRange (Client site text) = (1 ≤ site) × (site ≤ 16)
 IsInRange (Send from to) = (1 ≤ from) × (from ≤ 16) × (1 ≤ to) × (to ≤ 16) × (from ≢ to)
 IsInRange (Take site parcel) = (1 ≤ site) × (site ≤ 16)
 IsInRange (Tick site) = (1 ≤ site) × (site ≤ 16)
+IsInRange (Remove site) = (1 ≤ site) × (site ≤ 16)
 IsInRange (Reap site key) = (1 ≤ site) × (site ≤ 16)
 IsInRange (Evict site key) = (1 ≤ site) × (site ≤ 16)
 IsInRange (Versions site) = (1 ≤ site) × (site ≤ 16)

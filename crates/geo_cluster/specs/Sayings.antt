@@ -15,6 +15,7 @@ pub data Said : Type 0 where
   SaysSend : (from to : ℕ) → Said
   SaysTake : (site parcel : ℕ) → Said
   SaysTick : (site : ℕ) → Said
+  SaysRemove : (site : ℕ) → Said
   SaysReap : (site : ℕ) (key : List ℕ) → Said
   SaysEvict : (site : ℕ) (key : List ℕ) → Said
   SaysVersions : (site : ℕ) → Said
@@ -120,12 +121,13 @@ said_by_name name args =
     else (if bytes_eq name (codes "send") then option_and_then send_said (cut_of args)
     else (if bytes_eq name (codes "take") then option_and_then take_said (cut_of args)
     else (if bytes_eq name (codes "tick") then option_map (λ s. SaysTick s) (site_of args)
+    else (if bytes_eq name (codes "remove") then option_map (λ s. SaysRemove s) (site_of args)
     else (if bytes_eq name (codes "reap") then said_to_reap args
     else (if bytes_eq name (codes "evict") then said_to_evict args
     else (if bytes_eq name (codes "versions") then option_map (λ s. SaysVersions s) (site_of args)
     else (if bytes_eq name (codes "at") then option_map (λ n. SaysAt n) (moment_of args)
     else (if bytes_eq name (codes "sites") then sites_said args
-    else None))))))))
+    else None)))))))))
 
 -- what a line says, if it says something
 abbrev pub said : List ℕ → Option Said

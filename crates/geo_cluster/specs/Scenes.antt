@@ -3,9 +3,9 @@ use Rattle.std.specs.Prelude.{◌≡◌, ℕ, ◌-◌, ◌==◌, nat_lt, nat_le,
 use Rattle.std.specs.declared.alloc.Global.{Global}
 use Rattle.geo_delta.specs.declared.parcel.Parcel.{Parcel}
 use Rattle.geo_site.specs.Sites.{IsSent}
-use Rattle.geo_cluster.specs.Sayings.{Said, SaysSites, SaysAt, SaysClient, SaysSend, SaysTake, SaysTick, SaysReap, SaysEvict, SaysVersions}
+use Rattle.geo_cluster.specs.Sayings.{Said, SaysSites, SaysAt, SaysClient, SaysSend, SaysTake, SaysTick, SaysRemove, SaysReap, SaysEvict, SaysVersions}
 use Rattle.geo_cluster.specs.Prints.{client_text, parcel_text}
-use Rattle.geo_cluster.specs.Posts.{AreOpened, AnswersBytes, TakesParcel, TicksAt, ReapsAt, EvictsAt, Lists}
+use Rattle.geo_cluster.specs.Posts.{AreOpened, AnswersBytes, TakesParcel, TicksAt, RemovesAt, ReapsAt, EvictsAt, Lists}
 use Rattle.geo_cluster.specs.declared.script.post.Post.{Post}
 use Rattle.geo_cluster.specs.declared.script.stage.Stage.{Stage}
 
@@ -36,6 +36,7 @@ can_carry scene (SaysClient s text) = has_site scene s
 can_carry scene (SaysSend s t) = has_site scene s && has_site scene t
 can_carry scene (SaysTake s k) = has_site scene s && has_parcel scene k
 can_carry scene (SaysTick s) = has_site scene s
+can_carry scene (SaysRemove s) = has_site scene s
 can_carry scene (SaysReap s key) = has_site scene s
 can_carry scene (SaysEvict s key) = has_site scene s
 can_carry scene (SaysVersions s) = has_site scene s
@@ -89,6 +90,14 @@ pub record Ticks (old : Scene) (s : ℕ) (text : List ℕ) (new : Scene) : Type 
   pub ticks : TicksAt post old.moment text next
   pub rest : new ≡ record old { posts = slice_set old.posts (s - 1) next }
 
+-- a site drops what every site knows to be deleted
+pub record Removes (old : Scene) (s : ℕ) (text : List ℕ) (new : Scene) : Type 0 where
+  pub post : Post
+  pub next : Post
+  pub is_post : IsPost old s post
+  pub removes : RemovesAt post text next
+  pub rest : new ≡ record old { posts = slice_set old.posts (s - 1) next }
+
 -- a site reaps a key at the moment
 pub record Reaps (old : Scene) (s : ℕ) (key text : List ℕ) (new : Scene) : Type 0 where
   pub post : Post
@@ -120,6 +129,7 @@ Carries old (SaysClient s bytes) text new = Feeds old s bytes text new
 Carries old (SaysSend s t) text new = CutsParcel old s t text new
 Carries old (SaysTake s k) text new = Brings old s k text new
 Carries old (SaysTick s) text new = Ticks old s text new
+Carries old (SaysRemove s) text new = Removes old s text new
 Carries old (SaysReap s key) text new = Reaps old s key text new
 Carries old (SaysEvict s key) text new = Evicts old s key text new
 Carries old (SaysVersions s) text new = Tells old s text new

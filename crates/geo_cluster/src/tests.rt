@@ -8,6 +8,7 @@ mod flushes;
 mod limits;
 mod lists;
 mod options;
+mod removals;
 mod sites;
 
 use crate::{Line, ScriptFault, escape, is_skipped, parse_line, run_script, unescape};

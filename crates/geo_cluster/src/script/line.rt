@@ -33,6 +33,10 @@ pub enum Line {
     Tick {
         site: u8,
     },
+    /// A site drops what is left of deleted keys that every site knows to be deleted.
+    Remove {
+        site: u8,
+    },
     /// A site deletes a key, where a write of its own ended long enough ago.
     Reap {
         site: u8,

@@ -2,7 +2,7 @@
 ghost use Rattle.std.specs.Prelude.{◌≡◌, ◌≤◌, None, Some, MatchOption, IfOk, IfSome, option_copied};
 ghost use Rattle.std.specs.Option.{option_map, option_and_then};
 ghost use Rattle.geo_cluster.specs.Numbers.{ranged_of};
-ghost use Rattle.geo_cluster.specs.Sayings.{cut_of, site_of, moment_of, parcel_of, key_of, front_number, option_number, client_said, send_said, sites_said, take_said, site_key_of, said_to_reap, said_to_evict, said, skips, SaysAt, SaysTick, SaysVersions};
+ghost use Rattle.geo_cluster.specs.Sayings.{cut_of, site_of, moment_of, parcel_of, key_of, front_number, option_number, client_said, send_said, sites_said, take_said, site_key_of, said_to_reap, said_to_evict, said, skips, SaysAt, SaysTick, SaysRemove, SaysVersions};
 ghost use Rattle.geo_cluster.specs.Reads.{said_by, IsInRange};
 
 use crate::script::cut::cut_at;
@@ -109,6 +109,14 @@ fn tick_line(args: &[u8]) -> Option<Line>
 {
     let site = site_number(args)?;
     Some(Line::Tick { site })
+}
+
+fn remove_line(args: &[u8]) -> Option<Line>
+    ensures said { option_map said_by result ≡ option_map (λ s. SaysRemove s) (site_of args.now) }
+    ensures range { IfSome result (λ l. IsInRange l) }
+{
+    let site = site_number(args)?;
+    Some(Line::Remove { site })
 }
 
 fn versions_line(args: &[u8]) -> Option<Line>
@@ -238,6 +246,9 @@ pub fn parse_line(alloc: Global, line: &[u8]) -> Result<Option<Line>, AllocError
     }
     if name == b"tick".as_slice() {
         return Ok(tick_line(args));
+    }
+    if name == b"remove".as_slice() {
+        return Ok(remove_line(args));
     }
     if name == b"reap".as_slice() {
         return reap_line(alloc, args);

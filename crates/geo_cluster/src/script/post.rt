@@ -4,7 +4,7 @@ ghost use Rattle.geo_cluster.specs.Answering.{Does, AnswersItem, KeepsSeat, is_q
 
 use crate::script::listing::versions_lines;
 use crate::script::texts::{
-    clock_ended_line, evict_line, reap_line, refused_line, taken_line, tick_line,
+    clock_ended_line, evict_line, reap_line, refused_line, remove_line, taken_line, tick_line,
 };
 use geo_delta::Parcel;
 use geo_grammar::{Item, Reader, Reply, Request, fault_text, push_answer};
@@ -86,7 +86,7 @@ pub struct Post {
 
 impl Post {
     ghost use Rattle.geo_site.specs.Sites.{IsOther, IsSent};
-    ghost use Rattle.geo_cluster.specs.Posts.{IsOpened, AnswersBytes, TakesParcel, TicksAt, ReapsAt, EvictsAt, Lists};
+    ghost use Rattle.geo_cluster.specs.Posts.{IsOpened, AnswersBytes, TakesParcel, TicksAt, RemovesAt, ReapsAt, EvictsAt, Lists};
 
     /// A site that knows nothing, has `pages` pages for values, may keep `max` records, and keeps its own writes for `reap` seconds
     /// behind their end; and a connection on which nothing came.
@@ -190,6 +190,15 @@ impl Post {
     {
         let done = self.site.tick(now);
         tick_line(alloc, done)
+    }
+
+    /// Drops what is left of deleted keys that every site knows to be deleted, and says how many.
+    pub fn remove(&mut self, alloc: Global) -> Result<Vec<u8>, AllocError>
+        ensures removes { IfOk result (λ text. RemovesAt self.old text.items self.new) }
+        ensures seat { KeepsSeat self.old.site self.new.site }
+    {
+        let count = self.site.remove();
+        remove_line(alloc, count)
     }
 
     /// Deletes a key where it is to be reaped at a moment, and says whether it was, or that no stamp was left for that.

@@ -1,7 +1,7 @@
 //! The sites of a script, their clients, and the parcels between them.
 ghost use Rattle.std.specs.Prelude.{◌≡◌, ◌≢◌, ◌+◌, ◌^◌, ◌<◌, ◌≤◌, ◌==◌, not, [], length, vec_len, true, false, None, Some, MatchOption, IfOk, IfSome, IfNone};
 ghost use Rattle.geo_cluster.specs.Reads.{said_by, IsInRange};
-ghost use Rattle.geo_cluster.specs.Sayings.{SaysSites, SaysAt, SaysClient, SaysSend, SaysTake, SaysTick, SaysReap, SaysEvict, SaysVersions};
+ghost use Rattle.geo_cluster.specs.Sayings.{SaysSites, SaysAt, SaysClient, SaysSend, SaysTake, SaysTick, SaysRemove, SaysReap, SaysEvict, SaysVersions};
 ghost use Rattle.geo_cluster.specs.Posts.{AreNumbered, AreOpened};
 ghost use Rattle.geo_cluster.specs.declared.script.line.Line.TheVariants.{Sites};
 
@@ -85,6 +85,7 @@ impl Stage {
             Line::Send { from, to } => self.send(alloc, from, to),
             Line::Take { site, parcel } => self.take(alloc, site, parcel),
             Line::Tick { site } => self.tick(alloc, site),
+            Line::Remove { site } => self.remove(alloc, site),
             Line::Reap { site, key } => self.reap(alloc, site, &key),
             Line::Evict { site, key } => self.evict(alloc, site, &key),
             Line::Versions { site } => self.versions(alloc, site),
@@ -177,6 +178,15 @@ impl Stage {
             return Ok(None);
         };
         Ok(Some(self.posts[at].tick(alloc, self.moment)?))
+    }
+
+    fn remove(&mut self, alloc: Global, site: u8) -> Result<Option<Vec<u8>>, AllocError>
+        ensures { IfOk result (λ o. Meets (scene_of self.old) (SaysRemove site) o (scene_of self.new)) }
+    {
+        let Some(at) = self.place(site) else {
+            return Ok(None);
+        };
+        Ok(Some(self.posts[at].remove(alloc)?))
     }
 
     fn reap(&mut self, alloc: Global, site: u8, key: &Key) -> Result<Option<Vec<u8>>, AllocError>

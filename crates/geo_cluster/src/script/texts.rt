@@ -1,6 +1,6 @@
 //! What the lines of a script print.
 ghost use Rattle.std.specs.Prelude.{◌≡◌, IfOk};
-ghost use Rattle.geo_cluster.specs.Prints.{client_text, parcel_text, refused_text, taken_text, tick_text, reap_text, evict_text, clock_ended_text};
+ghost use Rattle.geo_cluster.specs.Prints.{client_text, parcel_text, refused_text, taken_text, tick_text, remove_text, reap_text, evict_text, clock_ended_text};
 
 use crate::script::escape::escape;
 use itoa::Buffer;
@@ -56,6 +56,17 @@ pub fn tick_line(alloc: Global, done: bool) -> Result<Vec<u8>, AllocError>
         return Vec::from_slice(alloc, b"flushed\n");
     }
     Vec::from_slice(alloc, b"nothing\n")
+}
+
+/// `removed N`, how many records were dropped.
+pub fn remove_line(alloc: Global, count: usize) -> Result<Vec<u8>, AllocError>
+    ensures { IfOk result (λ text. text.items ≡ remove_text count) }
+{
+    let mut buffer = Buffer::new();
+    let mut text = Vec::from_slice(alloc, b"removed ")?;
+    text.extend_from_slice(buffer.format(count).as_bytes())?;
+    text.extend_from_slice(b"\n")?;
+    Ok(text)
 }
 
 /// `reaped` where a key was deleted, else `nothing`.
