@@ -80,11 +80,11 @@ fn what_is_heard_is_joined_into_the_row_of_its_site(rt: HostRuntime) -> Result<(
 }
 
 /// A vector of three clocks.
-fn clocks(one: u64, two: u64, three: u64) -> Vector {
+fn clocks(one: u32, two: u32, three: u32) -> Vector {
     let mut vector = Vector::new(3);
-    vector.raise(1, one);
-    vector.raise(2, two);
-    vector.raise(3, three);
+    vector.raise(1, one as u64);
+    vector.raise(2, two as u64);
+    vector.raise(3, three as u64);
     vector
 }
 
