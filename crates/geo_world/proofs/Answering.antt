@@ -38,7 +38,7 @@ set_twice [] k x y = refl
 set_twice (a ∷ xs) zero x y = refl
 set_twice (a ∷ xs) (suc k) x y = ap (λ ys. a ∷ ys) (set_twice xs k x y)
 
-get_set : {A : Type 0} (xs : List A) (k : ℕ) (x y : A) → slice_get xs k ≡ Some y → slice_get (slice_set xs k x) k ≡ Some x
+pub get_set : {A : Type 0} (xs : List A) (k : ℕ) (x y : A) → slice_get xs k ≡ Some y → slice_get (slice_set xs k x) k ≡ Some x
 get_set [] k x y h = absurd (some_none (sym h))
 get_set (a ∷ xs) zero x y h = refl
 get_set (a ∷ xs) (suc k) x y h = get_set xs k x y h

@@ -1,5 +1,5 @@
 -- Each event keeps all sites and parcels what is known of them.
-use Rattle.std.proofs.Common.{◌≡◌, ℕ, zero, suc, ◌+◌, ◌-◌, ◌≤◌, ◌<◌, Bool, true, false, ◌==◌, ◌&&◌, nat_le, List, [], ◌∷◌, ◌++◌, length, None, Some, refl, sym, ap, ◌∙◌, subst, subst₂, ◌⊎◌, inl, inr, arith, true≢false, get_or, slice_get}
+use Rattle.std.proofs.Common.{◌≡◌, ◌≢◌, slice_set, ℕ, zero, suc, ◌+◌, ◌-◌, ◌≤◌, ◌<◌, Bool, true, false, ◌==◌, ◌&&◌, nat_le, List, [], ◌∷◌, ◌++◌, length, None, Some, refl, sym, ap, ◌∙◌, subst, subst₂, ◌⊎◌, inl, inr, arith, true≢false, get_or, slice_get}
 use Rattle.std.proofs.lemmas.Bool.Decides.{eqb_tells, nat_tests}
 use Rattle.std.proofs.lemmas.Option.{slice_get-get_or}
 use Rattle.geo_site.specs.declared.setup.Setup.{Setup}
@@ -51,6 +51,18 @@ numbered_at n number (y ∷ ys) (suc k) x h at =
 -- the element that an index reads
 pub read_is : {A : Type 0} (xs : List A) (i : ℕ) (x : A) → i < length xs → x ≡ get_or xs i x → slice_get xs i ≡ Some x
 read_is xs i x lt e = slice_get-get_or xs i x lt ∙ ap Some (sym e)
+
+-- another element stays
+pub get_other : {A : Type 0} (xs : List A) (i k : ℕ) (x : A) → (k ≡ i → ⊥) → slice_get (slice_set xs i x) k ≡ slice_get xs k
+get_other [] i k x ne = refl
+get_other (y ∷ xs) zero zero x ne = absurd (ne refl)
+get_other (y ∷ xs) zero (suc k) x ne = refl
+get_other (y ∷ xs) (suc i) zero x ne = refl
+get_other (y ∷ xs) (suc i) (suc k) x ne = get_other xs i k x (λ e. ne (ap suc e))
+
+-- what is not at a site's place stays
+pub others_stay : {A : Type 0} (xs : List A) (s : ℕ) (x : A) → 1 ≤ s → (k : ℕ) → s ≢ k + 1 → slice_get (slice_set xs (s - 1) x) k ≡ slice_get xs k
+others_stay xs s x first k ne = get_other xs (s - 1) k x (λ e. ne (omega (arith, e, first)))
 
 -- one element more
 pub get_appended : {A : Type 0} (xs : List A) (x : A) (p : ℕ) (y : A) → slice_get (xs ++ x ∷ []) p ≡ Some y → (slice_get xs p ≡ Some y) ⊎ ((p ≡ length xs) × (y ≡ x))

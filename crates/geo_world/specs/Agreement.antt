@@ -8,12 +8,14 @@ use Rattle.geo_delta.specs.declared.parcel.Parcel.{Parcel}
 use Rattle.geo_site.specs.declared.site.Site.{Site}
 use Rattle.geo_site.specs.Entries.{Held, Counts, none_counted}
 use Rattle.geo_site.specs.Machine.{knows_floor}
-use Rattle.geo_site.specs.Sites.{state_in, counts_in, waiting_in, limits_of, heard_in, delta_of, knows_all}
+use Rattle.geo_site.specs.Sites.{state_in, counts_in, waiting_in, limits_of, heard_in, horizon_in, RemoveDoes, delta_of, knows_all}
 use Rattle.geo_site.specs.Schedule.{Known, StableAt, happens, Lawful}
 use Rattle.geo_site.specs.declared.setup.Setup.{Setup}
 use Rattle.geo_site.specs.declared.setup.Limits.{Limits}
 use Rattle.geo_site.specs.declared.event.Event.{Event}
+use Rattle.geo_site.specs.declared.event.Event.TheVariants.{Command, Evict, Send, Take, Remove, Tick, Reap}
 use Rattle.geo_site.specs.declared.event.Trace.{Trace}
+use Rattle.geo_site.specs.declared.event.Trace.TheVariants.{Removed}
 use Rattle.geo_site.specs.Agreement.{StateOf, DeltaOf}
 use Rattle.geo_world.specs.declared.outcome.WorldError.{WorldError}
 use Rattle.geo_world.specs.declared.outcome.WorldError.TheVariants.{Setups, BadEvent, Memory}
@@ -91,6 +93,34 @@ StepDoes old new event index (Ok trace) = (is_there (length old.sites.items) (le
 StepDoes old new event index (Err Setups) = ⊥
 StepDoes old new event index (Err (BadEvent at)) = (at ≡ index) × (is_there (length old.sites.items) (length old.parcels.items) event ≡ false)
 StepDoes old new event index (Err Memory) = Unit {0}
+
+-- the site of an event
+abbrev pub site_of : Event → ℕ
+site_of (Command site now request) = site
+site_of (Evict site key) = site
+site_of (Send site to) = site
+site_of (Take site parcel) = site
+site_of (Remove site) = site
+site_of (Tick site now) = site
+site_of (Reap site now key) = site
+
+-- the site of this number drops by its own horizon what is left of deleted keys, and tells of both
+pub record RemovesAt (number : ℕ) (old new : List Site) (horizon count : ℕ) : Type 0 where
+  pub before : Site
+  pub after : Site
+  pub was : (k : ℕ) → number ≡ k + 1 → slice_get old k ≡ Some before
+  pub is : (k : ℕ) → number ≡ k + 1 → slice_get new k ≡ Some after
+  pub by : horizon ≡ horizon_in before
+  pub does : RemoveDoes before after count
+
+abbrev pub Removes : List Site → List Site → Event → Trace → Type 0
+Removes old new (Remove site) (Removed horizon count) = RemovesAt site old new horizon count
+Removes old new event trace = Unit {0}
+
+-- an event changes no other site than its own, and a removal is made there
+pub record DoesAlone (old new : List Site) (event : Event) (trace : Trace) : Type 0 where
+  pub others : (k : ℕ) → site_of event ≢ k + 1 → slice_get new k ≡ slice_get old k
+  pub removes : Removes old new event trace
 
 -- why a run has no outcome
 abbrev pub RunRefuses : List Setup → List Event → WorldError → Type 0

@@ -2,7 +2,7 @@
 ghost use Rattle.std.specs.Prelude.{◌≡◌, ℕ, ◌≤◌, ◌<◌, ◌^◌, true, length, IfOk};
 ghost use Rattle.geo_site.specs.Schedule.{Known, happens, Lawful};
 ghost use Rattle.geo_world.specs.There.{is_site, is_there, is_in_time};
-ghost use Rattle.geo_world.specs.Agreement.{Agrees, StepDoes};
+ghost use Rattle.geo_world.specs.Agreement.{Agrees, DoesAlone, StepDoes};
 
 use crate::outcome::WorldError;
 use crate::world::World;
@@ -18,6 +18,7 @@ impl World {
         requires moment { now ≤ 2 ^ 40 }
         ensures lawful { (w : Known) → Agrees self.old.sites.items self.old.parcels.items w → Lawful w (Event.Command site now request.now) result }
         ensures kept { (w : Known) → Agrees self.old.sites.items self.old.parcels.items w → Agrees self.new.sites.items self.new.parcels.items (happens w (Event.Command site now request.now) result) }
+        ensures alone { DoesAlone self.old.sites.items self.new.sites.items (Event.Command site now request.now) result }
         ensures as_many { length self.new.sites.items ≡ length self.old.sites.items }
     {
         let at = &mut self.sites[site as usize - 1];
@@ -32,6 +33,7 @@ impl World {
         requires there { is_site (length self.old.sites.items) site ≡ true }
         ensures lawful { (w : Known) → Agrees self.old.sites.items self.old.parcels.items w → Lawful w (Event.Evict site key.now) result }
         ensures kept { (w : Known) → Agrees self.old.sites.items self.old.parcels.items w → Agrees self.new.sites.items self.new.parcels.items (happens w (Event.Evict site key.now) result) }
+        ensures alone { DoesAlone self.old.sites.items self.new.sites.items (Event.Evict site key.now) result }
         ensures as_many { length self.new.sites.items ≡ length self.old.sites.items }
     {
         let at = &mut self.sites[site as usize - 1];
@@ -43,6 +45,7 @@ impl World {
         requires there { is_site (length self.old.sites.items) site ≡ true }
         ensures lawful { (w : Known) → Agrees self.old.sites.items self.old.parcels.items w → Lawful w (Event.Remove site) result }
         ensures kept { (w : Known) → Agrees self.old.sites.items self.old.parcels.items w → Agrees self.new.sites.items self.new.parcels.items (happens w (Event.Remove site) result) }
+        ensures alone { DoesAlone self.old.sites.items self.new.sites.items (Event.Remove site) result }
         ensures as_many { length self.new.sites.items ≡ length self.old.sites.items }
     {
         let at = &mut self.sites[site as usize - 1];
@@ -58,6 +61,7 @@ impl World {
         requires there { is_site (length self.old.sites.items) site ≡ true }
         ensures lawful { (w : Known) → Agrees self.old.sites.items self.old.parcels.items w → Lawful w (Event.Tick site now) result }
         ensures kept { (w : Known) → Agrees self.old.sites.items self.old.parcels.items w → Agrees self.new.sites.items self.new.parcels.items (happens w (Event.Tick site now) result) }
+        ensures alone { DoesAlone self.old.sites.items self.new.sites.items (Event.Tick site now) result }
         ensures as_many { length self.new.sites.items ≡ length self.old.sites.items }
     {
         let at = &mut self.sites[site as usize - 1];
@@ -69,6 +73,7 @@ impl World {
         requires there { is_site (length self.old.sites.items) site ≡ true }
         ensures lawful { (w : Known) → Agrees self.old.sites.items self.old.parcels.items w → Lawful w (Event.Reap site now key.now) result }
         ensures kept { (w : Known) → Agrees self.old.sites.items self.old.parcels.items w → Agrees self.new.sites.items self.new.parcels.items (happens w (Event.Reap site now key.now) result) }
+        ensures alone { DoesAlone self.old.sites.items self.new.sites.items (Event.Reap site now key.now) result }
         ensures as_many { length self.new.sites.items ≡ length self.old.sites.items }
     {
         let at = &mut self.sites[site as usize - 1];
@@ -83,6 +88,7 @@ impl World {
         requires to_there { is_site (length self.old.sites.items) to ≡ true }
         ensures lawful { IfOk result (λ trace. (w : Known) → Agrees self.old.sites.items self.old.parcels.items w → Lawful w (Event.Send site to) trace) }
         ensures kept { IfOk result (λ trace. (w : Known) → Agrees self.old.sites.items self.old.parcels.items w → Agrees self.new.sites.items self.new.parcels.items (happens w (Event.Send site to) trace)) }
+        ensures alone { IfOk result (λ trace. DoesAlone self.old.sites.items self.new.sites.items (Event.Send site to) trace) }
         ensures as_many { length self.new.sites.items ≡ length self.old.sites.items }
     {
         let at = &self.sites[site as usize - 1];
@@ -101,6 +107,7 @@ impl World {
         requires sent { parcel < length self.old.parcels.items }
         ensures lawful { IfOk result (λ trace. (w : Known) → Agrees self.old.sites.items self.old.parcels.items w → Lawful w (Event.Take site parcel) trace) }
         ensures kept { IfOk result (λ trace. (w : Known) → Agrees self.old.sites.items self.old.parcels.items w → Agrees self.new.sites.items self.new.parcels.items (happens w (Event.Take site parcel) trace)) }
+        ensures alone { IfOk result (λ trace. DoesAlone self.old.sites.items self.new.sites.items (Event.Take site parcel) trace) }
         ensures as_many { length self.new.sites.items ≡ length self.old.sites.items }
     {
         let sent = &self.parcels[parcel];
@@ -140,6 +147,7 @@ impl World {
     pub fn step(&mut self, alloc: Global, event: &Event, index: usize) -> Result<Trace, WorldError>
         requires moment { is_in_time event.now ≡ true }
         ensures does { StepDoes self.old self.new event.now index result }
+        ensures alone { IfOk result (λ trace. DoesAlone self.old.sites.items self.new.sites.items event.now trace) }
         ensures as_many { length self.new.sites.items ≡ length self.old.sites.items }
     {
         if !self.is_there(event) {

@@ -1,5 +1,6 @@
 use Rattle.std.proofs.Common.{◌-◌, None, length, refl, arith}
 use Rattle.geo_grammar.specs.declared.reply.Reply.TheVariants.{OutOfMemory}
+use Rattle.geo_world.proofs.Alone.{does_alone}
 use Rattle.geo_world.proofs.Worlds.{there_is, read_is}
 use Rattle.geo_world.proofs.Answering.{command_lawful, command_agrees, for_itself}
 use Rattle.geo_world.proofs.world.World.command.Goals as goal
@@ -41,3 +42,9 @@ returns-in-Err-clause-kept c = λ w agrees.
     let hi = there.last in
     let got = read_is c.args.self.now.sites.items (c.args.site - 1) c.index_mut-at.result.now (omega arith) c.index_mut-at.ensures.value in
     command_agrees _ _ w agrees (c.args.site - 1) c.args.site c.args.now (omega arith) hi c.index_mut-at.result.now c.act_full.new.self got c.args.request.now OutOfMemory None (for_itself c.index_mut-at.result.now c.act_full.new.self c.args.now c.args.request.now c.in-Err.ensures.does) refl
+
+pub returns-in-Ok-clause-alone : goal.returns-in-Ok-clause-alone
+returns-in-Ok-clause-alone c = does_alone c.args.self.now.sites.items c.args.site c.act_full.new.self (there_is (length c.args.self.now.sites.items) c.args.site c.requires.there).first _ _ refl tt
+
+pub returns-in-Err-clause-alone : goal.returns-in-Err-clause-alone
+returns-in-Err-clause-alone c = does_alone c.args.self.now.sites.items c.args.site c.act_full.new.self (there_is (length c.args.self.now.sites.items) c.args.site c.requires.there).first _ _ refl tt

@@ -1,4 +1,5 @@
-use Rattle.std.proofs.Common.{◌-◌, length, arith}
+use Rattle.std.proofs.Common.{◌-◌, length, arith, refl}
+use Rattle.geo_world.proofs.Alone.{does_alone}
 use Rattle.geo_world.proofs.Worlds.{there_is, read_is}
 use Rattle.geo_world.proofs.Answering.{evict_lawful, evict_agrees}
 use Rattle.geo_world.proofs.world.World.evict.Goals as goal
@@ -20,3 +21,6 @@ returns-clause-kept c = λ w agrees.
     let hi = there.last in
     let got = read_is c.args.self.now.sites.items (c.args.site - 1) c.index_mut-at.result.now (omega arith) c.index_mut-at.ensures.value in
     evict_agrees _ _ w agrees (c.args.site - 1) c.args.site (omega arith) hi c.index_mut-at.result.now c.evict.new.self got c.args.key.now c.evict.result c.evict.ensures
+
+pub returns-clause-alone : goal.returns-clause-alone
+returns-clause-alone c = does_alone c.args.self.now.sites.items c.args.site c.evict.new.self (there_is (length c.args.self.now.sites.items) c.args.site c.requires.there).first _ _ refl tt

@@ -1,4 +1,5 @@
-use Rattle.std.proofs.Common.{◌-◌, length, arith}
+use Rattle.std.proofs.Common.{◌-◌, length, arith, refl}
+use Rattle.geo_world.proofs.Alone.{does_alone}
 use Rattle.geo_world.proofs.Worlds.{there_is, read_is}
 use Rattle.geo_world.proofs.Answering.{reap_lawful, reap_agrees, reap_refused_lawful, reap_refused_agrees}
 use Rattle.geo_world.proofs.world.World.reap.Goals as goal
@@ -38,3 +39,9 @@ returns-in-Err-clause-kept c = λ w agrees.
     let hi = there.last in
     let got = read_is c.args.self.now.sites.items (c.args.site - 1) c.index_mut-at.result.now (omega arith) c.index_mut-at.ensures.value in
     reap_refused_agrees _ _ w agrees (c.args.site - 1) c.args.site c.args.now (omega arith) hi c.index_mut-at.result.now c.reap.new.self got c.args.key.now c.in-Err.why c.in-Err.ensures
+
+pub returns-in-Ok-clause-alone : goal.returns-in-Ok-clause-alone
+returns-in-Ok-clause-alone c = does_alone c.args.self.now.sites.items c.args.site c.reap.new.self (there_is (length c.args.self.now.sites.items) c.args.site c.requires.there).first _ _ refl tt
+
+pub returns-in-Err-clause-alone : goal.returns-in-Err-clause-alone
+returns-in-Err-clause-alone c = does_alone c.args.self.now.sites.items c.args.site c.reap.new.self (there_is (length c.args.self.now.sites.items) c.args.site c.requires.there).first _ _ refl tt

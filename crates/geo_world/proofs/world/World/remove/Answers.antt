@@ -1,4 +1,5 @@
-use Rattle.std.proofs.Common.{◌-◌, length, arith, sym, ◌∙◌}
+use Rattle.std.proofs.Common.{◌-◌, length, arith, refl, sym, ◌∙◌}
+use Rattle.geo_world.proofs.Alone.{does_alone, removes_at}
 use Rattle.geo_world.proofs.Worlds.{there_is, read_is}
 use Rattle.geo_world.proofs.Answering.{remove_lawful, remove_agrees}
 use Rattle.geo_world.proofs.world.World.remove.Goals as goal
@@ -20,3 +21,12 @@ returns-clause-kept c = λ w agrees.
     let hi = there.last in
     let got = read_is c.args.self.now.sites.items (c.args.site - 1) c.index_mut-at.result.now (omega arith) c.index_mut-at.ensures.value in
     remove_agrees _ _ w agrees (c.args.site - 1) c.args.site (omega arith) hi c.index_mut-at.result.now c.remove.new.self got c.horizon-horizon.result c.remove.result c.remove.ensures
+
+pub returns-clause-alone : goal.returns-clause-alone
+returns-clause-alone c =
+    let n = length c.args.self.now.sites.items in
+    let there = there_is n c.args.site c.requires.there in
+    let lo = there.first in
+    let hi = there.last in
+    let got = read_is c.args.self.now.sites.items (c.args.site - 1) c.index_mut-at.result.now (omega arith) c.index_mut-at.ensures.value in
+    does_alone c.args.self.now.sites.items c.args.site c.remove.new.self lo _ _ refl (removes_at c.args.self.now.sites.items c.args.site c.remove.new.self lo c.index_mut-at.result.now c.horizon-horizon.result c.remove.result got c.horizon-horizon.ensures c.remove.ensures)

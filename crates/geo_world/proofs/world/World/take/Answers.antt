@@ -1,4 +1,5 @@
-use Rattle.std.proofs.Common.{◌-◌, length, arith, sym, ◌∙◌, ap, Some}
+use Rattle.std.proofs.Common.{◌-◌, length, arith, refl, sym, ◌∙◌, ap, Some}
+use Rattle.geo_world.proofs.Alone.{does_alone}
 use Rattle.geo_world.proofs.Worlds.{there_is, read_is}
 use Rattle.geo_world.proofs.Exchanging.{taken_lawful, taken_agrees, refused_lawful, refused_agrees}
 use Rattle.geo_world.proofs.world.World.take.Goals as goal
@@ -42,3 +43,9 @@ returns-in-Err-clause-kept c = λ w agrees.
     let got = read_is c.args.self.now.sites.items (c.args.site - 1) c.index_mut-at.result.now (omega arith) c.index_mut-at.ensures.value in
     let parcel = read_is c.args.self.now.parcels.items c.args.parcel c.index-sent.result.now c.requires.sent c.index-sent.ensures ∙ ap Some (sym c.in_ok-copy.ensures) in
     refused_agrees _ _ w agrees (c.args.site - 1) c.args.site c.args.parcel (omega arith) hi c.index_mut-at.result.now c.take.new.self got c.in_ok-copy.copy parcel c.in-Err.ensures.rests c.in-Err.ensures.remains c.in-Err.refused.why c.in-Err.ensures.does.2 c.in-Err.ensures.does.3
+
+pub returns-in-Ok-clause-alone : goal.returns-in-Ok-clause-alone
+returns-in-Ok-clause-alone c = does_alone c.args.self.now.sites.items c.args.site c.take.new.self (there_is (length c.args.self.now.sites.items) c.args.site c.requires.there).first _ _ refl tt
+
+pub returns-in-Err-clause-alone : goal.returns-in-Err-clause-alone
+returns-in-Err-clause-alone c = does_alone c.args.self.now.sites.items c.args.site c.take.new.self (there_is (length c.args.self.now.sites.items) c.args.site c.requires.there).first _ _ refl tt
