@@ -111,11 +111,3 @@ module _ (base : List ℕ) (map : List ℕ → Record) where
           let same : q ≡ k = same_text q k (sym hit) in
           ap (λ j. listed_at (before k (news_in base (map j)) (news base map ks)) q) (sym same) ∙ at_own k q (map q) (news base map ks) (is_news base (map q)) (list_any (same_key q) ks) hit rest
       by false miss rest = at_other k q (news_in base (map k)) (news base map ks) miss ∙ rest
-
--- the keys that were gone through, and those that are left
-pub rest_more : {X : Type 0} (ys zs rest all : List X) (x : X) → ys ++ rest ≡ all → rest ≡ x ∷ zs → (ys ++ x ∷ []) ++ zs ≡ all
-rest_more ys zs rest all x h e = append_assoc ys (x ∷ []) zs ∙ ap (λ r. ys ++ r) (sym e) ∙ h
-
-pub rest_none : {X : Type 0} (ys rest all : List X) → ys ++ rest ≡ all → length rest ≡ 0 → ys ≡ all
-rest_none ys [] all h e = sym (append-nil ys) ∙ h
-rest_none ys (x ∷ xs) all h e = absurd (omega (arith, e))

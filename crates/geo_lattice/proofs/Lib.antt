@@ -4,3 +4,4 @@ pub mod Missing
 pub mod Listed
 pub mod Changed
 pub mod Listing
+pub mod Showing

@@ -38,7 +38,7 @@ module _ {K V W : Type 0} (show : V → Option W) where
   before_append k None xs ys = refl
   before_append k (Some w) xs ys = refl
 
-  shown_push : (es : List (K × V)) (e : K × V) → shown_of show (es ++ e ∷ []) ≡ shown_of show es ++ before e.0 (show e.1) []
+  pub shown_push : (es : List (K × V)) (e : K × V) → shown_of show (es ++ e ∷ []) ≡ shown_of show es ++ before e.0 (show e.1) []
   shown_push [] e = refl
   shown_push (d ∷ es) e = ap (before d.0 (show d.1)) (shown_push es e) ∙ before_append d.0 (show d.1) (shown_of show es) (before e.0 (show e.1) [])
 

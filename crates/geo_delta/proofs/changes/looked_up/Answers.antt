@@ -6,7 +6,8 @@ use Rattle.std.specs.Ordering.{nat_cmp}
 use Rattle.geo_versions.specs.Keys.{same_key}
 use Rattle.geo_versions.specs.Maps.{Rising, rec_means, record_in, since, listed_at}
 use Rattle.geo_versions.specs.Operations.{Record}
-use Rattle.geo_delta.proofs.News.{found_is_news, one_more, none_more, news_rise, news_at, news_filled, rest_more, rest_none}
+use Rattle.geo_delta.proofs.News.{found_is_news, one_more, none_more, news_rise, news_at, news_filled}
+use Rattle.geo_lattice.proofs.Showing.{rest_more, rest_none}
 use Rattle.geo_delta.proofs.changes.looked_up.Goals as goal
 
 pub loop-key-preserved-in-Continue-1 : goal.loop-key-preserved-in-Continue-1

@@ -1,5 +1,5 @@
-use Rattle.std.proofs.Common.{◌≡◌, ◌∙◌, ap, sym, arith}
-use Rattle.geo_lattice.proofs.Missing.{missing_from, missing_first}
+use Rattle.std.proofs.Common.{arith}
+use Rattle.geo_lattice.proofs.Missing.{missing_from}
 use Rattle.geo_lattice.proofs.map_of.MapOf.wanted.Goals as goal
 
 pub overflow_add-most : goal.overflow_add-most
