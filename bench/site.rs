@@ -78,6 +78,8 @@ fn measure_acts(site: &mut Site, name: &str, kind: Kind, keys: u32, count: u32) 
 }
 
 fn measure_send(site: &Site, keys: u32, times: u32) {
+    // One that isn't measured: memory that it takes from the system is there for those after it.
+    drop(black_box(site.send(2)));
     let (mut took, mut sum) = (0, 0);
     for _ in 0..times {
         let start = cpu_nanos();
