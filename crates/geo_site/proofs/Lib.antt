@@ -23,3 +23,4 @@ pub mod Noting
 pub mod Looking
 pub mod Telling
 pub mod Sifting
+pub mod Victims

@@ -20,6 +20,7 @@ pub mod refusal;
 pub mod removal;
 pub mod setup;
 pub mod site;
+pub mod state;
 pub mod touch;
 
 pub use acted::Acted;
@@ -29,6 +30,7 @@ pub use exchange::{Refused, Taken};
 pub use refusal::{ReapError, SendError, SetupError, TakeError, WriteError};
 pub use setup::{Limits, Setup};
 pub use site::Site;
+pub use state::SiteState;
 
 #[cfg(test)]
 mod tests;

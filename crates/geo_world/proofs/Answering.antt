@@ -29,7 +29,7 @@ use Rattle.geo_world.proofs.Bounding.{bounded_same, vector_was, vector_here, vec
 use Rattle.geo_world.specs.Bounds.{vectors, rows}
 use Rattle.std.proofs.lemmas.Bool.{cases_eq}
 use Rattle.geo_world.proofs.Worlds.{some_none}
-use Rattle.geo_world.proofs.Victims.{AreQuiet, one_quiet, request_goes, victim_fits}
+use Rattle.geo_site.proofs.Victims.{AreQuiet, one_quiet, request_goes, victim_fits}
 use Rattle.geo_world.proofs.Changing.{reached_stable, agrees_changed, count_same, agrees_still, agrees_acts, agrees_carried, agrees_flushed, agrees_evicted, agrees_missing}
 
 -- an element that is written twice

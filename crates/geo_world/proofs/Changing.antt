@@ -25,7 +25,7 @@ use Rattle.std.proofs.lemmas.Bool.{cases_eq}
 use Rattle.geo_world.specs.Bounds.{Bounded, IsAbove, vectors, rows}
 use Rattle.geo_world.proofs.Bounding.{bounded_same, bounded_issues, stable_issues, vector_was, vector_here, vector_there, row_was, rows_stay}
 use Rattle.geo_world.proofs.Horizon.{issued_above, reached_more, horizon_stable, own_here, own_there}
-use Rattle.geo_world.proofs.Victims.{AreQuiet, GoesFor, quiet_goes, one_quiet, hit_held}
+use Rattle.geo_site.proofs.Victims.{AreQuiet, GoesFor, quiet_goes, one_quiet, hit_held}
 use Rattle.geo_world.proofs.Worlds.{some_same, some_none}
 
 -- an element after a write is the new one, or one that was there

@@ -1,7 +1,6 @@
 pub mod Worlds
 pub mod Bounding
 pub mod Opening
-pub mod Victims
 pub mod Changing
 pub mod Answering
 pub mod Exchanging

@@ -40,18 +40,26 @@ fn is_stored(reply: &Reply) -> bool {
     matches!(reply, Reply::Stored)
 }
 
+/// Whether a store tells of no victim.
+fn evicts_nothing(alloc: Global, site: &mut Site, name: &[u8]) -> Result<bool, Fail> {
+    Ok(filled(alloc, site, name, 0)?.victim.is_none())
+}
+
+/// Whether a store is told with two copies, and names its victim.
+fn evicts_a(alloc: Global, site: &mut Site) -> Result<bool, Fail> {
+    let acted = filled(alloc, site, b"c", 2)?;
+    let is_told = is_stored(&acted.reply) && acted.made.is_none();
+    let are_copies = acted.copies.len() == 2 && acted.copies.iter().all(is_stored);
+    Ok(is_told && are_copies && acted.victim == Some(key(alloc, b"a")?))
+}
+
 #[test]
 fn a_store_tells_its_victim(rt: HostRuntime) -> Result<(), Fail> {
-    let alloc = rt.alloc();
     let setup = setup_of(1, 1, 16, 100, RandomState::new(&rt)?);
-    let mut site = Site::new(alloc, setup).ok().ok_or("no site")?;
-    assert!(rt; filled(alloc, &mut site, b"a", 0)?.victim.is_none());
-    assert!(rt; filled(alloc, &mut site, b"b", 0)?.victim.is_none());
-    let acted = filled(alloc, &mut site, b"c", 2)?;
-    assert!(rt; is_stored(&acted.reply) && acted.copies.len() == 2);
-    assert!(rt; acted.copies.iter().all(is_stored));
-    assert!(rt; acted.victim == Some(key(alloc, b"a")?));
-    assert!(rt; acted.made.is_none());
+    let mut site = Site::new(rt.alloc(), setup).ok().ok_or("no site")?;
+    assert!(rt; evicts_nothing(rt.alloc(), &mut site, b"a")?);
+    assert!(rt; evicts_nothing(rt.alloc(), &mut site, b"b")?);
+    assert!(rt; evicts_a(rt.alloc(), &mut site)?);
     Ok(())
 }
 
@@ -68,22 +76,27 @@ fn makes(
     Ok(())
 }
 
+/// Whether nothing is made of older bytes.
+fn makes_nothing(alloc: Global, site: &mut Site, text: &[u8]) -> Result<bool, Fail> {
+    Ok(acted(alloc, site, text, 0)?.made.is_none())
+}
+
+/// Commands that make bytes of older ones, between others that make none.
+fn tells_what_it_makes(rt: &impl Abort, alloc: Global, site: &mut Site) -> Result<(), Fail> {
+    assert!(rt; makes_nothing(alloc, site, b"set a 0 0 1\r\n9\r\n")?);
+    makes(rt, alloc, site, b"incr a 1\r\n", b"10")?;
+    makes(rt, alloc, site, b"decr a 3\r\n", b"7")?;
+    makes(rt, alloc, site, b"append a 0 0 1\r\n8\r\n", b"78")?;
+    makes(rt, alloc, site, b"prepend a 0 0 1\r\n6\r\n", b"678")?;
+    assert!(rt; makes_nothing(alloc, site, b"incr b 1\r\n")?);
+    assert!(rt; makes_nothing(alloc, site, b"delete a\r\n")?);
+    Ok(())
+}
+
 #[test]
 fn what_is_made_of_older_bytes_is_told(rt: HostRuntime) -> Result<(), Fail> {
-    let alloc = rt.alloc();
-    let mut site = opened(alloc, 1, 1, 100, RandomState::new(&rt)?)?;
-    assert!(rt;
-        acted(alloc, &mut site, b"set a 0 0 1\r\n9\r\n", 0)?
-            .made
-            .is_none()
-    );
-    makes(&rt, alloc, &mut site, b"incr a 1\r\n", b"10")?;
-    makes(&rt, alloc, &mut site, b"decr a 3\r\n", b"7")?;
-    makes(&rt, alloc, &mut site, b"append a 0 0 1\r\n8\r\n", b"78")?;
-    makes(&rt, alloc, &mut site, b"prepend a 0 0 1\r\n6\r\n", b"678")?;
-    assert!(rt; acted(alloc, &mut site, b"incr b 1\r\n", 0)?.made.is_none());
-    assert!(rt; acted(alloc, &mut site, b"delete a\r\n", 0)?.made.is_none());
-    Ok(())
+    let mut site = opened(rt.alloc(), 1, 1, 100, RandomState::new(&rt)?)?;
+    tells_what_it_makes(&rt, rt.alloc(), &mut site)
 }
 
 /// A get that finds two of three keys, and shows them in each copy too.
@@ -105,25 +118,40 @@ fn shows_two(rt: &impl Abort, alloc: Global, acted: &Acted) -> Result<(), Fail> 
     Ok(())
 }
 
-#[test]
-fn each_copy_shows_what_the_reply_shows(rt: HostRuntime) -> Result<(), Fail> {
-    let alloc = rt.alloc();
-    let mut site = opened(alloc, 1, 1, 100, RandomState::new(&rt)?)?;
+/// Two keys are set.
+fn set_two(rt: &impl Abort, alloc: Global, site: &mut Site) -> Result<(), Fail> {
     let sets = [
         ("set a 0 0 2\r\nhi\r\n", "STORED\r\n"),
         ("set c 0 0 3\r\nyou\r\n", "STORED\r\n"),
     ];
-    says(&rt, alloc, &mut site, &sets)?;
-    let acted = acted(alloc, &mut site, b"get a b c\r\n", 3)?;
+    says(rt, alloc, site, &sets)?;
+    Ok(())
+}
+
+/// A get of three keys with three copies.
+fn get_three(rt: &impl Abort, alloc: Global, site: &mut Site) -> Result<(), Fail> {
+    let acted = acted(alloc, site, b"get a b c\r\n", 3)?;
     assert!(rt; matches!(acted.reply, Reply::Values(_)));
     assert!(rt; acted.victim.is_none() && acted.made.is_none());
-    shows_two(&rt, alloc, &acted)?;
+    shows_two(rt, alloc, &acted)
+}
+
+/// The get was counted once.
+fn counted_once(rt: &impl Abort, alloc: Global, site: &mut Site) -> Result<(), Fail> {
     let stats = [(
         "stats\r\n",
         "STAT curr_items 2\r\nSTAT get_hits 2\r\nSTAT get_misses 1\r\nSTAT evictions 0\r\nSTAT site 1\r\nSTAT clock 2\r\nSTAT records 2\r\nEND\r\n",
     )];
-    says(&rt, alloc, &mut site, &stats)?;
+    says(rt, alloc, site, &stats)?;
     Ok(())
+}
+
+#[test]
+fn each_copy_shows_what_the_reply_shows(rt: HostRuntime) -> Result<(), Fail> {
+    let mut site = opened(rt.alloc(), 1, 1, 100, RandomState::new(&rt)?)?;
+    set_two(&rt, rt.alloc(), &mut site)?;
+    get_three(&rt, rt.alloc(), &mut site)?;
+    counted_once(&rt, rt.alloc(), &mut site)
 }
 
 #[test]

@@ -1,4 +1,5 @@
 //! What the clients of one site read.
+use crate::Site;
 use crate::tests::{Row, opened, says};
 use std::alloc::Global;
 use std::hash::RandomState;
@@ -137,10 +138,8 @@ fn version_verbosity_and_quit_change_nothing(rt: HostRuntime) -> Result<(), Fail
     reads(&rt, rt.alloc(), RandomState::new(&rt)?, &rows)
 }
 
-#[test]
-fn a_full_map_takes_no_new_key(rt: HostRuntime) -> Result<(), Fail> {
-    let alloc = rt.alloc();
-    let mut site = opened(alloc, 1, 1, 1, RandomState::new(&rt)?)?;
+/// What a client reads where there is room for one record.
+fn fill_the_map(rt: &impl Abort, alloc: Global, site: &mut Site) -> Result<(), Fail> {
     let rows = [
         ("set a 0 0 1\r\nx\r\n", "STORED\r\n"),
         ("set b 0 0 1\r\nz\r\n", "SERVER_ERROR version map full\r\n"),
@@ -155,6 +154,12 @@ fn a_full_map_takes_no_new_key(rt: HostRuntime) -> Result<(), Fail> {
         ("add b 0 0 1\r\nz\r\n", "SERVER_ERROR version map full\r\n"),
         ("add a 0 0 1\r\nz\r\n", "STORED\r\n"),
     ];
-    says(&rt, alloc, &mut site, &rows)?;
+    says(rt, alloc, site, &rows)?;
     Ok(())
+}
+
+#[test]
+fn a_full_map_takes_no_new_key(rt: HostRuntime) -> Result<(), Fail> {
+    let mut site = opened(rt.alloc(), 1, 1, 1, RandomState::new(&rt)?)?;
+    fill_the_map(&rt, rt.alloc(), &mut site)
 }

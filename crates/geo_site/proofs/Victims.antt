@@ -16,7 +16,7 @@ use Rattle.geo_site.specs.Machine.{SiteState, accessed, victim_by, VictimFits}
 use Rattle.geo_site.specs.Sites.{state_in, victim_in, FirstVictimFits}
 use Rattle.geo_site.specs.Schedule.{IsVictim, VictimOf}
 use Rattle.geo_site.proofs.Stocking.{class_is}
-use Rattle.geo_world.proofs.Worlds.{some_none}
+use Rattle.geo_site.proofs.Sound.{some_none}
 
 -- acts for which no bytes go
 abbrev pub AreQuiet : List Act → Type 0

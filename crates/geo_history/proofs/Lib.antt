@@ -1,0 +1,4 @@
+pub mod Issuing
+pub mod Leading
+pub mod Keeps
+pub mod Calls

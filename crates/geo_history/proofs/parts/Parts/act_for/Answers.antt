@@ -1,0 +1,47 @@
+use Rattle.std.proofs.Common.{◌≡◌, ◌+◌, ◌<◌, ◌≤◌, ◌++◌, ◌∷◌, [], ℕ, refl, ap, subst, sym, ◌∙◌, List, arith, inr, vec_len, vec_capacity}
+use Rattle.geo_history.specs.Keeping.{Story, story_of, made_by, flush_count, most_steps, ActForDoes, ActsFor, DoesNothing, GoesOn, flush_steps}
+use Rattle.geo_history.proofs.Calls.{refused_act, acts_for, made_after, few_flushes, two_popped}
+use Rattle.geo_history.proofs.parts.Parts.act_for.Goals as goal
+
+pub returns-in-Err-clause-does : goal.returns-in-Err-clause-does
+returns-in-Err-clause-does c =
+    let now = c.args.self.now in
+    let first : Story = record { site = now.site; opening = now.opening; steps = c.reserve.new.self.items } in
+    let same : first ≡ story_of now = λ i. record { site = now.site; opening = now.opening; steps = c.reserve.ensures.items i } in
+    let last : Story = record { site = c.act_full.new.self; opening = c.flush_due.new.self.opening; steps = c.flush_due.new.self.steps.items } in
+    subst (λ (s : Story). DoesNothing s last c.args.seat c.args.now) same
+    (inr (record {
+      flush = refused_act now.site c.flush_due.new.self.site c.act_full.new.self c.args.now c.args.request 2 c.in-Err.refused c.flush_due.ensures.flush c.in-Err.ensures.does;
+      goes_on = record { opening = c.flush_due.ensures.opening; more = c.flush_due.ensures.steps };
+    }))
+
+pub append-requires-clause-room : goal.append-requires-clause-room
+append-requires-clause-room c =
+    let now = c.args.self.now in
+    let first : Story = record { site = now.site; opening = now.opening; steps = c.reserve.new.self.items } in
+    let few = few_flushes first c.args.now in
+    omega (arith, few, c.flush_due.ensures.len, c.flush_due.ensures.capacity, c.in_ok-reserve.ensures.ok)
+
+pub append-requires-clause-left : goal.append-requires-clause-left
+append-requires-clause-left c =
+    let now = c.args.self.now in
+    let first : Story = record { site = now.site; opening = now.opening; steps = c.reserve.new.self.items } in
+    let same : first ≡ story_of now = λ i. record { site = now.site; opening = now.opening; steps = c.reserve.ensures.items i } in
+    made_after first (story_of c.flush_due.new.self) c.args.seat c.args.now (record { opening = c.flush_due.ensures.opening; more = c.flush_due.ensures.steps })
+    (subst (λ (s : Story). made_by s c.args.seat + flush_count s c.args.now + 1 ≤ most_steps) (sym same) c.requires.left)
+
+pub returns-clause-does : goal.returns-clause-does
+returns-clause-does c =
+    let now = c.args.self.now in
+    let first : Story = record { site = now.site; opening = now.opening; steps = c.reserve.new.self.items } in
+    let same : first ≡ story_of now = λ i. record { site = now.site; opening = now.opening; steps = c.reserve.ensures.items i } in
+    let tells = c.in-Ok.ensures.does in
+    let last : Story = story_of c.append.new.self in
+    let whole : Story = record { site = c.act_full.new.self; opening = last.opening; steps = last.steps } in
+    let there : whole ≡ last = λ i. record { site = sym c.append.ensures.site i; opening = last.opening; steps = last.steps } in
+    subst (λ (s : Story). ActsFor s last c.args.seat c.args.now c.args.request (c.in-Some-Some.one, c.in-Some-Some.two)) same
+    (subst (λ (s : Story). ActsFor first s c.args.seat c.args.now c.args.request (c.in-Some-Some.one, c.in-Some-Some.two)) there
+    (acts_for first (story_of c.flush_due.new.self) whole c.args.seat c.args.now c.flush_due.ensures.flush (record { opening = c.flush_due.ensures.opening; more = c.flush_due.ensures.steps })
+    c.args.request 2 c.in-Ok.acted (c.in-Some-Some.one, c.in-Some-Some.two) tells
+    (two_popped c.in-Ok.acted.copies.items c.pop.new.self.items c.pop-2.new.self.items c.in-Some-Some.one c.in-Some-Some.two c.in-Ok.acted.reply tells.told.copies c.in-Some-Some.ensures.items c.in-Some-Some.ensures'.items)
+    (record { opening = c.append.ensures.opening; more = c.append.ensures.steps })))

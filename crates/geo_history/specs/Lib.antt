@@ -1,0 +1,4 @@
+pub mod Standings
+pub mod Replays
+pub mod Keeping
+pub mod Stories

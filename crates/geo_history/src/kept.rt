@@ -1,0 +1,208 @@
+//! A site that keeps its history.
+ghost use Rattle.std.specs.Prelude.{◌≡◌, IfOk, replicate};
+ghost use Rattle.geo_history.specs.Standings.{who_in, who_of};
+ghost use Rattle.geo_history.specs.Keeping.{story_of, IsKept, IsCounted};
+
+use crate::history::{History, Opening};
+use crate::parts::Parts;
+use crate::step::Step;
+use geo_delta::Parcel;
+use geo_grammar::{Reply, Request};
+use geo_site::{ReapError, Refused, SendError, Setup, SetupError, Site, SiteState, Taken};
+use geo_versions::Key;
+use std::alloc::{AllocError, Global};
+
+/// The most steps of a seat: 2^48.
+pub const MOST_STEPS: u64 = 1 << 48;
+
+/// A site, where its history opened, and the steps since then. Carrying out the steps one after the other, from where the history
+/// opened, gives their answers and leads to the site. Seats are 0 to 255, and the steps of each are numbered one after the other.
+#[derive(Drop)]
+pub struct Kept {
+    parts: Parts,
+    ghost kept: { ∥ IsKept (story_of parts) ∥₁ },
+    ghost counted: { IsCounted parts.opening parts.steps.items parts.counts.items },
+    ghost who: { who_in parts.site ≡ who_of parts.setup },
+}
+
+/// An equal setup.
+fn copied(setup: &Setup) -> Setup
+    ensures { result ≡ setup.now }
+{
+    Setup {
+        site: setup.site,
+        sites: setup.sites,
+        pages: setup.pages,
+        max_records: setup.max_records,
+        reap_after: setup.reap_after,
+        hasher: setup.hasher,
+    }
+}
+
+/// No steps of any seat.
+fn no_steps(alloc: Global) -> Result<Vec<u64>, AllocError>
+    ensures { IfOk result (λ counts. counts.items ≡ replicate 256 0) }
+{
+    vec![in alloc; 0; 256]
+}
+
+impl Kept {
+    ghost use Rattle.std.specs.Prelude.{◌≡◌, ◌+◌};
+    ghost use Rattle.geo_history.specs.Keeping.{most_steps, made_by};
+    ghost use Rattle.geo_history.specs.Stories.{story_in, KeptOpens, IsHistoryOf};
+
+    /// A site that knows nothing, with an empty history. It is refused as [`Site::new`] refuses it.
+    pub fn new(alloc: Global, setup: Setup) -> Result<Kept, SetupError>
+        ensures { KeptOpens setup result }
+    {
+        let own = copied(&setup);
+        let site = Site::new(alloc, setup)?;
+        let Ok(counts) = no_steps(alloc) else {
+            return Err(SetupError::Memory);
+        };
+        let opening = Opening {
+            state: SiteState::empty(alloc, own.sites),
+            counts: Vec::new(alloc),
+        };
+        Ok(Kept {
+            parts: Parts {
+                site,
+                setup: own,
+                opening,
+                steps: Vec::new(alloc),
+                counts,
+            },
+        })
+    }
+
+    /// The site.
+    pub fn site(&self) -> &Site
+        ensures { result.now ≡ (story_in self.now).site }
+    {
+        &self.parts.site
+    }
+
+    /// How many steps a seat may still make.
+    pub fn left(&self, seat: u8) -> u64
+        ensures { result + made_by (story_in self.now) seat ≡ most_steps }
+    {
+        MOST_STEPS - self.parts.counts[seat as usize]
+    }
+
+    /// The steps so far.
+    pub fn steps(&self) -> &[Step]
+        ensures { result.now ≡ (story_in self.now).steps }
+    {
+        self.parts.steps.as_slice()
+    }
+
+    /// The history, which ends here.
+    pub fn history(self) -> History
+        ensures { IsHistoryOf (story_in self) result }
+    {
+        let Kept { parts } = self;
+        let Parts {
+            setup,
+            opening,
+            steps,
+            ..
+        } = parts;
+        History {
+            setup,
+            era: 0,
+            opening,
+            steps,
+        }
+    }
+}
+
+impl Kept {
+    ghost use Rattle.std.specs.Prelude.{◌≤◌, ◌<◌, ◌+◌, ◌^◌};
+    ghost use Rattle.geo_slabs.specs.Storage.{class_count};
+    ghost use Rattle.geo_history.specs.Keeping.{most_steps, made_by, flush_count, ActForDoes, SendForDoes, TakeForDoes, RemoveForDoes, EvictForDoes, TickForDoes, ReapForDoes, JuggleForDoes};
+    ghost use Rattle.geo_history.specs.Stories.{story_in};
+
+    /// Answers a client's request at a moment in seconds, 1 to 2^40, as [`Site::act_full`] does, and gives the reply twice. A due
+    /// flush is a step of its own before it. Where memory is wanted nothing is done, or a due flush alone.
+    pub fn act_for(
+        &mut self,
+        alloc: Global,
+        seat: u8,
+        now: u64,
+        request: Request,
+    ) -> Result<(Reply, Reply), AllocError>
+        requires moment { now ≤ 2 ^ 40 }
+        requires left { made_by (story_in self.old) seat + flush_count (story_in self.old) now + 1 ≤ most_steps }
+        ensures does { ActForDoes (story_in self.old) (story_in self.new) seat now request result }
+    {
+        self.parts.act_for(alloc, seat, now, request)
+    }
+
+    /// Makes a parcel for another site as [`Site::send`] does, and gives it twice. Where memory is wanted nothing is done.
+    pub fn send_for(
+        &mut self,
+        alloc: Global,
+        seat: u8,
+        to: u8,
+    ) -> Result<(Parcel, Parcel), SendError>
+        requires left { made_by (story_in self.old) seat < most_steps }
+        ensures does { SendForDoes (story_in self.old) (story_in self.new) seat to result }
+    {
+        self.parts.send_for(alloc, seat, to)
+    }
+
+    /// Takes a parcel as [`Site::take`] does. A refused parcel is handed back; where memory is wanted nothing is done.
+    pub fn take_for(&mut self, alloc: Global, seat: u8, parcel: Parcel) -> Result<Taken, Refused>
+        requires left { made_by (story_in self.old) seat < most_steps }
+        ensures does { TakeForDoes (story_in self.old) (story_in self.new) seat parcel result }
+    {
+        self.parts.take_for(alloc, seat, parcel)
+    }
+
+    /// Drops what every site knows to be deleted, as [`Site::remove`] does, and tells how many records.
+    pub fn remove_for(&mut self, seat: u8) -> Result<usize, AllocError>
+        requires left { made_by (story_in self.old) seat < most_steps }
+        ensures does { RemoveForDoes (story_in self.old) (story_in self.new) seat result }
+    {
+        self.parts.remove_for(seat)
+    }
+
+    /// Drops the bytes of a key as [`Site::evict`] does, and tells whether it held any.
+    pub fn evict_for(&mut self, alloc: Global, seat: u8, key: &Key) -> Result<bool, AllocError>
+        requires left { made_by (story_in self.old) seat < most_steps }
+        ensures does { EvictForDoes (story_in self.old) (story_in self.new) seat key.now result }
+    {
+        self.parts.evict_for(alloc, seat, key)
+    }
+
+    /// Carries out a flush that is due at a moment in seconds, and tells whether there was one. Without one there is no step.
+    pub fn tick_for(&mut self, seat: u8, now: u64) -> Result<bool, AllocError>
+        requires left { made_by (story_in self.old) seat + flush_count (story_in self.old) now ≤ most_steps }
+        ensures does { TickForDoes (story_in self.old) (story_in self.new) seat now result }
+    {
+        self.parts.tick_for(seat, now)
+    }
+
+    /// Deletes a key as [`Site::reap`] does at a moment in seconds, and tells whether it did. A due flush is a step of its own before
+    /// it. Where memory is wanted nothing is done, or a due flush alone.
+    pub fn reap_for(
+        &mut self,
+        alloc: Global,
+        seat: u8,
+        now: u64,
+        key: &Key,
+    ) -> Result<bool, ReapError>
+        requires left { made_by (story_in self.old) seat + flush_count (story_in self.old) now + 1 ≤ most_steps }
+        ensures does { ReapForDoes (story_in self.old) (story_in self.new) seat now key.now result }
+    {
+        self.parts.reap_for(alloc, seat, now, key)
+    }
+
+    /// Makes the one move that is due in a slab class, 0 to 14, as [`Site::juggle`] does. It is no step.
+    pub fn juggle(&mut self, class: usize) -> Result<bool, AllocError>
+        requires { class < class_count }
+        ensures does { JuggleForDoes (story_in self.old) (story_in self.new) class result }
+    {
+        self.parts.juggle(class)
+    }
+}

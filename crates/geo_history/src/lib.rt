@@ -1,0 +1,18 @@
+//! A site with its history: each call at the site is a step, kept with what was answered.
+//!
+//! A [`Kept`] is a site and the steps since its history opened. Its type says that carrying out the steps one after the other
+//! leads from the opening to the site, and that the steps of each seat are numbered from 1. A seat is whoever calls: a
+//! connection, or a thread. `specs/` has what a site stands at, what each step makes of that, and replays. It stands on the site,
+//! and knows nothing of threads, locks or other sites.
+#![tactic(auto)]
+
+pub mod history;
+pub mod kept;
+pub mod parts;
+pub mod step;
+#[cfg(test)]
+mod tests;
+
+pub use history::{History, Opening};
+pub use kept::{Kept, MOST_STEPS};
+pub use step::{Answer, Event, Step};

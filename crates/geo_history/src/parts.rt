@@ -1,0 +1,280 @@
+//! What a site with its history is made of. A call leaves these parts for a while without the link that a whole `Kept` has.
+ghost use Rattle.std.specs.Prelude.{◌≡◌, ◌≢◌, ◌≤◌, ◌<◌, ◌+◌, ◌^◌, ◌∷◌, ◌++◌, [], ℕ, true, List, length, vec_len, vec_capacity, slice_index_or};
+ghost use Rattle.geo_slabs.specs.Storage.{class_count};
+ghost use Rattle.geo_site.specs.Sites.{FlushDoes, Rests, Stays};
+ghost use Rattle.geo_history.specs.Keeping.{most_steps, most_seats, made_in, IsCounted, step_with, step_of, is_flush_due, flush_count, flush_steps, story_of, ActForDoes, SendForDoes, TakeForDoes, RemoveForDoes, EvictForDoes, TickForDoes, ReapForDoes, JuggleForDoes};
+
+use crate::history::Opening;
+use crate::step::{Answer, Event, Step};
+use geo_delta::Parcel;
+use geo_grammar::{Reply, Request};
+use geo_lattice::Twin;
+use geo_site::{Acted, ReapError, Refused, SendError, Setup, Site, TakeError, Taken};
+use geo_versions::{Digest, Key};
+use std::alloc::{AllocError, Global};
+
+/// The parts.
+#[derive(Drop)]
+pub struct Parts {
+    pub(crate) site: Site,
+    pub(crate) setup: Setup,
+    pub(crate) opening: Opening,
+    pub(crate) steps: Vec<Step>,
+    /// How many steps each seat has made.
+    pub(crate) counts: Vec<u64>,
+}
+
+impl Parts {
+    /// Appends a seat's next step, for which there is room.
+    fn append(
+        &mut self,
+        seat: u8,
+        event: Event,
+        answer: Answer,
+        victim: Option<Key>,
+        made: Option<(Digest, u32)>,
+    )
+        requires room { vec_len self.old.steps < vec_capacity self.old.steps }
+        requires counted { IsCounted self.old.opening self.old.steps.items self.old.counts.items }
+        requires left { made_in self.old.opening self.old.steps.items seat < most_steps }
+        ensures site { self.new.site ≡ self.old.site }
+        ensures setup { self.new.setup ≡ self.old.setup }
+        ensures opening { self.new.opening ≡ self.old.opening }
+        ensures steps { self.new.steps.items ≡ self.old.steps.items ++ step_with seat (made_in self.old.opening self.old.steps.items seat + 1) event answer victim made ∷ [] }
+        ensures counted { IsCounted self.new.opening self.new.steps.items self.new.counts.items }
+        ensures len { vec_len self.new.steps ≡ vec_len self.old.steps + 1 }
+        ensures capacity { vec_capacity self.new.steps ≡ vec_capacity self.old.steps }
+    {
+        let number = self.counts[seat as usize] + 1;
+        self.counts[seat as usize] = number;
+        self.steps.push_reserved(Step {
+            seat,
+            number,
+            event,
+            answer,
+            victim,
+            made,
+        });
+    }
+
+    /// Carries out a flush that is due, as a step of its own, for which there is room, and tells whether there was one.
+    fn flush_due(&mut self, seat: u8, now: u64) -> bool
+        requires room { vec_len self.old.steps < vec_capacity self.old.steps }
+        requires counted { IsCounted self.old.opening self.old.steps.items self.old.counts.items }
+        requires left { made_in self.old.opening self.old.steps.items seat + flush_count (story_of self.old) now ≤ most_steps }
+        ensures told { result ≡ is_flush_due (story_of self.old) now }
+        ensures flush { FlushDoes self.old.site self.new.site now }
+        ensures setup { self.new.setup ≡ self.old.setup }
+        ensures opening { self.new.opening ≡ self.old.opening }
+        ensures steps { self.new.steps.items ≡ self.old.steps.items ++ flush_steps (story_of self.old) seat now }
+        ensures counted { IsCounted self.new.opening self.new.steps.items self.new.counts.items }
+        ensures len { vec_len self.new.steps ≡ vec_len self.old.steps + flush_count (story_of self.old) now }
+        ensures capacity { vec_capacity self.new.steps ≡ vec_capacity self.old.steps }
+    {
+        if !self.site.tick(now) {
+            return false;
+        }
+        self.append(seat, Event::Tick { now }, Answer::Ticked(true), None, None);
+        true
+    }
+
+    /// Answers a request, after a step for a due flush.
+    pub(crate) fn act_for(
+        &mut self,
+        alloc: Global,
+        seat: u8,
+        now: u64,
+        request: Request,
+    ) -> Result<(Reply, Reply), AllocError>
+        requires moment { now ≤ 2 ^ 40 }
+        requires counted { IsCounted self.old.opening self.old.steps.items self.old.counts.items }
+        requires left { made_in self.old.opening self.old.steps.items seat + flush_count (story_of self.old) now + 1 ≤ most_steps }
+        ensures does { ActForDoes (story_of self.old) (story_of self.new) seat now request result }
+        ensures setup { self.new.setup ≡ self.old.setup }
+        ensures counted { IsCounted self.new.opening self.new.steps.items self.new.counts.items }
+    {
+        self.steps.reserve(2)?;
+        self.flush_due(seat, now);
+        let acted = match self.site.act_full(alloc, now, &request, 2) {
+            Ok(acted) => acted,
+            Err(refused) => return Err(refused),
+        };
+        let Acted {
+            reply,
+            mut copies,
+            victim,
+            made,
+        } = acted;
+        let (Some(one), Some(two)) = (copies.pop(), copies.pop()) else {
+            unreachable!();
+        };
+        let event = Event::Command { now, request };
+        self.append(seat, event, Answer::Replied(reply), victim, made);
+        Ok((one, two))
+    }
+
+    /// Makes a parcel for another site.
+    pub(crate) fn send_for(
+        &mut self,
+        alloc: Global,
+        seat: u8,
+        to: u8,
+    ) -> Result<(Parcel, Parcel), SendError>
+        requires counted { IsCounted self.old.opening self.old.steps.items self.old.counts.items }
+        requires left { made_in self.old.opening self.old.steps.items seat < most_steps }
+        ensures does { SendForDoes (story_of self.old) (story_of self.new) seat to result }
+        ensures setup { self.new.setup ≡ self.old.setup }
+        ensures counted { IsCounted self.new.opening self.new.steps.items self.new.counts.items }
+    {
+        if self.steps.reserve(1).is_err() {
+            return Err(SendError::Memory);
+        }
+        let event = Event::Send { to };
+        match self.site.send(alloc, to) {
+            Ok(parcel) => {
+                let (Ok(one), Ok(two)) = (parcel.twin(alloc), parcel.twin(alloc)) else {
+                    return Err(SendError::Memory);
+                };
+                self.append(seat, event, Answer::Sent(parcel), None, None);
+                Ok((one, two))
+            }
+            Err(SendError::NoSuchSite) => {
+                let why = SendError::NoSuchSite;
+                self.append(seat, event, Answer::SendRefused(why), None, None);
+                Err(why)
+            }
+            Err(SendError::Memory) => Err(SendError::Memory),
+        }
+    }
+
+    /// Takes a parcel.
+    pub(crate) fn take_for(
+        &mut self,
+        alloc: Global,
+        seat: u8,
+        parcel: Parcel,
+    ) -> Result<Taken, Refused>
+        requires counted { IsCounted self.old.opening self.old.steps.items self.old.counts.items }
+        requires left { made_in self.old.opening self.old.steps.items seat < most_steps }
+        ensures does { TakeForDoes (story_of self.old) (story_of self.new) seat parcel result }
+        ensures setup { self.new.setup ≡ self.old.setup }
+        ensures counted { IsCounted self.new.opening self.new.steps.items self.new.counts.items }
+    {
+        let (Ok(()), Ok(copy)) = (self.steps.reserve(1), parcel.twin(alloc)) else {
+            let why = TakeError::Memory;
+            return Err(Refused { why, parcel });
+        };
+        // What is told of the held values counts them.
+        let _before = self.site.items();
+        let refused = match self.site.take(alloc, parcel) {
+            Ok(taken) => {
+                let _after = self.site.items();
+                let event = Event::Take { parcel: copy };
+                self.append(seat, event, Answer::Taken(taken), None, None);
+                return Ok(taken);
+            }
+            Err(refused) => refused,
+        };
+        let _after = self.site.items();
+        let why = match refused.why {
+            TakeError::Memory => return Err(refused),
+            why => why,
+        };
+        let event = Event::Take { parcel: copy };
+        self.append(seat, event, Answer::TakeRefused(why), None, None);
+        Err(refused)
+    }
+
+    /// Drops what every site knows to be deleted.
+    pub(crate) fn remove_for(&mut self, seat: u8) -> Result<usize, AllocError>
+        requires counted { IsCounted self.old.opening self.old.steps.items self.old.counts.items }
+        requires left { made_in self.old.opening self.old.steps.items seat < most_steps }
+        ensures does { RemoveForDoes (story_of self.old) (story_of self.new) seat result }
+        ensures setup { self.new.setup ≡ self.old.setup }
+        ensures counted { IsCounted self.new.opening self.new.steps.items self.new.counts.items }
+    {
+        self.steps.reserve(1)?;
+        let _before = self.site.records();
+        let count = self.site.remove();
+        let _after = self.site.records();
+        self.append(seat, Event::Remove, Answer::Removed(count), None, None);
+        Ok(count)
+    }
+
+    /// Drops the bytes of a key.
+    pub(crate) fn evict_for(
+        &mut self,
+        alloc: Global,
+        seat: u8,
+        key: &Key,
+    ) -> Result<bool, AllocError>
+        requires counted { IsCounted self.old.opening self.old.steps.items self.old.counts.items }
+        requires left { made_in self.old.opening self.old.steps.items seat < most_steps }
+        ensures does { EvictForDoes (story_of self.old) (story_of self.new) seat key.now result }
+        ensures setup { self.new.setup ≡ self.old.setup }
+        ensures counted { IsCounted self.new.opening self.new.steps.items self.new.counts.items }
+    {
+        self.steps.reserve(1)?;
+        let copy = key.twin(alloc)?;
+        let done = self.site.evict(key);
+        let event = Event::Evict { key: copy };
+        self.append(seat, event, Answer::Evicted(done), None, None);
+        Ok(done)
+    }
+
+    /// Carries out a flush that is due, if there is one.
+    pub(crate) fn tick_for(&mut self, seat: u8, now: u64) -> Result<bool, AllocError>
+        requires counted { IsCounted self.old.opening self.old.steps.items self.old.counts.items }
+        requires left { made_in self.old.opening self.old.steps.items seat + flush_count (story_of self.old) now ≤ most_steps }
+        ensures does { TickForDoes (story_of self.old) (story_of self.new) seat now result }
+        ensures setup { self.new.setup ≡ self.old.setup }
+        ensures counted { IsCounted self.new.opening self.new.steps.items self.new.counts.items }
+    {
+        self.steps.reserve(1)?;
+        Ok(self.flush_due(seat, now))
+    }
+
+    /// Deletes a key whose write ended long enough ago, after a step for a due flush.
+    pub(crate) fn reap_for(
+        &mut self,
+        alloc: Global,
+        seat: u8,
+        now: u64,
+        key: &Key,
+    ) -> Result<bool, ReapError>
+        requires counted { IsCounted self.old.opening self.old.steps.items self.old.counts.items }
+        requires left { made_in self.old.opening self.old.steps.items seat + flush_count (story_of self.old) now + 1 ≤ most_steps }
+        ensures does { ReapForDoes (story_of self.old) (story_of self.new) seat now key.now result }
+        ensures setup { self.new.setup ≡ self.old.setup }
+        ensures counted { IsCounted self.new.opening self.new.steps.items self.new.counts.items }
+    {
+        let (Ok(()), Ok(copy)) = (self.steps.reserve(2), key.twin(alloc)) else {
+            return Err(ReapError::Memory);
+        };
+        self.flush_due(seat, now);
+        let event = Event::Reap { now, key: copy };
+        match self.site.reap(alloc, now, key) {
+            Ok(done) => {
+                self.append(seat, event, Answer::Reaped(done), None, None);
+                Ok(done)
+            }
+            Err(ReapError::ClockEnded) => {
+                let why = ReapError::ClockEnded;
+                self.append(seat, event, Answer::ReapRefused(why), None, None);
+                Err(why)
+            }
+            Err(ReapError::Memory) => Err(ReapError::Memory),
+        }
+    }
+
+    /// Makes the one move that is due in a slab class. It is no step.
+    pub(crate) fn juggle(&mut self, class: usize) -> Result<bool, AllocError>
+        requires class { class < class_count }
+        requires counted { IsCounted self.old.opening self.old.steps.items self.old.counts.items }
+        ensures does { JuggleForDoes (story_of self.old) (story_of self.new) class result }
+        ensures setup { self.new.setup ≡ self.old.setup }
+        ensures counted { IsCounted self.new.opening self.new.steps.items self.new.counts.items }
+    {
+        self.site.juggle(class)
+    }
+}

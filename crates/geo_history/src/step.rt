@@ -1,0 +1,64 @@
+//! One call at a site, with what it answered.
+use geo_delta::Parcel;
+use geo_grammar::{Reply, Request};
+use geo_site::{ReapError, SendError, TakeError, Taken};
+use geo_versions::{Digest, Key};
+
+/// What was asked of a site. Moments are in seconds, 1 to 2^40.
+#[derive(Drop)]
+pub enum Event {
+    /// A client's request.
+    Command { now: u64, request: Request },
+    /// To drop the bytes of a key.
+    Evict { key: Key },
+    /// To make a parcel for another site.
+    Send { to: u8 },
+    /// To take a parcel.
+    Take { parcel: Parcel },
+    /// To drop what is left of deleted keys, where every site is known to know the deletes.
+    Remove,
+    /// To carry out a flush that waits, where its moment has come.
+    Tick { now: u64 },
+    /// To delete a key, where a write of its own ended long enough ago.
+    Reap { now: u64, key: Key },
+}
+
+/// What a site answered. It never wanted memory: a call that did left no step.
+#[derive(Drop)]
+pub enum Answer {
+    /// The reply to a command, which may be a refusal.
+    Replied(Reply),
+    /// Whether bytes were held.
+    Evicted(bool),
+    /// The parcel.
+    Sent(Parcel),
+    /// No parcel was made.
+    SendRefused(SendError),
+    /// What the parcel tells was joined.
+    Taken(Taken),
+    /// The site is as it was.
+    TakeRefused(TakeError),
+    /// How many records were dropped.
+    Removed(usize),
+    /// Whether a flush was carried out.
+    Ticked(bool),
+    /// Whether the key was deleted.
+    Reaped(bool),
+    /// The key was not deleted.
+    ReapRefused(ReapError),
+}
+
+/// One call of a seat.
+#[derive(Drop)]
+pub struct Step {
+    /// Whose call it was, 0 to 255.
+    pub seat: u8,
+    /// Which of the seat's steps it is, from 1.
+    pub number: u64,
+    pub event: Event,
+    pub answer: Answer,
+    /// The key whose bytes were evicted for what a command stored, if any.
+    pub victim: Option<Key>,
+    /// The SHA-256, and the length in bytes, of what a command made of older bytes and stored (append, prepend, incr, decr).
+    pub made: Option<(Digest, u32)>,
+}

@@ -1,0 +1,4 @@
+pub mod Lists
+pub mod Talks
+pub mod Items
+pub mod Pieces

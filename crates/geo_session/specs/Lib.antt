@@ -1,0 +1,5 @@
+pub mod Closings
+pub mod Exchanges
+pub mod Sessions
+pub mod Batches
+pub mod Bares

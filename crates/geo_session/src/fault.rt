@@ -1,0 +1,28 @@
+//! Why a session ends before its end.
+ghost use Rattle.std.specs.Prelude.{◌≡◌};
+ghost use Rattle.geo_session.specs.declared.fault.SessionFault.TheVariants.{Memory};
+
+use std::alloc::AllocError;
+
+/// Why a session ends before its end. What the backend did until then stands, also where its answer wasn't written.
+#[derive(Clone, Copy, Debug, PartialEq, Eq)]
+pub enum SessionFault {
+    /// A read failed. All answers are written.
+    Read,
+    /// A write failed. The answers to all but the last read are written, and a beginning of the others.
+    Write,
+    /// Memory was wanted and refused. The answers to all but the last read are written.
+    Memory,
+    /// The input hadn't ended after 2^48 reads. All answers are written.
+    TooManyReads,
+    /// The backend gave no answer. Those that it gave before are written.
+    Spent,
+}
+
+impl From<AllocError> for SessionFault {
+    ghost from_gives = { λ _ fault. fault ≡ Memory };
+
+    fn from(_error: AllocError) -> SessionFault {
+        SessionFault::Memory
+    }
+}

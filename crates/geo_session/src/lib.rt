@@ -1,0 +1,27 @@
+//! Client connections: what [`serve`] does between a reader and a writer.
+//!
+//! A session reads requests of the text protocol, has a [`Backend`] answer them one after the other, and writes the answers
+//! in the order of the requests. What is written is, word for word, the text of the answers that the backend gave and of the
+//! faults, and these answers are those of one run of the backend's own relation; that is the one contract of the crate, and
+//! it holds for every backend, reader and writer. [`Bare`] is a backend over one site at a fixed moment. A [`Gate`] can hold
+//! a session up. The crate stands on requests, their texts and sites, and knows nothing of sockets, locks or other sessions.
+#![tactic(auto)]
+
+mod answers;
+mod backend;
+mod bare;
+mod end;
+mod fault;
+mod gate;
+mod output;
+mod session;
+
+pub use backend::Backend;
+pub use bare::Bare;
+pub use end::SessionEnd;
+pub use fault::SessionFault;
+pub use gate::{Gate, OpenGate};
+pub use session::serve;
+
+#[cfg(test)]
+mod tests;

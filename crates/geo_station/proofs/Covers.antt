@@ -1,0 +1,12 @@
+-- Two vectors of which each covers the other are one.
+use Rattle.std.proofs.Common.{◌≡◌, ◌≢◌, ◌↔◌, MatchBool, IsTrue, ℕ, Bool, true, false, List, refl, sym, ◌∙◌, subst, true≢false}
+use Rattle.geo_stamp.specs.Vectors.{vector_joined}
+use Rattle.geo_stamp.specs.Joins.{joined_comm, joined_same}
+
+pub covers_both : (a b : List ℕ) (s : Bool) → vector_joined a b ≡ a → (IsTrue s ↔ (vector_joined b a ≡ b)) → MatchBool s (a ≡ b) (a ≢ b)
+covers_both a b true first tells = sym first ∙ joined_comm a b ∙ tells.0 refl
+covers_both a b false first tells = λ e. true≢false (sym (tells.1 (subst (λ v. vector_joined b v ≡ b) (sym e) (joined_same b))))
+
+pub covers_not : (a b : List ℕ) (r : Bool) → r ≡ false → (IsTrue r ↔ (vector_joined a b ≡ a)) → MatchBool r (a ≡ b) (a ≢ b)
+covers_not a b true f tells = absurd (true≢false f)
+covers_not a b false f tells = λ e. true≢false (sym (tells.1 (subst (λ v. vector_joined a v ≡ a) e (joined_same a))))

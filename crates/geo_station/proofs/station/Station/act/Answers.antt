@@ -1,0 +1,10 @@
+use Rattle.std.proofs.Common.{rules, refl, inr}
+use Rattle.geo_station.proofs.Closing.{flushed_none}
+use Rattle.geo_station.proofs.station.Station.act.Goals.{in_default-via-in-Ok+in_default, in_default-via-in_default}
+use Rattle.geo_station.proofs.station.Station.act.Goals as goal
+
+pub returns-in_default-clause-acts : goal.returns-in_default-clause-acts
+returns-in_default-clause-acts g c = inr (refl, elim c.in_default.branch [
+    | in_default-via-in-Ok+in_default w ↦ flushed_none c.args.seat.now _ (search rules)
+    | in_default-via-in_default w ↦ flushed_none c.args.seat.now _ (search rules)
+  ])

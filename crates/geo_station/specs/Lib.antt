@@ -1,0 +1,4 @@
+pub mod Seats
+pub mod Endings
+pub mod Maintenance
+pub mod Calls

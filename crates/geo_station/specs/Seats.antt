@@ -1,0 +1,59 @@
+-- What a seat keeps of its calls, and what a history tells of them.
+use Rattle.std.specs.Prelude.{◌≡◌, ℕ, Bool, true, false, ◌==◌, ◌&&◌, if◌then◌else◌, List, [], ◌∷◌, ◌++◌, length}
+use Rattle.std.specs.List.{All}
+use Rattle.geo_history.specs.declared.history.History.{History}
+use Rattle.geo_history.specs.declared.step.Event.{Event}
+use Rattle.geo_history.specs.declared.step.Event.TheVariants.{Command, Evict, Send, Take, Remove, Tick, Reap}
+use Rattle.geo_history.specs.declared.step.Answer.{Answer}
+use Rattle.geo_history.specs.declared.step.Step.{Step}
+use Rattle.geo_history.specs.Standings.{Standing, who_of}
+use Rattle.geo_history.specs.Replays.{steps_of}
+use Rattle.geo_history.specs.Keeping.{Keeps, Story, IsKept}
+use Rattle.geo_station.specs.declared.call.Call.{Call}
+
+-- a seat: its number, how many steps it made, the calls that it keeps, and whether it let go of earlier ones
+pub record Seated : Type 0 where
+  pub number : ℕ
+  pub steps : ℕ
+  pub calls : List Call
+  pub forgot : Bool
+
+abbrev pub call_of : Event → Answer → Call
+call_of event answer = record { event = event; answer = answer }
+
+-- a seat keeps its requests, its sends and its takes
+abbrev pub is_call : Event → Bool
+is_call (Command now request) = true
+is_call (Evict key) = false
+is_call (Send to) = true
+is_call (Take parcel) = true
+is_call Remove = false
+is_call (Tick now) = false
+is_call (Reap now key) = false
+
+abbrev pub is_call_of : ℕ → Step → Bool
+is_call_of seat s = (s.seat == seat) && is_call s.event
+
+-- those of one seat among steps, in order
+abbrev pub calls_of : ℕ → List Step → List Call
+calls_of seat [] = []
+calls_of seat (s ∷ steps) = if is_call_of seat s then call_of s.event s.answer ∷ calls_of seat steps else calls_of seat steps
+
+-- calls that end with these
+abbrev pub EndsWith : List Call → List Call → Type 0
+EndsWith all last = (first : List Call) × (all ≡ first ++ last)
+
+-- steps tell of a seat what it keeps: as many as it made, and its calls, or the last of them where it let go of earlier ones
+pub record FitsIn (steps : List Step) (seat : Seated) : Type 0 where
+  pub count : length (steps_of seat.number steps) ≡ seat.steps
+  pub ends : EndsWith (calls_of seat.number steps) seat.calls
+  pub whole : seat.forgot ≡ false → calls_of seat.number steps ≡ seat.calls
+
+-- a history has a replay: its steps lead from where it opens to where a site can stand, and those of each seat are numbered one
+-- after the other
+abbrev pub IsLawful : History → Type 0
+IsLawful history = ∥ ((last : Standing) × Keeps (who_of history.setup) history.opening history.steps.items last) ∥₁
+
+-- some history of a site does not tell of each seat what it keeps
+abbrev pub DiffersFrom : List Seated → Type 0
+DiffersFrom seats = ∥ ((story : Story) × IsKept story × (All (FitsIn story.steps) seats → ⊥)) ∥₁

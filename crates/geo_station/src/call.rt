@@ -1,0 +1,9 @@
+//! A call of a seat.
+use geo_history::{Answer, Event};
+
+/// What a seat asked of its station, and the answer that it was handed: a client's request, a send or a take.
+#[derive(Drop)]
+pub struct Call {
+    pub event: Event,
+    pub answer: Answer,
+}

@@ -1,0 +1,68 @@
+//! The end of a station.
+ghost use Rattle.std.specs.Prelude.{◌≡◌, ℕ, ◌+◌, MatchBool, sum_by, vec_len};
+ghost use Rattle.std.specs.List.{All};
+ghost use Rattle.geo_history.specs.Keeping.{opened_with};
+ghost use Rattle.geo_history.specs.Stories.{story_in};
+ghost use Rattle.geo_station.specs.Seats.{FitsIn};
+
+use crate::fits::{Ending, ending_of};
+use crate::seat::Seat;
+use crate::station::Station;
+use geo_history::{Kept, MOST_STEPS};
+use std::sync::ledger::{Ledger, Share};
+
+/// Why a station is not closed, tested in this order.
+#[derive(Clone, Copy, Debug, PartialEq, Eq)]
+pub enum Why {
+    /// A seat is missing.
+    Missing,
+    /// The history doesn't tell of a seat what the seat keeps.
+    Differs,
+}
+
+/// A station that was not closed, and the seats that were handed in, as they were.
+#[derive(Drop)]
+pub struct Unclosed<L: Ledger> {
+    pub why: Why,
+    pub station: Station<L>,
+    pub seats: Vec<Seat<L>>,
+}
+
+/// Whether the history tells of a seat what the seat keeps.
+fn fits<L: Ledger>(kept: &Kept, seat: &Seat<L>) -> bool
+    requires { (k : ℕ) → opened_with (story_in kept.now).opening k ≡ 0 }
+    ensures { MatchBool result (FitsIn (story_in kept.now).steps seat.now) (FitsIn (story_in kept.now).steps seat.now → ⊥) }
+{
+    if MOST_STEPS - kept.left(seat.number) != seat.account.count {
+        return false;
+    }
+    match ending_of(kept.steps(), seat.number, seat.calls.as_slice()) {
+        Ending::Whole => true,
+        Ending::Tail => seat.forgot,
+        Ending::Other => false,
+    }
+}
+
+/// Whether it does of each.
+pub fn all_fit<L: Ledger>(kept: &Kept, seats: &[Seat<L>]) -> bool
+    requires { (k : ℕ) → opened_with (story_in kept.now).opening k ≡ 0 }
+    ensures { MatchBool result (All (FitsIn (story_in kept.now).steps) seats.now) (All (FitsIn (story_in kept.now).steps) seats.now → ⊥) }
+{
+    for seat in seats {
+        if !fits(kept, seat) {
+            return false;
+        }
+    }
+    true
+}
+
+/// Puts the seats' shares together.
+pub fn merge_all<L: Ledger>(all: &mut Share<L>, seats: Vec<Seat<L>>)
+    ensures parts { all.new.parts ≡ all.old.parts + vec_len seats }
+    ensures amount { all.new.amount ≡ all.old.amount + sum_by (λ s. s.steps) seats.items }
+{
+    for seat in seats {
+        let Seat { account, .. } = seat;
+        all.merge(account.into_share());
+    }
+}

@@ -1,0 +1,203 @@
+//! What lies under a station's lock.
+ghost use Rattle.std.specs.Prelude.{◌≡◌, ◌≢◌, ◌+◌, ◌≤◌, ◌<◌, ◌^◌, ℕ, [], false, cond, length, IfOk, IfErr};
+ghost use Rattle.geo_grammar.specs.declared.reply.Reply.TheVariants.{OutOfMemory};
+ghost use Rattle.geo_history.specs.Keeping.{most_steps, made_by, opened_with, is_flush_due};
+ghost use Rattle.geo_history.specs.Stories.{story_in};
+
+use crate::account::Account;
+use crate::refusal::{CallError, NoSeat, Returned};
+use crate::seat::Seat;
+use geo_delta::Parcel;
+use geo_grammar::{Reply, Request};
+use geo_history::Kept;
+use geo_site::{Refused, SendError, TakeError, Taken};
+use std::alloc::{AllocError, Global};
+use std::sync::ledger::{Book, Ledger, Share};
+
+/// A site with its history, the book of the steps that its seats have made, and the seats that weren't given yet.
+#[derive(Drop)]
+pub struct Desk<L: Ledger> {
+    pub(crate) kept: Kept,
+    pub(crate) book: Book<L>,
+    pub(crate) rest: Share<L>,
+    pub(crate) given: u64,
+    pub(crate) seats: u64,
+    ghost total: { book.total ≡ length (story_in kept).steps },
+    ghost opened: { (seat : ℕ) → opened_with (story_in kept).opening seat ≡ 0 },
+    ghost parts: { rest.parts + given ≡ seats },
+    ghost amount: { rest.amount ≡ 0 },
+    ghost few: { seats ≤ 256 },
+}
+
+/// Why a call was not made.
+#[derive(Clone, Copy)]
+pub enum Unmade {
+    /// The seat may make no step more.
+    Spent,
+    /// Memory was wanted.
+    Memory,
+}
+
+impl<L: Ledger> Desk<L> {
+    ghost use Rattle.geo_station.specs.Calls.{sends_made, takes_made};
+
+    /// A seat that was not given yet.
+    pub(crate) fn seat(&mut self, alloc: Global) -> Result<Seat<L>, NoSeat>
+        ensures { IfOk result (λ seat. (seat.steps ≡ 0) × (seat.calls ≡ []) × (seat.forgot ≡ false)) }
+    {
+        if self.given >= self.seats {
+            return Err(NoSeat);
+        }
+        let share = self.rest.split_off(1, 0);
+        let number = self.given as u8;
+        self.given += 1;
+        Ok(Seat {
+            number,
+            account: Account::new(share),
+            calls: Vec::new(alloc),
+            forgot: false,
+        })
+    }
+
+    /// Whether a seat may make no step more, by its own account or by the history.
+    pub(crate) fn is_spent(&self, number: u8, account: &Account<L>) -> bool
+        ensures history { result ≡ false → made_by (story_in self.now.kept) number < most_steps }
+        ensures account { result ≡ false → account.now.count < most_steps }
+    {
+        account.is_spent() || self.kept.left(number) == 0
+    }
+
+    /// Carries out a due flush for a seat, and tells whether there was one. None is due then.
+    pub(crate) fn tick(
+        &mut self,
+        number: u8,
+        account: &mut Account<L>,
+        now: u64,
+    ) -> Result<bool, AllocError>
+        requires history { made_by (story_in self.old.kept) number < most_steps }
+        requires account { account.old.count < most_steps }
+        ensures told { IfOk result (λ flushed. account.new.count ≡ account.old.count + cond flushed 1 0) }
+        ensures undue { IfOk result (λ _. is_flush_due (story_in self.new.kept) now ≡ false) }
+        ensures unmade { IfErr result (λ _. account.new.count ≡ account.old.count) }
+    {
+        let flushed = self.kept.tick_for(number, now)?;
+        if flushed {
+            account.book(&mut self.book);
+        }
+        Ok(flushed)
+    }
+
+    /// Answers a request of a seat, where no flush is due.
+    fn answer(
+        &mut self,
+        alloc: Global,
+        number: u8,
+        account: &mut Account<L>,
+        now: u64,
+        request: Request,
+    ) -> Result<(Reply, Reply), AllocError>
+        requires moment { now ≤ 2 ^ 40 }
+        requires undue { is_flush_due (story_in self.old.kept) now ≡ false }
+        requires history { made_by (story_in self.old.kept) number < most_steps }
+        requires account { account.old.count < most_steps }
+        ensures made { IfOk result (λ replies. account.new.count ≡ account.old.count + 1) }
+        ensures equal { IfOk result (λ replies. replies.1 ≡ replies.0) }
+        ensures said { IfOk result (λ replies. replies.0 ≢ OutOfMemory) }
+        ensures unmade { IfErr result (λ _. account.new.count ≡ account.old.count) }
+    {
+        let replies = self.kept.act_for(alloc, number, now, request)?;
+        account.book(&mut self.book);
+        Ok(replies)
+    }
+
+    /// Answers a request of a seat, after a due flush, and gives the reply twice.
+    pub(crate) fn act(
+        &mut self,
+        alloc: Global,
+        number: u8,
+        account: &mut Account<L>,
+        now: u64,
+        request: Request,
+    ) -> Result<(Reply, Reply), Unmade>
+        requires moment { now ≤ 2 ^ 40 }
+        ensures made { IfOk result (λ replies. (flushes : ℕ) × (flushes ≤ 1) × (account.new.count ≡ account.old.count + (flushes + 1))) }
+        ensures equal { IfOk result (λ replies. replies.1 ≡ replies.0) }
+        ensures said { IfOk result (λ replies. replies.0 ≢ OutOfMemory) }
+        ensures unmade { IfErr result (λ _. (flushes : ℕ) × (flushes ≤ 1) × (account.new.count ≡ account.old.count + flushes)) }
+    {
+        if self.is_spent(number, account) {
+            return Err(Unmade::Spent);
+        }
+        if self.tick(number, account, now).is_err() {
+            return Err(Unmade::Memory);
+        }
+        if self.is_spent(number, account) {
+            return Err(Unmade::Spent);
+        }
+        match self.answer(alloc, number, account, now, request) {
+            Ok(replies) => Ok(replies),
+            Err(_) => Err(Unmade::Memory),
+        }
+    }
+
+    /// Makes a parcel for a seat, and gives it twice.
+    pub(crate) fn send(
+        &mut self,
+        alloc: Global,
+        number: u8,
+        account: &mut Account<L>,
+        to: u8,
+    ) -> Result<(Parcel, Parcel), CallError<SendError>>
+        ensures made { IfOk result (λ parcels. (account.new.count ≡ account.old.count + 1) × (parcels.1 ≡ parcels.0)) }
+        ensures unmade { IfErr result (λ why. account.new.count ≡ account.old.count + sends_made why) }
+    {
+        if self.is_spent(number, account) {
+            return Err(CallError::SeatSpent);
+        }
+        match self.kept.send_for(alloc, number, to) {
+            Ok(parcels) => {
+                account.book(&mut self.book);
+                Ok(parcels)
+            }
+            Err(SendError::NoSuchSite) => {
+                account.book(&mut self.book);
+                Err(CallError::Site(SendError::NoSuchSite))
+            }
+            Err(SendError::Memory) => Err(CallError::Site(SendError::Memory)),
+        }
+    }
+
+    /// Takes a parcel for a seat.
+    pub(crate) fn take(
+        &mut self,
+        alloc: Global,
+        number: u8,
+        account: &mut Account<L>,
+        parcel: Parcel,
+    ) -> Result<Taken, Returned>
+        ensures made { IfOk result (λ _. account.new.count ≡ account.old.count + 1) }
+        ensures unmade { IfErr result (λ returned. account.new.count ≡ account.old.count + takes_made returned.why) }
+        ensures back { IfErr result (λ returned. returned.parcel ≡ parcel) }
+    {
+        if self.is_spent(number, account) {
+            let why = CallError::SeatSpent;
+            return Err(Returned { why, parcel });
+        }
+        let refused = match self.kept.take_for(alloc, number, parcel) {
+            Ok(taken) => {
+                account.book(&mut self.book);
+                return Ok(taken);
+            }
+            Err(refused) => refused,
+        };
+        let Refused { why, parcel } = refused;
+        match why {
+            TakeError::Memory => {}
+            _ => account.book(&mut self.book),
+        }
+        Err(Returned {
+            why: CallError::Site(why),
+            parcel,
+        })
+    }
+}

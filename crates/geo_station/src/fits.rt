@@ -1,0 +1,61 @@
+//! Whether a history tells of a seat what the seat keeps.
+ghost use Rattle.std.specs.Prelude.{◌≡◌, ◌≢◌, MatchBool};
+ghost use Rattle.geo_station.specs.Seats.{is_call_of, call_of, calls_of};
+ghost use Rattle.geo_station.specs.Endings.{EndsSo};
+
+use crate::call::Call;
+use crate::equal::Equal;
+use geo_history::{Event, Step};
+
+/// Whether a step is one that its seat keeps, and of this seat.
+fn is_call_of(step: &Step, seat: u8) -> bool
+    ensures { result ≡ is_call_of seat step.now }
+{
+    step.seat == seat
+        && matches!(
+            step.event,
+            Event::Command { .. } | Event::Send { .. } | Event::Take { .. }
+        )
+}
+
+/// Whether a step is that of a call.
+fn is_step_of(step: &Step, call: &Call) -> bool
+    ensures { MatchBool result (call_of step.now.event step.now.answer ≡ call.now) (call_of step.now.event step.now.answer ≢ call.now) }
+{
+    step.event.equals(&call.event) && step.answer.equals(&call.answer)
+}
+
+/// How a seat's calls in a history end.
+#[derive(Clone, Copy)]
+pub enum Ending {
+    /// They are just those that the seat keeps.
+    Whole,
+    /// They end with those that it keeps, and there are more.
+    Tail,
+    /// They end with others.
+    Other,
+}
+
+/// How the calls of a seat among steps end. It walks back from the last.
+pub fn ending_of(steps: &[Step], seat: u8, kept: &[Call]) -> Ending
+    ensures { EndsSo result (calls_of seat steps.now) kept.now }
+{
+    let (mut before, mut left) = (steps, kept);
+    while let Some((step, earlier)) = before.split_last() {
+        before = earlier;
+        if is_call_of(step, seat) {
+            let Some((call, others)) = left.split_last() else {
+                return Ending::Tail;
+            };
+            left = others;
+            if !is_step_of(step, call) {
+                return Ending::Other;
+            }
+        }
+    }
+    if left.is_empty() {
+        Ending::Whole
+    } else {
+        Ending::Other
+    }
+}

@@ -1,0 +1,28 @@
+//! A site for several threads: a lock round the site with its history, and a seat for each thread.
+//!
+//! Each call of a [`Station`] takes the lock, is carried out at the site with its step in the history, and lets the lock go. A
+//! [`Seat`] has a share of a ledger whose total is the number of steps: so a call that left out its step, or made one that is
+//! nobody's, could not be. It keeps its calls with the answers that it was handed, and [`Station::close`] gives the history only
+//! where it tells the same of each seat. The crate stands on histories and their sites, and knows nothing of clients or links.
+#![tactic(auto)]
+
+mod account;
+mod call;
+mod close;
+mod desk;
+mod equal;
+mod fits;
+mod maintain;
+mod refusal;
+mod seat;
+mod station;
+
+pub use call::Call;
+pub use close::{Unclosed, Why};
+pub use maintain::Maintained;
+pub use refusal::{CallError, NoSeat, Returned, SeatSpent, StationError};
+pub use seat::Seat;
+pub use station::Station;
+
+#[cfg(test)]
+mod tests;

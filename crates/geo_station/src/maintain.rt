@@ -1,0 +1,190 @@
+//! What a site needs from time to time.
+ghost use Rattle.std.specs.Prelude.{◌≡◌, ◌+◌, ◌≤◌, ◌<◌, false, IfOk, IfErr, IfSome, IfNone};
+ghost use Rattle.geo_history.specs.Keeping.{is_flush_due};
+ghost use Rattle.geo_slabs.specs.Storage.{class_count};
+ghost use Rattle.geo_history.specs.Stories.{story_in};
+
+use crate::account::Account;
+use crate::desk::Desk;
+use crate::refusal::SeatSpent;
+use geo_lattice::Twin;
+use geo_site::ReapError;
+use geo_slabs::CLASSES;
+use std::alloc::Global;
+use std::sync::ledger::Ledger;
+
+/// How many keys a maintenance deletes at most.
+const MOST_REAPS: usize = 16;
+
+/// How many items it moves at most in a slab class.
+const MOST_MOVES: usize = 64;
+
+/// What a maintenance of a site did.
+#[derive(Clone, Copy, Debug, PartialEq, Eq)]
+pub struct Maintained {
+    /// Whether a due flush was carried out.
+    pub flushed: bool,
+    /// How many keys were deleted whose writes had ended, 16 at most.
+    pub reaped: usize,
+    /// How many records were dropped that every site knows to be deleted.
+    pub removed: usize,
+    /// How many items moved between the lists of their slab classes, 64 at most of each.
+    pub juggled: usize,
+    /// Whether one of these was refused, so that those behind it were left out.
+    pub refused: bool,
+}
+
+/// How many keys were deleted, and whether one was refused.
+#[derive(Clone, Copy)]
+struct Reaps {
+    count: usize,
+    refused: bool,
+}
+
+/// How many items moved, and whether a move was refused.
+#[derive(Clone, Copy)]
+struct Moves {
+    count: usize,
+    refused: bool,
+}
+
+impl<L: Ledger> Desk<L> {
+    ghost use Rattle.geo_station.specs.Maintenance.{ReapsSo, Maintains};
+
+    /// Deletes keys whose writes ended long enough ago, for a seat, where no flush is due.
+    fn reap_due(&mut self, alloc: Global, number: u8, account: &mut Account<L>, now: u64) -> Reaps
+        requires undue { is_flush_due (story_in self.old.kept) now ≡ false }
+        ensures { ReapsSo account.old.count account.new.count result.count result.refused }
+    {
+        for count in 0..MOST_REAPS {
+            let Some(key) = self.kept.site().due(now) else {
+                return Reaps {
+                    count,
+                    refused: false,
+                };
+            };
+            let refused = Reaps {
+                count,
+                refused: true,
+            };
+            let Ok(key) = key.twin(alloc) else {
+                return refused;
+            };
+            if self.is_spent(number, account) {
+                return refused;
+            }
+            let reaped = self.kept.reap_for(alloc, number, now, &key);
+            if let Err(ReapError::Memory) = reaped {
+                return refused;
+            }
+            account.book(&mut self.book);
+            if !matches!(reaped, Ok(true)) {
+                return refused;
+            }
+        }
+        Reaps {
+            count: MOST_REAPS,
+            refused: false,
+        }
+    }
+
+    /// Drops what every site knows to be deleted, for a seat, and tells how many records; None where that was refused.
+    fn remove(&mut self, number: u8, account: &mut Account<L>) -> Option<usize>
+        ensures some { IfSome result (λ _. account.new.count ≡ account.old.count + 1) }
+        ensures none { IfNone result (account.new.count ≡ account.old.count) }
+    {
+        if self.is_spent(number, account) {
+            return None;
+        }
+        let removed = self.kept.remove_for(number).ok()?;
+        account.book(&mut self.book);
+        Some(removed)
+    }
+
+    /// Makes the moves that are due in a slab class. None is a step.
+    fn juggle_class(&mut self, class: usize) -> Moves
+        requires { class < class_count }
+        ensures { result.count ≤ 64 }
+    {
+        for count in 0..MOST_MOVES {
+            match self.kept.juggle(class) {
+                Ok(true) => {}
+                Ok(false) => {
+                    return Moves {
+                        count,
+                        refused: false,
+                    };
+                }
+                Err(_) => {
+                    return Moves {
+                        count,
+                        refused: true,
+                    };
+                }
+            }
+        }
+        Moves {
+            count: MOST_MOVES,
+            refused: false,
+        }
+    }
+
+    /// Makes them in each class, up to the first that is refused.
+    fn juggle(&mut self) -> Moves {
+        let mut count = 0;
+        for class in 0..CLASSES {
+            let moves = self.juggle_class(class);
+            count += moves.count;
+            if moves.refused {
+                return Moves {
+                    count,
+                    refused: true,
+                };
+            }
+        }
+        Moves {
+            count,
+            refused: false,
+        }
+    }
+
+    /// Does for a seat what the site needs from time to time, up to the first that is refused.
+    pub(crate) fn maintain(
+        &mut self,
+        alloc: Global,
+        number: u8,
+        account: &mut Account<L>,
+        now: u64,
+    ) -> Result<Maintained, SeatSpent>
+        ensures ok { IfOk result (Maintains account.old.count account.new.count) }
+        ensures err { IfErr result (λ _. account.new.count ≡ account.old.count) }
+    {
+        if self.is_spent(number, account) {
+            return Err(SeatSpent);
+        }
+        let mut done = Maintained {
+            flushed: false,
+            reaped: 0,
+            removed: 0,
+            juggled: 0,
+            refused: true,
+        };
+        let Ok(flushed) = self.tick(number, account, now) else {
+            return Ok(done);
+        };
+        done.flushed = flushed;
+        let reaps = self.reap_due(alloc, number, account, now);
+        done.reaped = reaps.count;
+        if reaps.refused {
+            return Ok(done);
+        }
+        let Some(removed) = self.remove(number, account) else {
+            return Ok(done);
+        };
+        done.removed = removed;
+        let moves = self.juggle();
+        done.juggled = moves.count;
+        done.refused = moves.refused;
+        Ok(done)
+    }
+}

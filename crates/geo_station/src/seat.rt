@@ -1,0 +1,42 @@
+//! What a thread calls a station with.
+ghost use Rattle.std.specs.Prelude.{◌≡◌, [], true};
+
+use crate::account::Account;
+use crate::call::Call;
+use std::marker::Model;
+use std::sync::ledger::Ledger;
+
+/// What a thread calls a station with. It keeps its requests, sends and takes with the answers that it was handed, in order, until
+/// [`Seat::forget`].
+#[derive(Drop)]
+pub struct Seat<L: Ledger> {
+    pub(crate) number: u8,
+    pub(crate) account: Account<L>,
+    pub(crate) calls: Vec<Call>,
+    pub(crate) forgot: bool,
+}
+
+impl<L: Ledger> Model for Seat<L> {
+    ghost use Rattle.geo_station.specs.Seats.{Seated};
+
+    ghost Value = { Seated };
+
+    ghost view = { λ s. record { number = s.number; steps = s.account.count; calls = s.calls.items; forgot = s.forgot } };
+}
+
+impl<L: Ledger> Seat<L> {
+    /// The calls that it keeps.
+    pub fn calls(&self) -> &[Call]
+        ensures { result.now ≡ self.now.calls }
+    {
+        self.calls.as_slice()
+    }
+
+    /// Lets go of the calls that it keeps. It takes no memory.
+    pub fn forget(&mut self)
+        ensures { self.new ≡ record self.old { calls = []; forgot = true } }
+    {
+        self.calls.clear();
+        self.forgot = true;
+    }
+}

@@ -1,0 +1,269 @@
+//! A site for several threads.
+ghost use Rattle.std.specs.Prelude.{◌≡◌, ◌≢◌, ℕ, ◌≤◌, ◌^◌, [], false, vec_len, sum_by, length, IfOk, IfErr, IsErr, Err};
+ghost use Rattle.std.specs.List.{All};
+ghost use Rattle.geo_history.specs.Keeping.{most_steps, opened_with};
+ghost use Rattle.geo_history.specs.Stories.{story_in};
+ghost use Rattle.geo_station.specs.Seats.{FitsIn, IsLawful, DiffersFrom};
+ghost use Rattle.geo_station.specs.declared.refusal.CallError.TheVariants as refused;
+
+use crate::account::Account;
+use crate::call::Call;
+use crate::close::{Unclosed, Why, all_fit, merge_all};
+use crate::desk::{Desk, Unmade};
+use crate::maintain::Maintained;
+use crate::refusal::{CallError, NoSeat, Returned, SeatSpent, StationError};
+use crate::seat::Seat;
+use geo_delta::Parcel;
+use geo_grammar::{Reply, Request};
+use geo_history::{Answer, Event, History, Kept};
+use geo_lattice::Twin;
+use geo_site::{SendError, TakeError, Taken};
+use std::alloc::Global;
+use std::marker::Model;
+use std::sync::ledger::{Blank, Ledger};
+use std::sync::{Mutex, Wait};
+
+/// A lock round a site with its history, and a ledger whose total is the number of steps. Each call by a seat waits for the lock.
+/// Seats are used with the station that gave them.
+#[derive(Drop)]
+pub struct Station<L: Ledger> {
+    desk: Mutex<Desk<L>>,
+    seats: u64,
+}
+
+impl<L: Ledger> Model for Station<L> {
+    ghost use Rattle.std.specs.Prelude.{◌≡◌, ℕ};
+
+    ghost Value = { ℕ };
+
+    ghost view = { λ s. s.seats };
+
+    ghost invariant = { λ s. s.seats ≡ L.parts };
+}
+
+impl<L: Ledger> Station<L> {
+    ghost use Rattle.geo_station.specs.Calls.{StationOpens};
+
+    /// A station of so many seats, 2 to 256, round a site that has made no steps, over a blank ledger with as many parts. It takes no
+    /// memory.
+    pub fn new(blank: Blank, kept: Kept, seats: u64) -> Result<Station<L>, StationError>
+        requires name { blank.name ≡ L.name }
+        requires parts { blank.parts ≡ L.parts }
+        requires seats { blank.parts ≡ seats }
+        requires steps { (story_in kept).steps ≡ [] }
+        requires opening { (seat : ℕ) → opened_with (story_in kept).opening seat ≡ 0 }
+        ensures { StationOpens seats result }
+    {
+        let (book, rest) = blank.open::<L>();
+        if seats < 2 || seats > 256 {
+            return Err(StationError::SeatCount);
+        }
+        let desk = Desk {
+            kept,
+            book,
+            rest,
+            given: 0,
+            seats,
+        };
+        Ok(Station {
+            desk: Mutex::new(desk),
+            seats,
+        })
+    }
+
+    /// A seat that was not given yet, by rising number from 0; NoSeat where all were given. It takes no memory.
+    pub fn seat(&self, rt: &impl Wait, alloc: Global) -> Result<Seat<L>, NoSeat>
+        ensures { IfOk result (λ seat. (seat.steps ≡ 0) × (seat.calls ≡ []) × (seat.forgot ≡ false)) }
+    {
+        self.desk.lock(rt).seat(alloc)
+    }
+}
+
+impl<L: Ledger> Station<L> {
+    ghost use Rattle.geo_station.specs.Calls.{ActsBy, SendsBy, TakesBy, MaintainsBy};
+
+    /// Answers a client's request at a moment in seconds, 1 to 2^40, after a due flush. Where memory was wanted for the answer, its
+    /// step, or the seat's copy, it is [`Reply::OutOfMemory`], and nothing was done but the due flush.
+    pub fn act(
+        &self,
+        rt: &impl Wait,
+        alloc: Global,
+        seat: &mut Seat<L>,
+        now: u64,
+        request: Request,
+    ) -> Result<Reply, SeatSpent>
+        requires { now ≤ 2 ^ 40 }
+        ensures acts { ActsBy seat.old seat.new now request result }
+        ensures limit { seat.old.steps ≡ most_steps → IsErr result }
+    {
+        let Seat {
+            number,
+            account,
+            calls,
+            ..
+        } = seat;
+        if account.is_spent() {
+            return Err(SeatSpent);
+        }
+        let (Ok(()), Ok(copy)) = (calls.reserve(1), request.twin(alloc)) else {
+            return Ok(Reply::OutOfMemory);
+        };
+        let done = self
+            .desk
+            .lock(rt)
+            .act(alloc, *number, account, now, request);
+        match done {
+            Ok((reply, kept)) => {
+                let event = Event::Command { now, request: copy };
+                let answer = Answer::Replied(kept);
+                calls.push_reserved(Call { event, answer });
+                Ok(reply)
+            }
+            Err(Unmade::Memory) => Ok(Reply::OutOfMemory),
+            Err(Unmade::Spent) => Err(SeatSpent),
+        }
+    }
+
+    /// Makes a parcel for another site.
+    pub fn send(
+        &self,
+        rt: &impl Wait,
+        alloc: Global,
+        seat: &mut Seat<L>,
+        to: u8,
+    ) -> Result<Parcel, CallError<SendError>>
+        ensures sends { SendsBy seat.old seat.new to result }
+        ensures limit { seat.old.steps ≡ most_steps → result ≡ Err refused.SeatSpent }
+    {
+        let Seat {
+            number,
+            account,
+            calls,
+            ..
+        } = seat;
+        if account.is_spent() {
+            return Err(CallError::SeatSpent);
+        }
+        if calls.reserve(1).is_err() {
+            return Err(CallError::Site(SendError::Memory));
+        }
+        let event = Event::Send { to };
+        let done = self.desk.lock(rt).send(alloc, *number, account, to);
+        match done {
+            Ok((parcel, kept)) => {
+                let answer = Answer::Sent(kept);
+                calls.push_reserved(Call { event, answer });
+                Ok(parcel)
+            }
+            Err(CallError::Site(SendError::NoSuchSite)) => {
+                let answer = Answer::SendRefused(SendError::NoSuchSite);
+                calls.push_reserved(Call { event, answer });
+                Err(CallError::Site(SendError::NoSuchSite))
+            }
+            Err(why) => Err(why),
+        }
+    }
+
+    /// Takes a parcel. A refused one is handed back.
+    pub fn take(
+        &self,
+        rt: &impl Wait,
+        alloc: Global,
+        seat: &mut Seat<L>,
+        parcel: Parcel,
+    ) -> Result<Taken, Returned>
+        ensures takes { TakesBy seat.old seat.new parcel result }
+        ensures limit { seat.old.steps ≡ most_steps → IfErr result (λ returned. returned.why ≡ refused.SeatSpent) }
+    {
+        let Seat {
+            number,
+            account,
+            calls,
+            ..
+        } = seat;
+        if account.is_spent() {
+            let why = CallError::SeatSpent;
+            return Err(Returned { why, parcel });
+        }
+        let (Ok(()), Ok(copy)) = (calls.reserve(1), parcel.twin(alloc)) else {
+            let why = CallError::Site(TakeError::Memory);
+            return Err(Returned { why, parcel });
+        };
+        let event = Event::Take { parcel: copy };
+        let done = self.desk.lock(rt).take(alloc, *number, account, parcel);
+        match &done {
+            Ok(told) => {
+                let answer = Answer::Taken(*told);
+                calls.push_reserved(Call { event, answer });
+            }
+            Err(Returned { why, .. }) => match why {
+                CallError::SeatSpent | CallError::Site(TakeError::Memory) => {}
+                CallError::Site(why) => {
+                    let answer = Answer::TakeRefused(*why);
+                    calls.push_reserved(Call { event, answer });
+                }
+            },
+        }
+        done
+    }
+
+    /// Does at a moment in seconds what the site needs from time to time: a due flush, the deletes of at most 16 keys whose writes
+    /// ended long enough ago, one removal, and at most 64 moves in each slab class. It stops at the first that is refused.
+    pub fn maintain(
+        &self,
+        rt: &impl Wait,
+        alloc: Global,
+        seat: &mut Seat<L>,
+        now: u64,
+    ) -> Result<Maintained, SeatSpent>
+        ensures maintains { MaintainsBy seat.old seat.new result }
+        ensures limit { seat.old.steps ≡ most_steps → IsErr result }
+    {
+        let Seat {
+            number,
+            account,
+            ..
+        } = seat;
+        if account.is_spent() {
+            return Err(SeatSpent);
+        }
+        self.desk.lock(rt).maintain(alloc, *number, account, now)
+    }
+}
+
+impl<L: Ledger> Station<L> {
+    ghost use Rattle.geo_station.specs.declared.close.Why.TheVariants.{Missing, Differs};
+
+    /// The history of what was done, where all seats are handed in and it tells of each what the seat keeps. Else station and seats
+    /// come back as they were.
+    pub fn close(self, seats: Vec<Seat<L>>) -> Result<History, Unclosed<L>>
+        ensures lawful { IfOk result (λ history. IsLawful history) }
+        ensures sum { IfOk result (λ history. length history.steps.items ≡ sum_by (λ s. s.steps) seats.items) }
+        ensures each { IfOk result (λ history. All (FitsIn history.steps.items) seats.items) }
+        ensures all { IfOk result (λ _. vec_len seats ≡ self) }
+        ensures missing { IfErr result (λ unclosed. unclosed.why ≡ Missing → vec_len seats ≢ self) }
+        ensures differs { IfErr result (λ unclosed. unclosed.why ≡ Differs → (vec_len seats ≡ self) × DiffersFrom seats.items) }
+        ensures back { IfErr result (λ unclosed. (unclosed.seats ≡ seats) × (unclosed.station ≡ self)) }
+    {
+        let Station { desk, seats: count } = self;
+        let mut desk = desk.into_inner();
+        let whole = seats.len() as u64 == count;
+        if !whole || !all_fit(&desk.kept, seats.as_slice()) {
+            let station = Station {
+                desk: Mutex::new(desk),
+                seats: count,
+            };
+            let why = if whole { Why::Differs } else { Why::Missing };
+            return Err(Unclosed {
+                why,
+                station,
+                seats,
+            });
+        }
+        let mut all = desk.rest.empty();
+        merge_all(&mut all, seats);
+        desk.book.audit(&mut all);
+        let Desk { kept, .. } = desk;
+        Ok(kept.history())
+    }
+}
