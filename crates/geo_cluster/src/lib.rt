@@ -13,6 +13,3 @@ pub use script::fault::ScriptFault;
 pub use script::line::Line;
 pub use script::parse::{is_skipped, parse_line};
 pub use script::run::run_script;
-
-#[cfg(test)]
-mod tests;

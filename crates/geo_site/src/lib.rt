@@ -31,6 +31,3 @@ pub use refusal::{ReapError, SendError, SetupError, TakeError, WriteError};
 pub use setup::{Limits, Setup};
 pub use site::Site;
 pub use state::SiteState;
-
-#[cfg(test)]
-mod tests;

@@ -15,6 +15,3 @@ mod world;
 pub use open::are_good;
 pub use outcome::{Outcome, WorldError};
 pub use run::{LAST_MOMENT, are_in_time, run_schedule};
-
-#[cfg(test)]
-mod tests;

@@ -99,7 +99,7 @@ impl Known {
     }
 
     /// A site carries out a flush that waits, where it is due and a stamp is left for it.
-    pub(crate) fn flush_due(&mut self, alloc: Global, site: u8, now: u64) -> Result<(), PlainError>
+    pub fn flush_due(&mut self, alloc: Global, site: u8, now: u64) -> Result<(), PlainError>
         requires there { is_site (length self.old.sites.items) site ≡ true }
         requires few { length self.old.sites.items ≤ 16 }
         ensures kept { IfOk result (λ _. (w : Knowing) → Meets self.old.sites.items self.old.sent.items w → Meets self.new.sites.items self.new.sent.items (flushed w site now)) }

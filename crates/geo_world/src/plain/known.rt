@@ -41,7 +41,8 @@ fn is_done(reply: &Reply) -> bool
 }
 
 impl Known {
-    pub(crate) fn has(&self, site: u8) -> bool
+    /// Whether there is a site of this number.
+    pub fn has(&self, site: u8) -> bool
         ensures { result ≡ is_site (length self.now.sites.items) site }
     {
         site >= 1 && site as usize <= self.sites.len()
