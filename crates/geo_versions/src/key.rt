@@ -1,5 +1,5 @@
 //! Keys.
-ghost use Rattle.std.specs.Prelude.{◌≡◌, ◌==◌, ◌∷◌, [], ℕ, List, IfOk, MatchOption, false, true};
+ghost use Rattle.std.specs.Prelude.{◌≡◌, ◌==◌, ◌∷◌, [], ℕ, List, IfOk, IsOk, MatchOption, false, true};
 ghost use Rattle.std.specs.Ordering.{nat_cmp, as_partial_cmp};
 ghost use Rattle.std.specs.Cmp.Lexicographic.{slice_cmp, pointwise};
 ghost use Rattle.std.specs.Cmp.{partial_equiv_from_equiv, partial_order_from_own_ties};
@@ -7,7 +7,7 @@ ghost use Rattle.std.proofs.lemmas.Cmp.{nat_list_cmp_total};
 ghost use Rattle.std.specs.Cmp.Lexicographic.{nat_list_eq_equiv};
 ghost use Rattle.std.specs.Cmp.Rules.{comparing, hashing};
 ghost use Rattle.std.proofs.Common.{rules};
-ghost use Rattle.geo_versions.specs.Keys.{is_key, is_key_byte};
+ghost use Rattle.geo_versions.specs.Keys.{IsShortKey, is_key, is_key_byte};
 ghost use Rattle.std.specs.List.{list_all};
 
 use geo_lattice::Twin;
@@ -90,7 +90,14 @@ impl Hash for Key {
 }
 
 impl Twin for Key {
-    fn twin(&self, alloc: Global) -> Result<Self, AllocError> {
+    ghost use Rattle.std.specs.Prelude.{◌≡◌, IfOk, IsOk};
+    ghost use Rattle.geo_versions.specs.Keys.{IsShortKey};
+
+    /// The second key. That of a short one takes no memory.
+    fn twin(&self, alloc: Global) -> Result<Self, AllocError>
+        ensures ok { IfOk result (λ other. other ≡ self.now) }
+        ensures succeeds { IsShortKey self.now → IsOk result }
+    {
         Ok(Key {
             bytes: SmallVec::from_slice(alloc, self.bytes.as_slice())?,
         })
@@ -117,9 +124,10 @@ impl Key {
         !bytes.is_empty() && bytes.len() <= LONGEST_KEY && allows_all(bytes)
     }
 
-    /// The key of these bytes, None exactly where they are none.
+    /// The key of these bytes, None exactly where they are none. A short one takes no memory.
     pub fn new(alloc: Global, bytes: &[u8]) -> Result<Option<Self>, AllocError>
-        ensures { IfOk result (λ key. MatchOption key (is_key bytes.now ≡ false) (λ k. (is_key bytes.now ≡ true) × (k ≡ bytes.now))) }
+        ensures succeeds { IsShortKey bytes.now → IsOk result }
+        ensures ok { IfOk result (λ key. MatchOption key (is_key bytes.now ≡ false) (λ k. (is_key bytes.now ≡ true) × (k ≡ bytes.now))) }
     {
         if !Key::is_valid(bytes) {
             return Ok(None);
