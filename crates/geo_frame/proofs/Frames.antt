@@ -14,7 +14,7 @@ use Rattle.geo_versions.specs.Maps.{Rec}
 use Rattle.geo_frame.specs.declared.fault.FrameFault.{FrameFault}
 use Rattle.geo_frame.specs.declared.fault.FrameFault.TheVariants.{Short, Magic, Version, Field, Damaged, Trailing, Memory}
 use Rattle.geo_frame.specs.declared.reading.Route.{Route}
-use Rattle.geo_frame.specs.Ranges.{InRange}
+use Rattle.geo_delta.specs.Ranges.{InRange}
 use Rattle.geo_frame.specs.Spelling.{four, sites_bytes, vector_bytes, floor_bytes, records_bytes, fields_of, head_bytes, content_of, frame_of, longest_frame}
 use Rattle.geo_frame.specs.Reading.{◌>>=◌, Gives, sites_at, vector_at, floor_at, all_records, parcel_in, length_field, size_in, fields_sized, fields_in, frame_in}
 use Rattle.geo_frame.proofs.Lengths.{four_length, records_few, fields_length, head_length, frame_size, frame_length}

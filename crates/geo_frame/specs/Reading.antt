@@ -15,7 +15,8 @@ use Rattle.geo_versions.specs.declared.body.Body.TheVariants.{Gone, Value}
 use Rattle.geo_frame.specs.declared.fault.FrameFault.{FrameFault}
 use Rattle.geo_frame.specs.declared.fault.FrameFault.TheVariants.{Short, Magic, Version, Field, Order, Damaged, Trailing, Memory}
 use Rattle.geo_frame.specs.declared.reading.Route.{Route}
-use Rattle.geo_frame.specs.Ranges.{longest_value, sites_fit, stamp_fits}
+use Rattle.geo_delta.specs.Ranges.{sites_fit, stamp_fits}
+use Rattle.geo_versions.specs.Lengths.{longest_value}
 use Rattle.geo_frame.specs.Spelling.{longest_frame}
 
 infixl 10 ◌>>=◌

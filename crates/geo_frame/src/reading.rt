@@ -1,7 +1,7 @@
 //! Reading a frame.
 ghost use Rattle.std.specs.Prelude.{◌≡◌, ◌≤◌, length, IfOk, IfErr, IsOk, Ok};
 ghost use Rattle.geo_delta.specs.declared.parcel.Parcel.{Parcel};
-ghost use Rattle.geo_frame.specs.Ranges.{InRange};
+ghost use Rattle.geo_delta.specs.Ranges.{InRange};
 ghost use Rattle.geo_frame.specs.Reading.{Reads, Gives, sites_at, parcel_in, fields_in, frame_in};
 ghost use Rattle.geo_frame.specs.declared.fault.FrameFault.TheVariants.{Memory};
 ghost use Rattle.geo_frame.specs.Spelling.{frame_of, longest_frame};

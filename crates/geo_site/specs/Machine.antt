@@ -8,7 +8,7 @@ use Rattle.std.specs.List.{IsDistinct, list_any}
 use Rattle.geo_versions.specs.Maps.{has_register, recent_both, remaining}
 use Rattle.geo_versions.specs.Operations.{Act, Operation, Record, record_joined, floor_joined, above_both, body_of, expiry_of, flush_of, version_in}
 use Rattle.geo_versions.specs.Operations.Act.{Write, Delete, Touch, Flush}
-pub use Rattle.geo_delta.specs.Changes.{knows_record}
+pub use Rattle.geo_delta.specs.Changes.{knows_record, is_unknown_floor, knows_floor}
 use Rattle.geo_versions.specs.declared.version.Version.{Version}
 use Rattle.geo_slabs.specs.Storage.{chunk_bytes}
 use Rattle.geo_values.specs.Stock.{Stock, first_stock, dropped, hit_at, with_room, victim_for, arrived, kept_where, IsHeldIn}
@@ -160,14 +160,6 @@ pub record Same (old new : SiteState) : Type 0 where
   pub floor : new.floor ≡ old.floor
   pub map : (key : List ℕ) → new.map key ≡ old.map key
   pub stock : stocks.Same old.stock new.stock
-
--- a vector knows a floor, and what is kept of each key
-abbrev pub is_unknown_floor : List ℕ → Option Moment → Bool
-is_unknown_floor v None = false
-is_unknown_floor v (Some floor) = not (nat_le floor.time (entry_of v floor.site))
-
-abbrev pub knows_floor : List ℕ → Option Moment → Bool
-knows_floor v floor = not (is_unknown_floor v floor)
 
 -- everything that is kept is known by the vector
 abbrev pub Covers : List ℕ → (List ℕ → Record) → Type 0
