@@ -63,7 +63,7 @@ impl Changes {
         ensures short { IsShortKey key.now → result ≡ true }
     {
         let alloc = *self.ring.allocator();
-        match key.twin(alloc) {
+        match key.copied(alloc) {
             Ok(key) => {
                 self.push(key, after.copied());
                 true

@@ -90,17 +90,8 @@ impl Hash for Key {
 }
 
 impl Twin for Key {
-    ghost use Rattle.std.specs.Prelude.{◌≡◌, IfOk, IsOk};
-    ghost use Rattle.geo_versions.specs.Keys.{IsShortKey};
-
-    /// The second key. That of a short one takes no memory.
-    fn twin(&self, alloc: Global) -> Result<Self, AllocError>
-        ensures ok { IfOk result (λ other. other ≡ self.now) }
-        ensures succeeds { IsShortKey self.now → IsOk result }
-    {
-        Ok(Key {
-            bytes: SmallVec::from_slice(alloc, self.bytes.as_slice())?,
-        })
+    fn twin(&self, alloc: Global) -> Result<Self, AllocError> {
+        self.copied(alloc)
     }
 }
 
@@ -124,10 +115,9 @@ impl Key {
         !bytes.is_empty() && bytes.len() <= LONGEST_KEY && allows_all(bytes)
     }
 
-    /// The key of these bytes, None exactly where they are none. A short one takes no memory.
+    /// The key of these bytes, None exactly where they are none.
     pub fn new(alloc: Global, bytes: &[u8]) -> Result<Option<Self>, AllocError>
-        ensures succeeds { IsShortKey bytes.now → IsOk result }
-        ensures ok { IfOk result (λ key. MatchOption key (is_key bytes.now ≡ false) (λ k. (is_key bytes.now ≡ true) × (k ≡ bytes.now))) }
+        ensures { IfOk result (λ key. MatchOption key (is_key bytes.now ≡ false) (λ k. (is_key bytes.now ≡ true) × (k ≡ bytes.now))) }
     {
         if !Key::is_valid(bytes) {
             return Ok(None);
@@ -135,6 +125,16 @@ impl Key {
         Ok(Some(Key {
             bytes: SmallVec::from_slice(alloc, bytes)?,
         }))
+    }
+
+    /// An equal key. Of a short one it takes no memory.
+    pub fn copied(&self, alloc: Global) -> Result<Key, AllocError>
+        ensures same { IfOk result (λ other. other ≡ self.now) }
+        ensures succeeds { IsShortKey self.now → IsOk result }
+    {
+        Ok(Key {
+            bytes: SmallVec::from_slice(alloc, self.bytes.as_slice())?,
+        })
     }
 
     /// Its bytes.

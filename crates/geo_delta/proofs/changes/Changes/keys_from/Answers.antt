@@ -8,6 +8,6 @@ loop-i-preserved c =
     elim c.match-get.branch [
       | in-Some+in_ok-twin+in_ok-push w ↦
           keys_more c.args.first c.loop-i.i c.self.inside.ring.items w.in-Some.change.now c.loop-i.keys.items _ (omega arith) (sym w.in-Some.ensures) c.loop-i.invariant
-          (ap (λ x. x.items) w.keys-is ∙ w.in_ok-push.ensures.items ∙ ap (λ k. c.loop-i.keys.items ++ k ∷ []) w.in_ok-twin.ensures.ok)
+          (ap (λ x. x.items) w.keys-is ∙ w.in_ok-push.ensures.items ∙ ap (λ k. c.loop-i.keys.items ++ k ∷ []) w.in_ok-twin.ensures)
       | in_default w ↦ absurd (there c.self.inside.ring.items c.loop-i.i (omega arith) (sym w.in_default.ensures))
     ]

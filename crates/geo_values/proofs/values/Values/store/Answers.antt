@@ -17,7 +17,7 @@ take_out-was-requires-clause-goes c =
     let class = c.class_of-class.result in
     let n = c.in_ok-number.number in
     let base = links_in c.self.inside.parts in
-    let waits : SameLinks (admitted n key class base) (links_in c.admit.new.self) = subst (λ (k : List ℕ). SameLinks (admitted n k class base) (links_in c.admit.new.self)) c.in_ok-twin.ensures.ok c.in_ok-number.ensures.admitted in
+    let waits : SameLinks (admitted n key class base) (links_in c.admit.new.self) = subst (λ (k : List ℕ). SameLinks (admitted n k class base) (links_in c.admit.new.self)) c.in_ok-twin.ensures c.in_ok-number.ensures.admitted in
     subst (λ (l : Links). CanGoIfAny l (l.item key)) (sym (same_links waits)) (can_go_if_any-waits base c.self.invariant.1 n key class c.in_ok-number.ensures.fresh key)
 
 pub put-evicted-requires-clause-victim : goal.put-evicted-requires-clause-victim
@@ -26,7 +26,7 @@ put-evicted-requires-clause-victim c = λ full.
     let class = c.class_of-class.result in
     let n = c.in_ok-number.number in
     let base = links_in c.self.inside.parts in
-    let waits : SameLinks (admitted n key class base) (links_in c.admit.new.self) = subst (λ (k : List ℕ). SameLinks (admitted n k class base) (links_in c.admit.new.self)) c.in_ok-twin.ensures.ok c.in_ok-number.ensures.admitted in
+    let waits : SameLinks (admitted n key class base) (links_in c.admit.new.self) = subst (λ (k : List ℕ). SameLinks (admitted n k class base) (links_in c.admit.new.self)) c.in_ok-twin.ensures c.in_ok-number.ensures.admitted in
     let b = store-below base c.self.invariant.1 n key class c.in_ok-number.ensures.fresh (links_in c.admit.new.self) (links_in c.take_out-was.new.self) waits c.take_out-was.ensures.out in
     subst (λ (l : Links). HasVictim l class) (sym b.waits)
     (has_victim-waits b.below b.linked n key class b.free c.class_of-class.ensures.0 (subst (λ (l : Links). IsFull l.storage class) b.waits full))
@@ -40,7 +40,7 @@ invariant_of-self-2 c =
     let base = links_in c.self.inside.parts in
     let out = links_in c.take_out-was.new.self in
     let put = links_in c.put-evicted.new.self in
-    let waits : SameLinks (admitted n key class base) (links_in c.admit.new.self) = subst (λ (k : List ℕ). SameLinks (admitted n k class base) (links_in c.admit.new.self)) c.in_ok-twin.ensures.ok c.in_ok-number.ensures.admitted in
+    let waits : SameLinks (admitted n key class base) (links_in c.admit.new.self) = subst (λ (k : List ℕ). SameLinks (admitted n k class base) (links_in c.admit.new.self)) c.in_ok-twin.ensures c.in_ok-number.ensures.admitted in
     let b = store-below base c.self.invariant.1 n key class c.in_ok-number.ensures.fresh (links_in c.admit.new.self) out waits c.take_out-was.ensures.out in
     let fits : IsClassOf (length bytes) class = subst (λ (x : List ℕ). IsClassOf (length x) class) c.bytes.ensures c.class_of-class.ensures in
     let puts : PutsWithRoom out put class bytes c.put-evicted.result.0 c.put-evicted.result.1 = subst (λ (x : List ℕ). PutsWithRoom out put class x c.put-evicted.result.0 c.put-evicted.result.1) c.bytes-2.ensures c.put-evicted.ensures.puts in
@@ -59,7 +59,7 @@ returns-clause-stored c =
     let base = links_in c.self.inside.parts in
     let out = links_in c.take_out-was.new.self in
     let put = links_in c.put-evicted.new.self in
-    let waits : SameLinks (admitted n key class base) (links_in c.admit.new.self) = subst (λ (k : List ℕ). SameLinks (admitted n k class base) (links_in c.admit.new.self)) c.in_ok-twin.ensures.ok c.in_ok-number.ensures.admitted in
+    let waits : SameLinks (admitted n key class base) (links_in c.admit.new.self) = subst (λ (k : List ℕ). SameLinks (admitted n k class base) (links_in c.admit.new.self)) c.in_ok-twin.ensures c.in_ok-number.ensures.admitted in
     let b = store-below base c.self.invariant.1 n key class c.in_ok-number.ensures.fresh (links_in c.admit.new.self) out waits c.take_out-was.ensures.out in
     let fits : IsClassOf (length bytes) class = subst (λ (x : List ℕ). IsClassOf (length x) class) c.bytes.ensures c.class_of-class.ensures in
     let puts : PutsWithRoom out put class bytes c.put-evicted.result.0 c.put-evicted.result.1 = subst (λ (x : List ℕ). PutsWithRoom out put class x c.put-evicted.result.0 c.put-evicted.result.1) c.bytes-2.ensures c.put-evicted.ensures.puts in
