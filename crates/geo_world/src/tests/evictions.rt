@@ -5,7 +5,7 @@ use geo_delta::Parcel;
 use geo_grammar::{Reply, Request, Stats, ValueBytes, Verb};
 use geo_site::{Event, Trace};
 use geo_stamp::Stamp;
-use geo_versions::{Body, Digest};
+use geo_versions::{Body, Digest, Length};
 use std::alloc::Global;
 use std::hash::RandomState;
 use std::process::Abort;
@@ -101,7 +101,7 @@ fn tells_the_write(
     let body = Body::Value {
         digest: Digest::of(byte),
         flags: 0,
-        length: 1,
+        length: Length::of(1),
     };
     assert_eq!(rt; (parcel.from, parcel.to), (1, 2));
     assert_eq!(rt; (parcel.base.entry(1), parcel.base.entry(2)), (0, 0));
