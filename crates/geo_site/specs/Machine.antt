@@ -1,9 +1,9 @@
 -- One site as a machine: what it knows of each site's clock, its floor, what it keeps of each key and the stock of values that it
 -- holds. Each event is one step of it. (Joins of states and of deltas: Almeida et al. 2018; the clock: Lamport 1978.)
-use Rattle.std.specs.Prelude.{◌≡◌, ◌≢◌, ◌==◌, min, ℕ, zero, suc, ◌+◌, ◌≤◌, Bool, true, false, cond, not, ◌||◌, nat_le, List, [], ◌∷◌, length, Option, None, Some, is_some, IfSome}
+use Rattle.std.specs.Prelude.{◌≡◌, ◌≢◌, ◌==◌, min, ℕ, zero, suc, ◌+◌, ◌≤◌, Bool, true, false, cond, nat_le, List, [], ◌∷◌, length, Option, None, Some, is_some, IfSome}
 use Rattle.geo_stamp.specs.Acks.{row_of}
 use Rattle.geo_stamp.specs.Stamps.{Moment, most_sites}
-use Rattle.geo_stamp.specs.Vectors.{zeros, entry_of, vector_joined, greatest_of, raised}
+use Rattle.geo_stamp.specs.Vectors.{zeros, vector_joined, greatest_of, raised}
 use Rattle.geo_versions.specs.Keys.{same_key}
 use Rattle.std.specs.List.{IsDistinct, list_any}
 use Rattle.geo_versions.specs.Maps.{has_register, recent_both, remaining}

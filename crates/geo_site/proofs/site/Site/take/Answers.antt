@@ -1,4 +1,4 @@
-use Rattle.std.proofs.Common.{◌≡◌, ℕ, List, refl, ap, ◌∙◌, subst, arith, length, ◌≤◌}
+use Rattle.std.proofs.Common.{◌≡◌, ℕ, List, refl, ap, ◌∙◌, subst, arith, length}
 use Rattle.geo_site.specs.Sites.{state_in, delta_of, horizon_in, knows_all}
 use Rattle.geo_site.proofs.Stocking.{stock_same}
 use Rattle.geo_site.proofs.Taking.{take_from_same}
