@@ -1,5 +1,6 @@
 pub mod Tracing
 pub mod Spans
+pub mod Ranged
 pub mod Sorting
 pub mod News
 pub mod Recent

@@ -1,10 +1,11 @@
 -- A ring of a site's newest changes, and how far back it tells all that was changed.
-use Rattle.std.specs.Prelude.{◌≡◌, ℕ, zero, suc, ◌-◌, List, [], ◌∷◌, ◌++◌, length, Bool, true, false, not, ◌||◌, refl}
+use Rattle.std.specs.Prelude.{◌≡◌, ℕ, zero, suc, ◌-◌, List, [], ◌∷◌, ◌++◌, length, Bool, true, false, not, ◌||◌, nat_le, Option, None, Some, refl}
 use Rattle.std.specs.Coded.{Coded, code_by, coded×, coded_list, coded_ℕ}
 use Rattle.std.proofs.Math.Bool.{Bool-set}
 use Rattle.std.specs.List.{list_any}
 use Rattle.circular_buffer.specs.Buffer.{keep_last}
-use Rattle.geo_stamp.specs.Vectors.{zeros}
+use Rattle.geo_stamp.specs.Stamps.{Moment}
+use Rattle.geo_stamp.specs.Vectors.{zeros, entry_of}
 use Rattle.geo_versions.specs.Keys.{same_key}
 use Rattle.geo_versions.specs.Operations.{Record}
 use Rattle.geo_versions.specs.Records.{is_unknown}
@@ -12,6 +13,14 @@ use Rattle.geo_versions.specs.Records.{is_unknown}
 -- a vector knows both registers of a record
 abbrev pub knows_record : List ℕ → Record → Bool
 knows_record v r = not (is_unknown v r.0 || is_unknown v r.1)
+
+-- and a floor
+abbrev pub is_unknown_floor : List ℕ → Option Moment → Bool
+is_unknown_floor v None = false
+is_unknown_floor v (Some floor) = not (nat_le floor.time (entry_of v floor.site))
+
+abbrev pub knows_floor : List ℕ → Option Moment → Bool
+knows_floor v floor = not (is_unknown_floor v floor)
 
 -- a key that was changed, and what its site knew after that
 abbrev pub Noted : Type 0

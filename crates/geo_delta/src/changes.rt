@@ -6,7 +6,7 @@ ghost use Rattle.std.specs.Ordering.{nat_cmp};
 ghost use Rattle.std.specs.Cmp.Lexicographic.{slice_cmp};
 ghost use Rattle.geo_lattice.specs.Maps.{meaning_or};
 ghost use Rattle.geo_stamp.specs.Vectors.{vector_joined};
-ghost use Rattle.geo_versions.specs.Keys.{same_key};
+ghost use Rattle.geo_versions.specs.Keys.{IsShortKey, same_key};
 ghost use Rattle.geo_versions.specs.Maps.{Rising, is_unknown, listed_at, rec_means, record_in, since};
 ghost use Rattle.geo_versions.specs.Operations.{Record, Register};
 ghost use Rattle.geo_delta.specs.Changes.{Noted, Traced, KnowsBut, emptied, first_ring, has_change, known_after, noted, nothing_pending};
@@ -56,13 +56,14 @@ impl Changes {
     }
 
     /// Notes that a key was changed, and what is known after that. Where the copy of the key found no memory no change is kept,
-    /// as after [`Changes::lose`], and the answer is false.
+    /// as after [`Changes::lose`], and the answer is false; the copy of a short key takes none.
     pub fn note(&mut self, key: &Key, after: &Vector) -> bool
         ensures kept { result ≡ true → self.new ≡ noted key.now after.now self.old }
         ensures lost { result ≡ false → self.new ≡ emptied after.now }
+        ensures short { IsShortKey key.now → result ≡ true }
     {
         let alloc = *self.ring.allocator();
-        match key.twin(alloc) {
+        match key.copied(alloc) {
             Ok(key) => {
                 self.push(key, after.copied());
                 true

@@ -7,10 +7,12 @@
 mod changes;
 mod cutting;
 mod parcel;
+mod ranges;
 
 pub use changes::{Changes, MOST_CHANGES};
 pub use cutting::cut;
 pub use parcel::Parcel;
+pub use ranges::stays_in_range;
 
 #[cfg(test)]
 mod tests;

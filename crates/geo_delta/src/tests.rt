@@ -7,7 +7,7 @@ use crate::changes::MOST_CHANGES;
 use crate::{Changes, Parcel, cut};
 use geo_lattice::Twin;
 use geo_stamp::{Stamp, Vector};
-use geo_versions::{Body, Digest, Key, Rec, Versions};
+use geo_versions::{Body, Digest, Key, Length, Rec, Versions};
 use std::alloc::{AllocError, Global};
 use std::hash::RandomState;
 use std::test::Fail;
@@ -216,7 +216,7 @@ fn empty_value() -> Body {
     Body::Value {
         digest: Digest::of(b""),
         flags: 5,
-        length: 0,
+        length: Length::of(0),
     }
 }
 

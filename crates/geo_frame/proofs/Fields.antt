@@ -11,7 +11,7 @@ use Rattle.geo_stamp.specs.Vectors.{greatest_of}
 use Rattle.geo_frame.specs.declared.fault.FrameFault.{FrameFault}
 use Rattle.geo_frame.specs.declared.fault.FrameFault.TheVariants.{Field}
 use Rattle.geo_frame.specs.declared.reading.Route.{Route}
-use Rattle.geo_frame.specs.Ranges.{sites_fit, stamp_fits, floor_fits}
+use Rattle.geo_delta.specs.Ranges.{sites_fit, stamp_fits, floor_fits}
 use Rattle.geo_frame.specs.Spelling.{four, eight, stamp_bytes, vector_bytes, floor_bytes, sites_bytes}
 use Rattle.geo_frame.specs.Reading.{◌>>=◌, Read, moment, part_at, byte_at, four_at, eight_at, stamp_at, floor_at, time_at, vector_at, sites_at}
 use Rattle.geo_frame.proofs.Lengths.{four_length, eight_length}

@@ -14,9 +14,10 @@ use Rattle.geo_versions.specs.Maps.{Rec}
 use Rattle.geo_frame.specs.declared.fault.FrameFault.{FrameFault}
 use Rattle.geo_frame.specs.declared.fault.FrameFault.TheVariants.{Short, Magic, Version, Field, Damaged, Trailing, Memory}
 use Rattle.geo_frame.specs.declared.reading.Route.{Route}
-use Rattle.geo_frame.specs.Ranges.{InRange}
+use Rattle.geo_delta.specs.Ranges.{InRange}
 use Rattle.geo_frame.specs.Spelling.{four, sites_bytes, vector_bytes, floor_bytes, records_bytes, fields_of, head_bytes, content_of, frame_of, longest_frame}
 use Rattle.geo_frame.specs.Reading.{◌>>=◌, Gives, sites_at, vector_at, floor_at, all_records, parcel_in, length_field, size_in, fields_sized, fields_in, frame_in}
+use Rattle.geo_frame.proofs.Memory.{Clean, clean_cond, clean_then, field}
 use Rattle.geo_frame.proofs.Lengths.{four_length, records_few, fields_length, head_length, frame_size, frame_length}
 use Rattle.geo_frame.proofs.Within.{sites_least}
 use Rattle.geo_frame.proofs.Fields.{IsBytes, IsBytes-drop, IsBytes-take, bind_ok, pass_ok, ok_is, Takes-then, four_is, four_back, sites_takes, sites_again, vector_takes, vector_again, floor_takes, floor_again}
@@ -274,18 +275,6 @@ none_begins p q more pm qm e =
 
 -- ---- memory is no fault of the bytes
 
-abbrev Clean : {A : Type 0} → Result A FrameFault → Type 0
-Clean (Ok x) = Unit {0}
-Clean (Err e) = e ≡ Memory → ⊥
-
-clean_cond : {A : Type 0} (b : Bool) (x y : Result A FrameFault) → Clean x → Clean y → Clean (cond b x y)
-clean_cond true x y h k = h
-clean_cond false x y h k = k
-
-clean_then : {A B : Type 0} (r : Result A FrameFault) (f : A → Result B FrameFault) → Clean r → ((x : A) → Clean (f x)) → Clean (r >>= f)
-clean_then (Ok x) f h k = k x
-clean_then (Err e) f h k = h
-
 short : Short ≡ Memory → ⊥
 short h = absurd cc
 
@@ -294,9 +283,6 @@ magic h = absurd cc
 
 version : Version ≡ Memory → ⊥
 version h = absurd cc
-
-field : Field ≡ Memory → ⊥
-field h = absurd cc
 
 trailing : Trailing ≡ Memory → ⊥
 trailing h = absurd cc

@@ -1,3 +1,4 @@
+pub mod Memory
 pub mod Lengths
 pub mod Within
 pub mod Fields

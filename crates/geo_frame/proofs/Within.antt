@@ -1,6 +1,6 @@
 -- What the tests of the ranges say.
 use Rattle.std.proofs.Common.{◌≡◌, ℕ, ◌≤◌, true, arith}
-use Rattle.geo_frame.specs.Ranges.{sites_fit}
+use Rattle.geo_delta.specs.Ranges.{sites_fit}
 
 pub sites_most : (from to n : ℕ) → sites_fit from to n ≡ true → n ≤ 16
 unfolding sites_fit

@@ -15,7 +15,8 @@ use Rattle.geo_versions.specs.declared.body.Body.TheVariants.{Gone, Value}
 use Rattle.geo_frame.specs.declared.fault.FrameFault.{FrameFault}
 use Rattle.geo_frame.specs.declared.fault.FrameFault.TheVariants.{Short, Magic, Version, Field, Order, Damaged, Trailing, Memory}
 use Rattle.geo_frame.specs.declared.reading.Route.{Route}
-use Rattle.geo_frame.specs.Ranges.{longest_value, sites_fit, stamp_fits}
+use Rattle.geo_delta.specs.Ranges.{sites_fit, stamp_fits}
+use Rattle.geo_versions.specs.Lengths.{longest_value}
 use Rattle.geo_frame.specs.Spelling.{longest_frame}
 
 infixl 10 ◌>>=◌
@@ -201,6 +202,23 @@ all_records n bytes = do
   records ← records_at n count.0 [] count.1
   if length records.1 == 0 then Ok records.0 else Err Field
 
+-- ---- want of memory
+
+-- the key of the first record: memory is asked for nowhere before it is read
+unfoldable pub first_key_at : List ℕ → Read (List ℕ)
+first_key_at bytes = do
+  count ← four_at bytes
+  if count.0 == 0 then Err Field else key_at [] count.1
+
+-- behind the sites, the vectors, the floor and the number of records
+unfoldable pub first_key_of : List ℕ → Read (List ℕ)
+first_key_of fields = do
+  sites ← sites_at fields
+  base ← vector_at sites.0.sites sites.1
+  upto ← vector_at sites.0.sites base.1
+  floor ← floor_at sites.0.sites upto.1
+  first_key_at floor.1
+
 -- ---- frames
 
 unfoldable pub parcel_in : List ℕ → Result Parcel FrameFault
@@ -240,3 +258,8 @@ unfoldable pub frame_in : List ℕ → Result Parcel FrameFault
 frame_in bytes = do
   fields ← fields_in bytes
   parcel_in fields
+
+unfoldable pub first_key_in : List ℕ → Read (List ℕ)
+first_key_in bytes = do
+  fields ← fields_in bytes
+  first_key_of fields

@@ -3,10 +3,9 @@ ghost use Rattle.geo_frame.specs.Reading.{Reads, size_at, gone_at, value_at, bod
 
 use crate::bytes::Bytes;
 use crate::fault::FrameFault;
-use crate::limits::LONGEST_VALUE;
 use geo_lattice::{Lww, Pair};
 use geo_stamp::Stamp;
-use geo_versions::{Body, Rec};
+use geo_versions::{Body, Length, Rec};
 
 type BodyRegister = Lww<Stamp, Body>;
 
@@ -14,14 +13,13 @@ type ExpiryRegister = Lww<Stamp, u64>;
 
 /// The length of a value.
 #[tactic(auto, unfolding(crate::specs::Reading::size_at))]
-fn take_size(bytes: &mut Bytes) -> Result<u32, FrameFault>
+fn take_size(bytes: &mut Bytes) -> Result<Length, FrameFault>
     ensures { Reads (λ x. x) result bytes.new.left.now (size_at bytes.old.left.now) }
 {
-    let size = bytes.take_u32()?;
-    if size > LONGEST_VALUE {
-        return Err(FrameFault::Field);
+    match Length::new(bytes.take_u32()?) {
+        Some(size) => Ok(size),
+        None => Err(FrameFault::Field),
     }
-    Ok(size)
 }
 
 /// What stands behind the tag of a delete.

@@ -1,6 +1,6 @@
 //! The bytes of a frame, read from the front.
 ghost use Rattle.std.specs.Prelude.{◌≡◌, ◌≤◌, IfOk, MatchOption, true, false};
-ghost use Rattle.geo_frame.specs.Ranges.{stamp_fits};
+ghost use Rattle.geo_delta.specs.Ranges.{stamp_fits};
 ghost use Rattle.geo_frame.specs.Reading.{Reads, moment, part_at, byte_at, four_at, eight_at, stamp_at, floor_at, time_at};
 
 use crate::fault::FrameFault;
@@ -15,7 +15,7 @@ pub(crate) struct Bytes<'a> {
 }
 
 /// The stamp of this time and site, where it is one of so many sites.
-#[tactic(auto, unfolding(crate::specs::Ranges::stamp_fits))]
+#[tactic(auto, unfolding(geo_delta::specs::Ranges::stamp_fits))]
 fn stamp_within(time: u64, site: u8, sites: u8) -> Option<Stamp>
     ensures { MatchOption result (stamp_fits sites (moment time site) ≡ false) (λ s. (stamp_fits sites (moment time site) ≡ true) × (s ≡ moment time site)) }
 {

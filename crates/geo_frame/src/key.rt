@@ -1,4 +1,6 @@
 //! Keys, read.
+ghost use Rattle.std.specs.Prelude.{◌≡◌, IfErr, IsOk};
+ghost use Rattle.geo_frame.specs.declared.fault.FrameFault.TheVariants.{Memory};
 ghost use Rattle.geo_frame.specs.Reading.{Fetches, key_at};
 
 use crate::bytes::Bytes;
@@ -9,7 +11,8 @@ use std::alloc::Global;
 /// A key that is greater than the one before it.
 #[tactic(auto, unfolding(crate::specs::Reading::key_at))]
 pub(crate) fn take_key(alloc: Global, bytes: &mut Bytes, before: &[u8]) -> Result<Key, FrameFault>
-    ensures { Fetches (λ x. x) result bytes.new.left.now (key_at before.now bytes.old.left.now) }
+    ensures read { Fetches (λ x. x) result bytes.new.left.now (key_at before.now bytes.old.left.now) }
+    ensures memory { IfErr result (λ e. e ≡ Memory → IsOk (key_at before.now bytes.old.left.now)) }
 {
     let length = bytes.take_u8()?;
     let text = bytes.take(length as usize)?;

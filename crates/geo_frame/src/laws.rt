@@ -1,7 +1,7 @@
 //! What holds of all frames. The laws run nothing: a caller names them for their contract.
 ghost use Rattle.std.specs.Prelude.{◌≡◌, ◌≤◌, ◌++◌, [], List, ℕ, length, Ok};
 ghost use Rattle.geo_delta.specs.declared.parcel.Parcel.{Parcel};
-ghost use Rattle.geo_frame.specs.Ranges.{InRange};
+ghost use Rattle.geo_delta.specs.Ranges.{InRange};
 ghost use Rattle.geo_frame.specs.Spelling.{frame_of, longest_frame};
 ghost use Rattle.geo_frame.specs.Reading.{frame_in, length_field};
 

@@ -18,8 +18,5 @@ pub const SHORTEST_FRAME: usize = 89;
 /// The most bytes of a frame: 2^30.
 pub const LONGEST_FRAME: usize = 1_073_741_824;
 
-/// The most bytes of a value.
-pub const LONGEST_VALUE: u32 = 1_048_576;
-
 /// The bytes of a frame beside its vectors and records.
 pub const BESIDE_RECORDS: usize = 57;

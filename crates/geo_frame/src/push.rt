@@ -83,7 +83,7 @@ fn push_body(out: &mut Vec<u8>, body: &Lww<Stamp, Body>) -> Result<(), AllocErro
             push_stamp(out, stamp)?;
             out.extend_from_slice(digest.bytes().as_slice())?;
             push_u32(out, *flags)?;
-            push_u32(out, *length)
+            push_u32(out, length.get())
         }
     }
 }

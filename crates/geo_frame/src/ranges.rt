@@ -1,16 +1,15 @@
 //! Which parcels have a frame.
 ghost use Rattle.std.specs.Prelude.{◌≡◌, ◌↔◌, IsTrue};
 ghost use Rattle.std.specs.List.{list_all};
-ghost use Rattle.geo_frame.specs.Ranges.{InRange, sites_fit, stamp_fits, floor_fits, content_fits, body_fits, expiry_fits, rec_fits, record_fits};
+ghost use Rattle.geo_delta.specs.Ranges.{InRange, sites_fit, stamp_fits, floor_fits, content_fits, body_fits, expiry_fits, rec_fits, record_fits};
 
-use crate::limits::LONGEST_VALUE;
 use geo_delta::Parcel;
 use geo_lattice::Lww;
 use geo_stamp::{LAST_TIME, Stamp};
-use geo_versions::{Body, Key, Rec, are_rising};
+use geo_versions::{Body, Key, LONGEST_VALUE, Rec, are_rising};
 
 /// Whether a parcel goes from one of 2 to 16 sites to another.
-#[tactic(auto, unfolding(crate::specs::Ranges::sites_fit))]
+#[tactic(auto, unfolding(geo_delta::specs::Ranges::sites_fit))]
 pub(crate) fn sites_fit(from: u8, to: u8, sites: usize) -> bool
     ensures { result ≡ sites_fit from to sites }
 {
@@ -18,14 +17,14 @@ pub(crate) fn sites_fit(from: u8, to: u8, sites: usize) -> bool
     2 <= sites && sites <= 16 && is_one(from) && is_one(to) && from != to
 }
 
-#[tactic(auto, unfolding(crate::specs::Ranges::stamp_fits))]
+#[tactic(auto, unfolding(geo_delta::specs::Ranges::stamp_fits))]
 fn stamp_fits(stamp: Stamp, sites: usize) -> bool
     ensures { result ≡ stamp_fits sites stamp }
 {
     stamp.time() <= LAST_TIME && stamp.site() as usize <= sites
 }
 
-#[tactic(auto, unfolding(crate::specs::Ranges::floor_fits))]
+#[tactic(auto, unfolding(geo_delta::specs::Ranges::floor_fits))]
 fn floor_fits(floor: Option<Stamp>, sites: usize) -> bool
     ensures { result ≡ floor_fits sites floor }
 {
@@ -40,11 +39,11 @@ fn content_fits(body: Body) -> bool
 {
     match body {
         Body::Gone => true,
-        Body::Value { length, .. } => length <= LONGEST_VALUE,
+        Body::Value { length, .. } => length.get() <= LONGEST_VALUE,
     }
 }
 
-#[tactic(auto, unfolding(crate::specs::Ranges::body_fits))]
+#[tactic(auto, unfolding(geo_delta::specs::Ranges::body_fits))]
 fn body_fits(body: &Lww<Stamp, Body>, sites: usize) -> bool
     ensures { result ≡ body_fits sites body.now.register }
 {
@@ -54,7 +53,7 @@ fn body_fits(body: &Lww<Stamp, Body>, sites: usize) -> bool
     }
 }
 
-#[tactic(auto, unfolding(crate::specs::Ranges::expiry_fits))]
+#[tactic(auto, unfolding(geo_delta::specs::Ranges::expiry_fits))]
 fn expiry_fits(expiry: &Lww<Stamp, u64>, sites: usize) -> bool
     ensures { result ≡ expiry_fits sites expiry.now.register }
 {
@@ -64,7 +63,7 @@ fn expiry_fits(expiry: &Lww<Stamp, u64>, sites: usize) -> bool
     }
 }
 
-#[tactic(auto, unfolding(crate::specs::Ranges::rec_fits))]
+#[tactic(auto, unfolding(geo_delta::specs::Ranges::rec_fits))]
 fn rec_fits(rec: &Rec, sites: usize) -> bool
     ensures { result ≡ rec_fits sites rec.now }
 {
@@ -72,7 +71,7 @@ fn rec_fits(rec: &Rec, sites: usize) -> bool
     body_fits(&rec.left, sites) && expiry_fits(&rec.right, sites) && has_register
 }
 
-#[tactic(auto, unfolding(crate::specs::Ranges::record_fits))]
+#[tactic(auto, unfolding(geo_delta::specs::Ranges::record_fits))]
 fn record_fits(entry: &(Key, Rec), sites: usize) -> bool
     ensures { result ≡ record_fits sites entry.now }
 {

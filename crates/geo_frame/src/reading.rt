@@ -1,8 +1,8 @@
 //! Reading a frame.
 ghost use Rattle.std.specs.Prelude.{◌≡◌, ◌≤◌, length, IfOk, IfErr, IsOk, Ok};
 ghost use Rattle.geo_delta.specs.declared.parcel.Parcel.{Parcel};
-ghost use Rattle.geo_frame.specs.Ranges.{InRange};
-ghost use Rattle.geo_frame.specs.Reading.{Reads, Gives, sites_at, parcel_in, fields_in, frame_in};
+ghost use Rattle.geo_delta.specs.Ranges.{InRange};
+ghost use Rattle.geo_frame.specs.Reading.{Reads, Gives, sites_at, first_key_in, first_key_of, parcel_in, frame_in};
 ghost use Rattle.geo_frame.specs.declared.fault.FrameFault.TheVariants.{Memory};
 ghost use Rattle.geo_frame.specs.Spelling.{frame_of, longest_frame};
 
@@ -40,9 +40,10 @@ fn take_route(bytes: &mut Bytes) -> Result<Route, FrameFault>
 }
 
 /// The parcel that the fields of a frame tell.
-#[tactic(auto, unfolding(crate::specs::Reading::parcel_in))]
+#[tactic(auto, unfolding(crate::specs::Reading::parcel_in, crate::specs::Reading::first_key_of))]
 fn parcel_of(alloc: Global, fields: &[u8]) -> Result<Parcel, FrameFault>
-    ensures { Gives (λ p. p) result (parcel_in fields.now) }
+    ensures read { Gives (λ p. p) result (parcel_in fields.now) }
+    ensures memory { IfErr result (λ e. e ≡ Memory → IsOk (first_key_of fields.now)) }
 {
     let mut bytes = Bytes { left: fields };
     let route = take_route(&mut bytes)?;
@@ -61,16 +62,16 @@ fn parcel_of(alloc: Global, fields: &[u8]) -> Result<Parcel, FrameFault>
 }
 
 /// The parcel of a frame, or its first fault.
-#[tactic(auto, unfolding(crate::specs::Reading::frame_in))]
+#[tactic(auto, unfolding(crate::specs::Reading::frame_in, crate::specs::Reading::first_key_in))]
 fn read(alloc: Global, bytes: &[u8]) -> Result<Parcel, FrameFault>
     ensures exact { Gives (λ p. p) result (frame_in bytes.now) }
-    ensures memory { IfErr result (λ e. e ≡ Memory → IsOk (fields_in bytes.now)) }
+    ensures memory { IfErr result (λ e. e ≡ Memory → IsOk (first_key_in bytes.now)) }
 {
     let fields = fields_of(bytes)?;
     parcel_of(alloc, fields)
 }
 
-/// The parcel of a frame, or its first fault. Memory is asked for only where the head and the SHA-256 are good; where it is
+/// The parcel of a frame, or its first fault. Memory is asked for only once the key of a record was read; where it is
 /// refused, what follows is not tested any more.
 pub fn decode(alloc: Global, bytes: &[u8]) -> Result<Parcel, FrameFault>
     // What is read is within the ranges, and the bytes are its frame.
@@ -79,7 +80,7 @@ pub fn decode(alloc: Global, bytes: &[u8]) -> Result<Parcel, FrameFault>
     ensures only { (p : Parcel) → InRange p → length bytes.now ≤ longest_frame → bytes.now ≡ frame_of p → Gives (λ p. p) result (Ok p) }
     // Which fault it is.
     ensures exact { Gives (λ p. p) result (frame_in bytes.now) }
-    ensures memory { IfErr result (λ e. e ≡ Memory → IsOk (fields_in bytes.now)) }
+    ensures memory { IfErr result (λ e. e ≡ Memory → IsOk (first_key_in bytes.now)) }
 {
     read(alloc, bytes)
 }

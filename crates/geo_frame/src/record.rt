@@ -1,6 +1,7 @@
 //! Records, read.
-ghost use Rattle.std.specs.Prelude.{◌≡◌, []};
-ghost use Rattle.geo_frame.specs.Reading.{Fetches, Gives, record_at, last_key, records_at, all_records};
+ghost use Rattle.std.specs.Prelude.{◌≡◌, ◌≤◌, [], IfErr, IsOk};
+ghost use Rattle.geo_frame.specs.declared.fault.FrameFault.TheVariants.{Memory};
+ghost use Rattle.geo_frame.specs.Reading.{Fetches, Gives, key_at, first_key_at, record_at, last_key, records_at, all_records};
 
 use crate::body::take_rec;
 use crate::bytes::Bytes;
@@ -19,7 +20,8 @@ fn take_record(
     sites: u8,
     before: &[u8],
 ) -> Result<Record, FrameFault>
-    ensures { Fetches (λ x. x) result bytes.new.left.now (record_at sites before.now bytes.old.left.now) }
+    ensures read { Fetches (λ x. x) result bytes.new.left.now (record_at sites before.now bytes.old.left.now) }
+    ensures memory { IfErr result (λ e. e ≡ Memory → IsOk (key_at before.now bytes.old.left.now)) }
 {
     let key = take_key(alloc, bytes, before)?;
     let rec = take_rec(bytes, sites)?;
@@ -43,7 +45,8 @@ fn take_records(
     sites: u8,
     count: u32,
 ) -> Result<Vec<Record>, FrameFault>
-    ensures { Fetches (λ x. x.items) result bytes.new.left.now (records_at sites count [] bytes.old.left.now) }
+    ensures read { Fetches (λ x. x.items) result bytes.new.left.now (records_at sites count [] bytes.old.left.now) }
+    ensures memory { IfErr result (λ e. e ≡ Memory → (1 ≤ count) × IsOk (key_at [] bytes.old.left.now)) }
 {
     let mut records: Vec<Record> = Vec::new(alloc);
     for _ in 0..count {
@@ -54,13 +57,14 @@ fn take_records(
 }
 
 /// The records that stand behind their number: all that is left.
-#[tactic(auto, unfolding(crate::specs::Reading::all_records))]
+#[tactic(auto, unfolding(crate::specs::Reading::all_records, crate::specs::Reading::first_key_at))]
 pub(crate) fn take_all(
     alloc: Global,
     bytes: &mut Bytes,
     sites: u8,
 ) -> Result<Vec<Record>, FrameFault>
-    ensures { Gives (λ v. v.items) result (all_records sites bytes.old.left.now) }
+    ensures read { Gives (λ v. v.items) result (all_records sites bytes.old.left.now) }
+    ensures memory { IfErr result (λ e. e ≡ Memory → IsOk (first_key_at bytes.old.left.now)) }
 {
     let count = bytes.take_u32()?;
     let records = take_records(alloc, bytes, sites, count)?;

@@ -5,7 +5,7 @@ use crate::{FrameFault, decode, encode, fits, wanted};
 use geo_delta::Parcel;
 use geo_lattice::{Items, Lww, Pair};
 use geo_stamp::{Stamp, Vector};
-use geo_versions::{Body, Digest, Key, Rec};
+use geo_versions::{Body, Digest, Key, Length, Rec};
 use std::alloc::Global;
 use std::test::Fail;
 
@@ -109,7 +109,7 @@ fn record() -> Result<Rec, Fail> {
     let body = Body::Value {
         digest: Digest::of(b""),
         flags: 5,
-        length: 0,
+        length: Length::of(0),
     };
     Ok(Pair {
         left: Lww::of(stamp, body),

@@ -1,7 +1,7 @@
 //! Writing a frame.
 ghost use Rattle.std.specs.Prelude.{◌≡◌, ◌↔◌, ◌<◌, ◌≤◌, ◌++◌, length, OnOk, IfOk, Err};
 ghost use Rattle.sha2.specs.Sha256.{sha256};
-ghost use Rattle.geo_frame.specs.Ranges.{InRange};
+ghost use Rattle.geo_delta.specs.Ranges.{InRange};
 ghost use Rattle.geo_frame.specs.Spelling.{frame_of, longest_frame};
 ghost use Rattle.geo_frame.specs.declared.fault.EncodeFault.TheVariants.{TooLong};
 

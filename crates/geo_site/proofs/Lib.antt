@@ -24,3 +24,4 @@ pub mod Looking
 pub mod Telling
 pub mod Sifting
 pub mod Victims
+pub mod Rows

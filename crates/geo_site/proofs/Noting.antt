@@ -1,6 +1,5 @@
 -- What a change of records leaves to be noted: the keys that it is of.
 use Rattle.std.proofs.Common.{◌≡◌, ℕ, Bool, true, false, cond, ◌||◌, List, [], ◌∷◌, Option, None, refl, sym, ap, ◌∙◌, subst, true≢false}
-use Rattle.std.specs.List.{list_any}
 use Rattle.geo_stamp.specs.Stamps.{Moment}
 use Rattle.geo_versions.specs.Keys.{same_key}
 use Rattle.geo_versions.specs.Operations.{Record, above_both, record_joined, version_in}

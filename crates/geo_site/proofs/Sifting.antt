@@ -1,5 +1,6 @@
 -- What is left of records that come, where what every site knows is left out; and of those that a site keeps.
-use Rattle.std.proofs.Common.{◌≡◌, ℕ, ◌+◌, ◌≤◌, Bool, true, false, cond, not, ◌&&◌, ◌||◌, List, [], ◌∷◌, Option, None, Some, is_some, refl, sym, ap, ◌∙◌, arith, nat_le, true≢false, count_by, ◌==◌, length}
+use Rattle.std.proofs.Common.{◌≡◌, ℕ, ◌+◌, ◌≤◌, Bool, true, false, cond, not, ◌&&◌, ◌||◌, List, [], ◌∷◌, Option, None, Some, is_some, refl, sym, ap, ◌∙◌, arith, nat_le, true≢false, ◌==◌, length}
+use Rattle.std.proofs.lemmas.Bool.{eqb-true, leb-true}
 use Rattle.std.proofs.lemmas.Bool.Decides.{nat_tests}
 use Rattle.std.specs.declared.cmp.Ordering.{Ordering}
 use Rattle.std.specs.declared.cmp.Ordering.TheVariants.{Less, Equal, Greater}
@@ -186,3 +187,18 @@ module _ (h : ℕ) (map new : List ℕ → Record) (is : (q : List ℕ) → new 
 pub sound_records : (n number : ℕ) (parcel : Parcel) → is_sound n number parcel ≡ true → knows_all parcel.upto parcel.records ≡ true
 sound_records n number parcel e =
     (both_true ((nat_le 1 parcel.from && nat_le parcel.from n) && not (parcel.from == number) && (length parcel.base == n) && (length parcel.upto == n) && knows_floor parcel.upto parcel.floor) (knows_all parcel.upto parcel.records) e).1
+
+-- and comes from one of as many sites, of whose clocks its vector tells
+pub sound_from : (n number : ℕ) (parcel : Parcel) → is_sound n number parcel ≡ true → (1 ≤ parcel.from) × (parcel.from ≤ n) × (length parcel.upto ≡ n)
+sound_from n number parcel e =
+    let range = nat_le 1 parcel.from && nat_le parcel.from n in
+    let other = range && not (parcel.from == number) in
+    let base = other && (length parcel.base == n) in
+    let upto = base && (length parcel.upto == n) in
+    let a = both_true (upto && knows_floor parcel.upto parcel.floor) (knows_all parcel.upto parcel.records) e in
+    let b = both_true upto (knows_floor parcel.upto parcel.floor) a.0 in
+    let c = both_true base (length parcel.upto == n) b.0 in
+    let d = both_true other (length parcel.base == n) c.0 in
+    let f = both_true range (not (parcel.from == number)) d.0 in
+    let g = both_true (nat_le 1 parcel.from) (nat_le parcel.from n) f.0 in
+    (leb-true 1 parcel.from g.0, leb-true parcel.from n g.1, eqb-true (length parcel.upto) n c.1)

@@ -23,7 +23,7 @@ use Rattle.geo_site.specs.Machine.{act_stock, is_victim, without, victim_by, Sit
 use Rattle.geo_site.specs.Schedule.{still_held}
 use Rattle.geo_site.specs.Agreement.{Kept, Old, Holds, UpTo, Tells, StateOf, DeltaOf, has_value}
 use Rattle.geo_site.proofs.Entries.{Within, entry_joined, length_joined, greatest_joined, entry_at_most, greatest_raised, length_raised, entry_raised, entry_rises}
-use Rattle.geo_site.proofs.Registers.{Later, Incoming, Missing, found}
+use Rattle.geo_site.proofs.Registers.{Incoming, Missing, found}
 use Rattle.geo_site.proofs.Records.{B, X, Comes, holds_take, holds_more, holds_version, above_is}
 
 some_none : {V : Type 0} {x : V} → Some x ≡ None → ⊥

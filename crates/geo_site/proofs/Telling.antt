@@ -1,9 +1,9 @@
 -- What is told beside a reply: copies, a victim, and what was made.
-use Rattle.std.proofs.Common.{◌≡◌, ℕ, ℤ, ◌≢◌, Bool, true, false, cond, List, [], ◌∷◌, Option, None, Some, refl, sym, ap, ◌∙◌, subst, subst₂, inl, inr, true≢false}
+use Rattle.std.proofs.Common.{◌≡◌, ℕ, ℤ, Bool, true, false, cond, List, [], ◌∷◌, Option, None, Some, refl, sym, ap, ◌∙◌, subst, inl, true≢false}
 use Rattle.std.specs.Prelude.{Result, Ok, Err, IfOk, replicate}
 use Rattle.std.specs.declared.alloc.AllocError.{AllocError}
 use Rattle.geo_grammar.specs.declared.request.Request.{Request}
-use Rattle.geo_grammar.specs.declared.reply.Reply.TheVariants.{ClockEnded, OutOfMemory}
+use Rattle.geo_grammar.specs.declared.reply.Reply.TheVariants.{ClockEnded}
 use Rattle.geo_versions.specs.Operations.{Act}
 use Rattle.geo_versions.specs.Operations.Act.{Flush}
 use Rattle.geo_memcache.specs.Entries.{Entry}

@@ -1,14 +1,15 @@
 -- One site as a machine: what it knows of each site's clock, its floor, what it keeps of each key and the stock of values that it
 -- holds. Each event is one step of it. (Joins of states and of deltas: Almeida et al. 2018; the clock: Lamport 1978.)
-use Rattle.std.specs.Prelude.{◌≡◌, ◌≢◌, ◌==◌, min, ℕ, zero, suc, ◌+◌, ◌≤◌, Bool, true, false, cond, not, ◌||◌, nat_le, List, [], ◌∷◌, length, Option, None, Some, is_some, IfSome}
+use Rattle.std.specs.Prelude.{◌≡◌, ◌≢◌, ◌==◌, min, ℕ, zero, suc, ◌+◌, ◌≤◌, Bool, true, false, cond, nat_le, List, [], ◌∷◌, length, Option, None, Some, is_some, IfSome}
+use Rattle.geo_stamp.specs.Acks.{row_of}
 use Rattle.geo_stamp.specs.Stamps.{Moment, most_sites}
-use Rattle.geo_stamp.specs.Vectors.{zeros, entry_of, vector_joined, greatest_of, raised}
+use Rattle.geo_stamp.specs.Vectors.{zeros, vector_joined, greatest_of, raised}
 use Rattle.geo_versions.specs.Keys.{same_key}
 use Rattle.std.specs.List.{IsDistinct, list_any}
 use Rattle.geo_versions.specs.Maps.{has_register, recent_both, remaining}
 use Rattle.geo_versions.specs.Operations.{Act, Operation, Record, record_joined, floor_joined, above_both, body_of, expiry_of, flush_of, version_in}
 use Rattle.geo_versions.specs.Operations.Act.{Write, Delete, Touch, Flush}
-pub use Rattle.geo_delta.specs.Changes.{knows_record}
+pub use Rattle.geo_delta.specs.Changes.{knows_record, is_unknown_floor, knows_floor}
 use Rattle.geo_versions.specs.declared.version.Version.{Version}
 use Rattle.geo_slabs.specs.Storage.{chunk_bytes}
 use Rattle.geo_values.specs.Stock.{Stock, first_stock, dropped, hit_at, with_room, victim_for, arrived, kept_where, IsHeldIn}
@@ -161,13 +162,9 @@ pub record Same (old new : SiteState) : Type 0 where
   pub map : (key : List ℕ) → new.map key ≡ old.map key
   pub stock : stocks.Same old.stock new.stock
 
--- a vector knows a floor, and what is kept of each key
-abbrev pub is_unknown_floor : List ℕ → Option Moment → Bool
-is_unknown_floor v None = false
-is_unknown_floor v (Some floor) = not (nat_le floor.time (entry_of v floor.site))
-
-abbrev pub knows_floor : List ℕ → Option Moment → Bool
-knows_floor v floor = not (is_unknown_floor v floor)
+-- what was heard of each of so many sites has as many entries
+abbrev pub HasRows : ℕ → List (List ℕ) → Type 0
+HasRows sites rows = (q : ℕ) → 1 ≤ q → q ≤ sites → length (row_of rows q) ≡ sites
 
 -- everything that is kept is known by the vector
 abbrev pub Covers : List ℕ → (List ℕ → Record) → Type 0

@@ -11,6 +11,7 @@ use Rattle.geo_stamp.specs.Vectors.{vector_joined}
 use Rattle.geo_versions.specs.Keys.{same_key}
 use Rattle.geo_versions.specs.Maps.{Rec, rec_means, listed_at, since, Rising}
 use Rattle.geo_versions.specs.Maps.{floor_in, record_in, count_in, has_register}
+use Rattle.geo_delta.specs.Ranges.{InRange}
 use Rattle.geo_delta.specs.declared.parcel.Parcel.{Parcel}
 use Rattle.geo_grammar.specs.declared.request.Request.{Request}
 use Rattle.geo_grammar.specs.declared.stats.Stats.{Stats}
@@ -293,7 +294,7 @@ pub record RemoveDoes (old new : Site) (count : ℕ) : Type 0 where
   pub rests : Rests old new
   pub stays : Stays old new
 
--- a parcel to another site, of all that is known and that it was not heard to know
+-- a parcel to another site, of all that is known and that it was not heard to know; it is within the ranges of a frame
 pub record IsSent (site : Site) (to : ℕ) (parcel : Parcel) : Type 0 where
   pub sender : parcel.from ≡ site.number
   pub addressee : parcel.to ≡ to
@@ -303,6 +304,7 @@ pub record IsSent (site : Site) (to : ℕ) (parcel : Parcel) : Type 0 where
   pub rising : Rising parcel.records
   pub filled : All (λ e. rec_means e.1 ≡ (None, None) → ⊥) parcel.records
   pub records : (q : List ℕ) → listed_at parcel.records q ≡ since (row_of (heard_in site) to) ((state_in site).map q)
+  pub ranges : InRange parcel
 
 -- what a send does, by its result
 abbrev pub IsOther : Site → ℕ → Type 0

@@ -19,7 +19,7 @@ use geo_lattice::{Lww, Pair, Twin};
 use geo_memcache::{Ask, Effect};
 use geo_stamp::Stamp;
 use geo_values::Blob;
-use geo_versions::{Body, Key, Rec};
+use geo_versions::{Body, Key, Length, Rec};
 use std::alloc::{AllocError, Global};
 
 /// A copy of the bytes that are asked to be stored; none where none are asked to be.
@@ -97,7 +97,7 @@ impl Site {
         ensures rests { Rests self.old self.new }
         ensures stays { Stays self.old self.new }
     {
-        let length = value.bytes().len() as u32;
+        let length = Length::of(value.bytes().len() as u32);
         let body = Body::Value {
             digest: value.digest(),
             flags,

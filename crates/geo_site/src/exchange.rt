@@ -9,13 +9,13 @@ ghost use Rattle.geo_site.specs.Entries.{names};
 ghost use Rattle.geo_site.specs.Machine.{Same, Settled, settled, stays_by, take, knows_record, knows_floor};
 ghost use Rattle.geo_stamp.specs.Acks.{row_of};
 ghost use Rattle.geo_stamp.specs.Vectors.{vector_joined};
-ghost use Rattle.geo_site.specs.Sites.{state_in, heard_in, held_count, IsSent, Rests, Stays, is_sound, knows_all, Takes, RefusesFor, Remains, SendDoes, TakeDoes};
+ghost use Rattle.geo_site.specs.Sites.{state_in, heard_in, held_count, IsOther, IsSent, Rests, Stays, is_sound, knows_all, Takes, RefusesFor, Remains, SendDoes, TakeDoes};
 
 use crate::notes::note_each;
 use crate::reap::earliest_in;
 use crate::refusal::{SendError, TakeError};
 use crate::site::Site;
-use geo_delta::{Parcel, cut};
+use geo_delta::{Parcel, cut, stays_in_range};
 use geo_lattice::{Items, Lattice};
 use geo_stamp::{Stamp, Vector};
 use geo_values::Values;
@@ -187,25 +187,31 @@ impl Site {
             base,
             &self.vector,
         ) {
-            Ok(parcel) => Ok(parcel),
+            Ok(parcel) => {
+                stays_in_range(&parcel);
+                Ok(parcel)
+            }
             Err(_) => Err(SendError::Memory),
         }
     }
 
     /// A parcel for a site that was heard to know all that is known here. No record is looked at.
     fn nothing_new(&self, alloc: Global, to: u8, base: &Vector) -> Parcel
+        requires other { IsOther self.now to }
         requires row { base.now ≡ row_of (heard_in self.now) to }
         requires known { vector_joined base.now self.now.vector ≡ base.now }
         ensures { IsSent self.now to result }
     {
-        Parcel {
+        let parcel = Parcel {
             from: self.number,
             to,
             base: base.copied(),
             upto: self.vector.copied(),
             floor: self.versions.floor(),
             records: Items::of(Vec::new(alloc)),
-        }
+        };
+        stays_in_range(&parcel);
+        parcel
     }
 
     /// Whether a parcel is one that another site of as many can have made.

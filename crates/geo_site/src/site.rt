@@ -1,11 +1,11 @@
 //! A site's state, and what can be asked of it.
-ghost use Rattle.std.specs.Prelude.{◌≡◌, ◌≢◌, ℕ, ◌≤◌, ◌<◌, List, None, Some, IsTrue, IfOk, ◌↔◌, true};
+ghost use Rattle.std.specs.Prelude.{◌≡◌, ◌≢◌, ℕ, ◌≤◌, ◌<◌, List, length, None, Some, IsTrue, IfOk, ◌↔◌, true};
 ghost use Rattle.geo_values.specs.Held.{stock_in};
 ghost use Rattle.geo_versions.specs.Keys.{same_key};
 ghost use Rattle.geo_versions.specs.Operations.{version_in};
 ghost use Rattle.geo_versions.specs.Maps.{floor_in, record_in};
 ghost use Rattle.geo_delta.specs.Changes.{Traced, nothing_pending, traced_prop};
-ghost use Rattle.geo_site.specs.Machine.{Numbered, Covers, Settled, EndsFrom, knows_floor};
+ghost use Rattle.geo_site.specs.Machine.{Numbered, HasRows, Covers, Settled, EndsFrom, knows_floor};
 
 use crate::refusal::SetupError;
 use crate::setup::{Limits, Setup};
@@ -37,6 +37,7 @@ pub struct Site {
     /// No record has an expiry before this moment, but for 0.
     pub(crate) earliest: u64,
     ghost numbered: { Numbered number vector },
+    ghost rows: { HasRows (length vector) heard },
     ghost floor_known: { knows_floor vector (floor_in versions) ≡ true },
     ghost covered: { Covers vector (record_in versions) },
     ghost traced: { Traced nothing_pending (record_in versions) changes } by { traced_prop nothing_pending (record_in versions) changes },

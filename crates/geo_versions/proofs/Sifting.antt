@@ -1,5 +1,5 @@
 -- What a removal leaves of records, and what a take leaves out of them.
-use Rattle.std.proofs.Common.{◌≡◌, ℕ, Bool, true, false, cond, List, [], ◌∷◌, Option, None, Some, refl, sym, ap, ◌∙◌, subst}
+use Rattle.std.proofs.Common.{◌≡◌, ℕ, Bool, true, false, cond, List, [], ◌∷◌, Option, None, Some, refl, ap, ◌∙◌, subst}
 use Rattle.std.specs.List.Retain.{RetainsInTurn}
 use Rattle.geo_lattice.specs.Maps.{meaning_or}
 use Rattle.geo_stamp.specs.Stamps.{Moment}

@@ -3,6 +3,7 @@ ghost use Rattle.std.specs.Prelude.{◌≡◌, refl};
 ghost use Rattle.geo_versions.specs.Bodies.{body_cmp, exact_bodies};
 
 use crate::digest::Digest;
+use crate::length::Length;
 use geo_lattice::{Exact, Lww, Pair};
 use geo_stamp::Stamp;
 
@@ -16,7 +17,7 @@ pub enum Body {
     Value {
         digest: Digest,
         flags: u32,
-        length: u32,
+        length: Length,
     },
 }
 

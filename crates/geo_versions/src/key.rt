@@ -1,5 +1,5 @@
 //! Keys.
-ghost use Rattle.std.specs.Prelude.{◌≡◌, ◌==◌, ◌∷◌, [], ℕ, List, IfOk, MatchOption, false, true};
+ghost use Rattle.std.specs.Prelude.{◌≡◌, ◌==◌, ◌∷◌, [], ℕ, List, IfOk, IsOk, MatchOption, false, true};
 ghost use Rattle.std.specs.Ordering.{nat_cmp, as_partial_cmp};
 ghost use Rattle.std.specs.Cmp.Lexicographic.{slice_cmp, pointwise};
 ghost use Rattle.std.specs.Cmp.{partial_equiv_from_equiv, partial_order_from_own_ties};
@@ -7,7 +7,7 @@ ghost use Rattle.std.proofs.lemmas.Cmp.{nat_list_cmp_total};
 ghost use Rattle.std.specs.Cmp.Lexicographic.{nat_list_eq_equiv};
 ghost use Rattle.std.specs.Cmp.Rules.{comparing, hashing};
 ghost use Rattle.std.proofs.Common.{rules};
-ghost use Rattle.geo_versions.specs.Keys.{is_key, is_key_byte};
+ghost use Rattle.geo_versions.specs.Keys.{IsShortKey, is_key, is_key_byte};
 ghost use Rattle.std.specs.List.{list_all};
 
 use geo_lattice::Twin;
@@ -91,9 +91,7 @@ impl Hash for Key {
 
 impl Twin for Key {
     fn twin(&self, alloc: Global) -> Result<Self, AllocError> {
-        Ok(Key {
-            bytes: SmallVec::from_slice(alloc, self.bytes.as_slice())?,
-        })
+        self.copied(alloc)
     }
 }
 
@@ -127,6 +125,16 @@ impl Key {
         Ok(Some(Key {
             bytes: SmallVec::from_slice(alloc, bytes)?,
         }))
+    }
+
+    /// An equal key. Of a short one it takes no memory.
+    pub fn copied(&self, alloc: Global) -> Result<Key, AllocError>
+        ensures same { IfOk result (λ other. other ≡ self.now) }
+        ensures succeeds { IsShortKey self.now → IsOk result }
+    {
+        Ok(Key {
+            bytes: SmallVec::from_slice(alloc, self.bytes.as_slice())?,
+        })
     }
 
     /// Its bytes.

@@ -1,5 +1,5 @@
 //! Each public call once, with ample memory. What several tests do stands in functions of its own: short bodies are proved faster.
-use crate::{Body, Digest, Key, Rec, Version, Versions, are_rising, sift};
+use crate::{Body, Digest, Key, Length, Rec, Version, Versions, are_rising, sift};
 use geo_lattice::{Lattice, Lww, Pair, Twin};
 use geo_stamp::{Stamp, Vector};
 use std::alloc::Global;
@@ -17,13 +17,13 @@ fn stamp(at: At) -> Result<Stamp, Fail> {
     Ok(Stamp::new(at.0, at.1).ok_or("no stamp")?)
 }
 
-fn value(first: u8, flags: u32, length: u32) -> Body {
+fn value(first: u8, flags: u32, length: u8) -> Body {
     let mut bytes = [0; 32];
     bytes[0] = first;
     Body::Value {
         digest: Digest::new(bytes),
         flags,
-        length,
+        length: Length::of(u32::from(length)),
     }
 }
 
@@ -164,7 +164,7 @@ fn a_write_is_the_version(rt: HostRuntime) -> Result<(), Fail> {
     let body = Body::Value {
         digest,
         flags: 5,
-        length: 2,
+        length: Length::of(2),
     };
     write(alloc, &mut known, b"a", (1, 1), body, 150)?;
     let stamp = stamp((1, 1))?;

@@ -42,7 +42,7 @@ pub fn shown_version(rec: &Rec) -> Option<Version>
                 stamp: *stamp,
                 digest: *digest,
                 flags: *flags,
-                length: *length,
+                length: length.get(),
                 expiry_stamp,
                 expiry,
             })

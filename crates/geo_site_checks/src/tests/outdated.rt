@@ -4,7 +4,7 @@ use geo_delta::Parcel;
 use geo_lattice::{Items, Lww, Pair};
 use geo_site::{Site, Taken};
 use geo_stamp::{LAST_TIME, Stamp, Vector};
-use geo_versions::{Body, Digest, Key, Rec};
+use geo_versions::{Body, Digest, Key, Length, Rec};
 use std::alloc::Global;
 use std::hash::RandomState;
 use std::process::Abort;
@@ -19,7 +19,7 @@ fn record(alloc: Global, write: &Write) -> Result<(Key, Rec), Fail> {
     let body = Body::Value {
         digest: Digest::of(&[*byte]),
         flags: 0,
-        length: 1,
+        length: Length::of(1),
     };
     let rec = Pair {
         left: Lww::of(stamp, body),

@@ -10,7 +10,7 @@ ghost use Rattle.geo_world.specs.Plain.{act_of, is_about, operation_of, operatio
 
 use crate::plain::operation::{Act, Operation};
 use geo_stamp::Stamp;
-use geo_versions::{Body, Digest, Key, Version};
+use geo_versions::{Body, Digest, Key, Length, Version};
 
 /// The greatest time of an operation, 0 where there is none.
 pub fn latest(ops: &[Operation]) -> u64
@@ -83,7 +83,7 @@ fn body_left(key: &Key, op: &Operation) -> Option<(Stamp, Body)>
             let body = Body::Value {
                 digest: Digest::of(written.bytes.as_slice()),
                 flags: written.flags,
-                length: written.bytes.len() as u32,
+                length: Length::of(written.bytes.len() as u32),
             };
             Some((op.stamp, body))
         }
@@ -178,7 +178,7 @@ fn version_shown(winner: Option<(Stamp, Body)>, expiry: Option<(Stamp, u64)>) ->
             stamp,
             digest,
             flags,
-            length,
+            length: length.get(),
             expiry_stamp,
             expiry,
         }),

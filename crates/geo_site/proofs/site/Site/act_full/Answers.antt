@@ -1,9 +1,8 @@
-use Rattle.std.proofs.Common.{◌≡◌, ◌≢◌, true, false, refl, sym, ap, ◌∙◌, subst, subst₂, inr}
+use Rattle.std.proofs.Common.{◌≡◌, true, false, refl, sym, ap, ◌∙◌, subst}
 use Rattle.std.specs.Prelude.{IfOk}
-use Rattle.geo_grammar.specs.declared.reply.Reply.TheVariants.{ClockEnded}
 use Rattle.geo_site.specs.Entries.{is_due, is_stuck, made_on}
 use Rattle.geo_site.specs.Machine.{IsRecordCount, IsHeldCount, visible_in}
-use Rattle.geo_site.specs.Sites.{state_in, clock_in, waiting_in, issued_in, reply_in, victim_in, RequestDoesBy, ActDoes, ActFullDoes, Tells, TellsPlain}
+use Rattle.geo_site.specs.Sites.{state_in, clock_in, waiting_in, issued_in, reply_in, RequestDoesBy, ActDoes, Tells, TellsPlain}
 use Rattle.geo_site.proofs.Acting.{unchanged}
 use Rattle.geo_site.proofs.Due.{due_after}
 use Rattle.geo_site.proofs.Telling.{full_does, stuck_told}

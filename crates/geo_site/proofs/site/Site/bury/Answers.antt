@@ -17,6 +17,7 @@ use Rattle.geo_site.proofs.Stocking.{stock_kept}
 use Rattle.geo_site.proofs.Outdated.{buried}
 use Rattle.geo_site.proofs.Written.{delete_puts, map_at_key, map_elsewhere, write_floor, write_covers, write_named, write_map, write_same}
 use Rattle.geo_site.proofs.Noting.{traced_put, traced_same, covers_same, ends_same, named_same}
+use Rattle.geo_site.proofs.Rows.{rows_on}
 use Rattle.geo_site.proofs.site.Site.bury.Goals as goal
 
 pub invariant_of-self-2 : goal.invariant_of-self-2
@@ -47,6 +48,7 @@ invariant_of-self-2 c =
     let covered : (q : List ℕ) → knows_record c.raise.new.self (map' q) ≡ true = λ q. ap (λ v. knows_record v (map' q)) vec ∙ covers q in
     record {
       numbered = (s.numbered.0, (let h = s.numbered.1 in omega (arith, many, h)), (let h = s.numbered.2 in omega (arith, many, h)));
+      rows = rows_on (length s.vector) _ s.heard many s.rows;
       floor_known = ap (λ v. knows_floor v f') vec ∙ known;
       ends = ends_gone s.earliest (record { time = greatest_of v + 1; site = n }) f map map' key (Some (record { time = greatest_of v + 1; site = n }, Gone)) s.ends new;
       covered = λ q. covered q;
@@ -92,6 +94,7 @@ invariant_of-self c =
     let held : Held = (stock_in s.values).held in
     record {
       numbered = s.numbered;
+      rows = s.rows;
       floor_known = ap (knows_floor s.vector) c.write.ensures.floor ∙ s.floor_known;
       covered = covers_same map new same s.vector s.covered;
       traced = traced_same map new s.changes same s.traced;

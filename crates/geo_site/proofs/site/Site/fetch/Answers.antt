@@ -1,4 +1,4 @@
-use Rattle.std.proofs.Common.{◌≡◌, ◌+◌, ◌-◌, List, arith, ap, sym, ◌∙◌, subst, inl, length}
+use Rattle.std.proofs.Common.{◌≡◌, ◌+◌, ◌-◌, List, arith, ap, ◌∙◌, subst, inl, length}
 use Rattle.std.specs.Prelude.{min}
 use Rattle.geo_grammar.specs.Limits.{most_number}
 use Rattle.geo_grammar.specs.declared.reply.Found.{Found}

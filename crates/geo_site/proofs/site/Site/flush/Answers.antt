@@ -12,6 +12,7 @@ use Rattle.geo_site.proofs.Entries.{Within, length_raised}
 use Rattle.geo_site.proofs.Ending.{ends_above}
 use Rattle.geo_site.proofs.Flushing.{flush_floor, flush_covers, flush_named, flush_same}
 use Rattle.geo_site.proofs.Noting.{traced_above}
+use Rattle.geo_site.proofs.Rows.{rows_on}
 use Rattle.geo_site.proofs.site.Site.flush.Goals as goal
 
 pub invariant_of-self : goal.invariant_of-self
@@ -34,6 +35,7 @@ invariant_of-self c =
     let many = ap length vec ∙ length_raised v n (greatest_of v + 1) in
     record {
       numbered = (s.numbered.0, (let h = s.numbered.1 in omega (arith, many, h)), (let h = s.numbered.2 in omega (arith, many, h)));
+      rows = rows_on (length s.vector) _ s.heard many s.rows;
       floor_known = ap (λ v. knows_floor v f') vec ∙ flush_floor v f f' map map' held held' n s.floor_known s.covered num floor c.raise_floor.ensures.records kept;
       ends = ends_above s.earliest f' map map' s.ends c.raise_floor.ensures.records;
       covered = λ q. ap (λ v. knows_record v (map' q)) vec ∙ flush_covers v f f' map map' held held' n s.floor_known s.covered num floor c.raise_floor.ensures.records kept q;

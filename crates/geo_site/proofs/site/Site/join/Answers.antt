@@ -16,6 +16,7 @@ use Rattle.geo_site.proofs.Taking.{left_rises, right_rises, all_listed}
 use Rattle.geo_site.proofs.Noting.{traced_joined}
 use Rattle.geo_site.specs.Noting.{is_listed}
 use Rattle.geo_delta.specs.Changes.{Traced}
+use Rattle.geo_site.proofs.Rows.{rows_on}
 use Rattle.geo_site.proofs.site.Site.join.Goals as goal
 
 pub invariant_of-self : goal.invariant_of-self
@@ -37,6 +38,7 @@ invariant_of-self c =
     ∙ knows_joined new (floor_joined f g) (record_in s.versions q) (listed_at c.args.records q) (knows_more v new up (record_in s.versions q) (s.covered q)) (knows_more c.args.upto new other (listed_at c.args.records q) (all_listed c.args.upto c.args.records q c.requires.records_known)) in
     record {
       numbered = (s.numbered.0, (let h = s.numbered.1 in omega (arith, many, h)), (let h = s.numbered.2 in omega (arith, many, h)));
+      rows = rows_on (length s.vector) _ s.heard many s.rows;
       floor_known = (λ i. knows_floor (vec i) (c.join_both.ensures.floor i)) ∙ knows_floors new f g (knows_floor_more v new up f s.floor_known) (knows_floor_more c.args.upto new other g c.requires.floor_known);
       covered = λ q. covered q;
       traced = c.note_each.ensures (record_in c.join_both.new.versions) (λ q none. covered q) (subst (λ (es : List (List ℕ × Rec)). Traced (is_listed es) (record_in c.join_both.new.versions) s.changes) (sym c.as_slice-2.ensures)

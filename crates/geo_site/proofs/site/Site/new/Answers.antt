@@ -7,6 +7,7 @@ use Rattle.geo_site.proofs.Steps.{zeros_length}
 use Rattle.geo_site.proofs.Sound.{some_none}
 use Rattle.geo_versions.specs.Operations.{Record}
 use Rattle.geo_site.proofs.Verdicts.{none_some}
+use Rattle.geo_site.proofs.Rows.{rows_none}
 use Rattle.geo_site.proofs.site.Site.new.Goals as goal
 
 pub invariant_of-result : goal.invariant_of-result
@@ -15,6 +16,7 @@ invariant_of-result c =
     let len = ap length c.new-3.ensures in
     record {
       numbered = (omega arith, omega (arith, z, len), omega (arith, z, len));
+      rows = rows_none c.args.setup.sites _ c.new-4.result (omega arith) (len ∙ z) c.new-4.ensures;
       floor_known = ap (knows_floor c.new-3.result) c.new-5.ensures.floor;
       covered = λ key. ap (knows_record c.new-3.result) (c.new-5.ensures.records key);
       traced = subst (λ ring. Traced nothing_pending (record_in c.new-5.result) ring) (sym c.in-Ok-new.ensures) (traced_first nothing_pending (record_in c.new-5.result) c.args.setup.sites c.new-5.ensures.records);

@@ -16,6 +16,7 @@ invariant_of-self c =
     let is : (q : List ℕ) → new q ≡ remaining h (map q) = λ q. c.remove_below.ensures.records q ∙ ap (λ h. remaining h (map q)) c.horizon-horizon.ensures in
     record {
       numbered = s.numbered;
+      rows = s.rows;
       floor_known = ap (knows_floor s.vector) c.remove_below.ensures.floor ∙ s.floor_known;
       covered = removed_covers h map new is s.vector s.covered;
       traced = removed_traced h map new is s.changes s.traced;

@@ -13,6 +13,7 @@ use Rattle.geo_site.proofs.Entries.{Within, length_raised}
 use Rattle.geo_site.proofs.Ending.{ends_put}
 use Rattle.geo_site.proofs.Touching.{touch_floor, touch_covers, touch_bodies, touch_named, touch_same}
 use Rattle.geo_site.proofs.Noting.{traced_put}
+use Rattle.geo_site.proofs.Rows.{rows_on}
 use Rattle.geo_site.proofs.site.Site.renew.Goals as goal
 
 pub invariant_of-self : goal.invariant_of-self
@@ -36,6 +37,7 @@ invariant_of-self c =
     let covered : (q : List ℕ) → knows_record c.raise.new.self (map' q) ≡ true = λ q. ap (λ v. knows_record v (map' q)) vec ∙ touch_covers v f f' map map' held n e key s.floor_known s.covered s.named norm num c.touch.ensures.floor new q in
     record {
       numbered = (s.numbered.0, (let h = s.numbered.1 in omega (arith, many, h)), (let h = s.numbered.2 in omega (arith, many, h)));
+      rows = rows_on (length s.vector) _ s.heard many s.rows;
       floor_known = ap (λ v. knows_floor v f') vec ∙ touch_floor v f f' map map' held n e key s.floor_known s.covered s.named norm num c.touch.ensures.floor new;
       ends = λ q st x h ne. subst (λ least. least ≤ x) (sym c.earlier-self.ensures) (ends_put s.earliest e (record { time = greatest_of v + 1; site = n }) f map map' key None s.ends new q st x h ne);
       covered = λ q. covered q;

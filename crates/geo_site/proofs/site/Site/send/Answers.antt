@@ -1,6 +1,33 @@
-use Rattle.std.proofs.Common.{◌∙◌, ap, arith}
+use Rattle.std.proofs.Common.{◌≤◌, ◌∙◌, ap, arith, length, sym}
+use Rattle.geo_delta.specs.Ranges.{sites_fit}
 use Rattle.geo_versions.specs.Maps.{since, record_in}
+use Rattle.geo_site.specs.Machine.{knows_floor, knows_record}
+use Rattle.geo_site.proofs.Sending.{other_fits, told_known}
 use Rattle.geo_site.proofs.site.Site.send.Goals as goal
+
+pub nothing_new-requires-clause-other : goal.nothing_new-requires-clause-other
+nothing_new-requires-clause-other c =
+    let n = c.sites-sites.ensures.sites in
+    (let a = c.if-to-eq0.false in omega arith, let b = c.if-to-sites.false in omega (arith, n), c.if-to-self.false)
+
+pub stays_in_range-requires : goal.stays_in_range-requires
+stays_in_range-requires c =
+    let s = c.args.self.now in
+    let to = c.args.to in
+    let e = c.in-Ok.ensures in
+    let n = c.sites-sites.ensures.sites in
+    let first : 1 ≤ to = (let a = c.if-to-eq0.false in omega arith) in
+    let last : to ≤ length s.vector = (let b = c.if-to-sites.false in omega (arith, n)) in
+    let row = s.rows to first last in
+    let base = ap length (e.vectors.0 ∙ c.row-base.ensures) ∙ row in
+    record {
+      sites = (λ i. sites_fit (e.sites.0 i) (e.sites.1 i) (base i)) ∙ other_fits (length s.vector) s.number to s.numbered.0 s.numbered.1 s.numbered.2 first last c.if-to-self.false;
+      vectors = ap length e.vectors.1 ∙ sym base;
+      floor_known = (λ i. knows_floor (e.vectors.1 i) (e.floor i)) ∙ s.floor_known;
+      records_known = λ q. (λ i. knows_record (e.vectors.1 i) (e.delta q i)) ∙ told_known s.vector c.row-base.result.now (record_in s.versions q) (s.covered q);
+      filled = e.filled;
+      rising = e.rising;
+    }
 
 pub returns-in-Ok : goal.returns-in-Ok
 returns-in-Ok c =
@@ -17,5 +44,6 @@ returns-in-Ok c =
         rising = e.rising;
         filled = e.filled;
         records = λ q. e.delta q ∙ ap (λ b. since b (record_in c.args.self.now.versions q)) row;
+        ranges = c.stays_in_range.ensures;
       },
     )

@@ -1,4 +1,4 @@
-use Rattle.std.proofs.Common.{◌≡◌, ℕ, List, refl, ap, ◌∙◌, subst, arith, length, ◌≤◌}
+use Rattle.std.proofs.Common.{◌≡◌, ℕ, List, refl, ap, ◌∙◌, subst, arith, length}
 use Rattle.geo_site.specs.Sites.{state_in, delta_of, horizon_in, knows_all}
 use Rattle.geo_site.proofs.Stocking.{stock_same}
 use Rattle.geo_site.proofs.Taking.{take_from_same}
@@ -8,7 +8,8 @@ use Rattle.geo_versions.specs.Keys.{same_key}
 use Rattle.geo_site.proofs.Noting.{traced_same, covers_same, ends_same, named_same}
 use Rattle.geo_values.specs.Held.{stock_in}
 use Rattle.geo_site.specs.Machine.{Delta, Same, take, sifted_delta, knows_floor}
-use Rattle.geo_site.proofs.Sifting.{listed_sifted, missing_sifted, knows_sifted, sound_records}
+use Rattle.geo_site.proofs.Rows.{rows_heard}
+use Rattle.geo_site.proofs.Sifting.{sound_from, listed_sifted, missing_sifted, knows_sifted, sound_records}
 use Rattle.geo_site.proofs.site.Site.take.Goals as goal
 
 pub returns-clause-does : goal.returns-clause-does
@@ -34,6 +35,7 @@ invariant_of-self c =
     let same : (q : List ℕ) → new q ≡ map q = c.ready_records.ensures.records in
     record {
       numbered = s.numbered;
+      rows = s.rows;
       floor_known = ap (knows_floor s.vector) c.ready_records.ensures.floor ∙ s.floor_known;
       covered = covers_same map new same s.vector s.covered;
       traced = traced_same map new s.changes same s.traced;
@@ -47,8 +49,10 @@ invariant_of-self-2 c =
     let map = record_in s.versions in
     let new = record_in c.ready_records.new.self in
     let same : (q : List ℕ) → new q ≡ map q = c.ready_records.ensures.records in
+    let from = sound_from (length s.vector) s.number c.args.parcel c.in_default.ensures.1 in
     record {
       numbered = s.numbered;
+      rows = rows_heard (length s.vector) c.args.parcel.from s.heard c.heard.new.self c.args.parcel.upto (omega (arith, s.numbered.0, s.numbered.1)) from.0 from.1 from.2 c.heard.ensures s.rows;
       floor_known = ap (knows_floor s.vector) c.ready_records.ensures.floor ∙ s.floor_known;
       covered = covers_same map new same s.vector s.covered;
       traced = traced_same map new s.changes same s.traced;

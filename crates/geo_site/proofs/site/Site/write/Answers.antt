@@ -18,6 +18,7 @@ use Rattle.geo_site.proofs.Ending.{ends_put}
 use Rattle.geo_site.proofs.Stocking.{stored_held, stored_is, victim_is, victim_fits, stock_done, without_settled}
 use Rattle.geo_site.proofs.Written.{floor_none, one_joined, write_puts, write_floor, write_covers, write_named, write_map, write_same}
 use Rattle.geo_site.proofs.Noting.{traced_put, traced_same, covers_same, ends_same, named_same}
+use Rattle.geo_site.proofs.Rows.{rows_on}
 use Rattle.geo_site.proofs.site.Site.write.Goals as goal
 
 pub invariant_of-self-2 : goal.invariant_of-self-2
@@ -43,7 +44,7 @@ invariant_of-self-2 c =
     let norm : (q : List ℕ) → above_both f (map q) ≡ map q = s.versions.above in
     let floor : f' ≡ f = c.join_records.ensures.floor ∙ floor_none (floor_in c.ready_records.new.self) ∙ c.in_ok-ready_records.ensures.floor in
     let list : c.push.new.self.items ≡ (key, c.record_of.result) ∷ [] = c.in_ok-push.ensures.items ∙ (λ i. c.in_ok-records.ensures.items i ++ (c.in_ok-twin.ensures i, c.record_of.result) ∷ []) in
-    let many_bytes = ap length c.bytes.ensures in
+    let many_bytes = c.of-length.ensures ∙ ap length c.bytes.ensures in
     let means : rec_means c.record_of.result ≡ (Some (st, body), Some (st, c.args.expiry)) = c.record_of.ensures ∙ (λ i. (Some (c.requires.next i, Value (c.digest.ensures i) c.args.flags (many_bytes i)), Some (c.requires.next i, c.args.expiry))) in
     let new : (q : List ℕ) → map' q ≡ cond {A = Record} (same_key q key) (above_both f (record_joined (map q) (Some (st, body), Some (st, c.args.expiry)))) (map q)
     = λ q. c.join_records.ensures.records q ∙ (λ i. above_both (floor i) (record_joined (c.in_ok-ready_records.ensures.records q i) (listed_at c.push.new.self.items q))) ∙ one_joined f map c.push.new.self.items key c.record_of.result (Some (st, body), Some (st, c.args.expiry)) norm list means q in
@@ -58,6 +59,7 @@ invariant_of-self-2 c =
     let covered : (q : List ℕ) → knows_record c.raise.new.self (map' q) ≡ true = λ q. ap (λ v. knows_record v (map' q)) vec ∙ covers q in
     record {
       numbered = (s.numbered.0, (let h = s.numbered.1 in omega (arith, many, h)), (let h = s.numbered.2 in omega (arith, many, h)));
+      rows = rows_on (length s.vector) _ s.heard many s.rows;
       floor_known = ap (λ v. knows_floor v f') vec ∙ known;
       ends = λ q st' e h ne. subst (λ least. least ≤ e) (sym c.earlier-self.ensures) (ends_put s.earliest c.args.expiry st f map map' key (Some (st, body)) s.ends new q st' e h ne);
       covered = λ q. covered q;
@@ -88,7 +90,7 @@ returns-clause-written c =
     let norm : (q : List ℕ) → above_both f (map q) ≡ map q = s.versions.above in
     let floor : f' ≡ f = c.join_records.ensures.floor ∙ floor_none (floor_in c.ready_records.new.self) ∙ c.in_ok-ready_records.ensures.floor in
     let list : c.push.new.self.items ≡ (key, c.record_of.result) ∷ [] = c.in_ok-push.ensures.items ∙ (λ i. c.in_ok-records.ensures.items i ++ (c.in_ok-twin.ensures i, c.record_of.result) ∷ []) in
-    let many_bytes = ap length c.bytes.ensures in
+    let many_bytes = c.of-length.ensures ∙ ap length c.bytes.ensures in
     let means : rec_means c.record_of.result ≡ (Some (st, body), Some (st, c.args.expiry)) = c.record_of.ensures ∙ (λ i. (Some (c.requires.next i, Value (c.digest.ensures i) c.args.flags (many_bytes i)), Some (c.requires.next i, c.args.expiry))) in
     let new : (q : List ℕ) → map' q ≡ cond {A = Record} (same_key q key) (above_both f (record_joined (map q) (Some (st, body), Some (st, c.args.expiry)))) (map q)
     = λ q. c.join_records.ensures.records q ∙ (λ i. above_both (floor i) (record_joined (c.in_ok-ready_records.ensures.records q i) (listed_at c.push.new.self.items q))) ∙ one_joined f map c.push.new.self.items key c.record_of.result (Some (st, body), Some (st, c.args.expiry)) norm list means q in
@@ -124,6 +126,7 @@ invariant_of-self c =
     let held : Held = (stock_in s.values).held in
     record {
       numbered = s.numbered;
+      rows = s.rows;
       floor_known = ap (knows_floor s.vector) c.in_err-ready_records.ensures.floor ∙ s.floor_known;
       covered = covers_same map new same s.vector s.covered;
       traced = traced_same map new s.changes same s.traced;
@@ -141,6 +144,7 @@ invariant_of-self-in-Break-branch-5 c =
     let now : Held = (stock_in c.store.new.self).held in
     record {
       numbered = s.numbered;
+      rows = s.rows;
       floor_known = ap (knows_floor s.vector) c.in_ok-ready_records.ensures.floor ∙ s.floor_known;
       covered = covers_same map new same s.vector s.covered;
       traced = traced_same map new s.changes same s.traced;

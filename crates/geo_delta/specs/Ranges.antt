@@ -5,13 +5,11 @@ use Rattle.geo_delta.specs.declared.parcel.Parcel.{Parcel}
 use Rattle.geo_stamp.specs.Stamps.{Moment, last_time, most_sites}
 use Rattle.geo_stamp.specs.Vectors.{greatest_of}
 use Rattle.geo_versions.specs.Keys.{is_key}
+use Rattle.geo_versions.specs.Lengths.{longest_value}
 use Rattle.geo_versions.specs.Maps.{Rec, Rising, has_register, rec_means}
 use Rattle.geo_versions.specs.Operations.{Register}
 use Rattle.geo_versions.specs.declared.body.Body.{Body}
 use Rattle.geo_versions.specs.declared.body.Body.TheVariants.{Gone, Value}
-
-abbrev pub longest_value : ℕ
-longest_value = 1048576
 
 -- 2 to 16 sites, from one of them to another
 unfoldable pub sites_fit : ℕ → ℕ → ℕ → Bool
@@ -45,6 +43,10 @@ rec_fits n r = body_fits n r.left.register && (expiry_fits n r.right.register &&
 
 unfoldable pub record_fits : ℕ → List ℕ × Rec → Bool
 record_fits n e = is_key e.0 && rec_fits n e.1
+
+-- what the types of a key and of its record say: a stamp of whichever site
+abbrev pub is_ranged : List ℕ × Rec → Bool
+is_ranged e = is_key e.0 && (body_fits most_sites e.1.left.register && expiry_fits most_sites e.1.right.register)
 
 pub record InRange (p : Parcel) : Type 0 where
   pub sites : sites_fit p.from p.to (length p.base) ≡ true

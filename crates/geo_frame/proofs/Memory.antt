@@ -1,0 +1,84 @@
+-- Want of memory is no fault of the bytes.
+use Rattle.std.proofs.Common.{◌≡◌, ℕ, zero, suc, ◌+◌, Bool, true, false, cond, ◌&&◌, eqb, ltb, nat_le, List, [], ◌∷◌, length, Result, Ok, Err, IsOk, subst, sym, refl, arith}
+use Rattle.geo_frame.specs.declared.fault.FrameFault.{FrameFault}
+use Rattle.geo_frame.specs.declared.fault.FrameFault.TheVariants.{Field, Memory}
+use Rattle.geo_stamp.specs.Stamps.{last_time}
+use Rattle.geo_delta.specs.Ranges.{sites_fit, stamp_fits}
+use Rattle.geo_versions.specs.Maps.{Rec}
+use Rattle.geo_frame.proofs.Fields.{bind_ok}
+use Rattle.geo_frame.specs.Reading.{◌>>=◌, key_at, record_at, last_key, moment, part_at, byte_at, four_at, eight_at, floor_at, time_at, vector_at, sites_at}
+
+abbrev pub Clean : {A : Type 0} → Result A FrameFault → Type 0
+Clean (Ok x) = Unit {0}
+Clean (Err e) = e ≡ Memory → ⊥
+
+pub clean_cond : {A : Type 0} (b : Bool) (x y : Result A FrameFault) → Clean x → Clean y → Clean (cond b x y)
+clean_cond true x y h k = h
+clean_cond false x y h k = k
+
+pub clean_then : {A B : Type 0} (r : Result A FrameFault) (f : A → Result B FrameFault) → Clean r → ((x : A) → Clean (f x)) → Clean (r >>= f)
+clean_then (Ok x) f h k = k x
+clean_then (Err e) f h k = h
+
+pub field : Field ≡ Memory → ⊥
+field h = absurd cc
+
+pub not_memory : {A : Type 0} (r : Result A FrameFault) (e : FrameFault) → Clean r → r ≡ Err e → e ≡ Memory → ⊥
+not_memory r e clean is = subst Clean is clean
+
+pub clean_part : (n : ℕ) (bytes : List ℕ) → Clean (part_at n bytes)
+unfolding part_at
+clean_part n bytes = clean_cond (ltb (length bytes) n) _ _ field tt
+
+pub clean_byte : (bytes : List ℕ) → Clean (byte_at bytes)
+unfolding byte_at
+clean_byte [] = field
+clean_byte (b ∷ bytes) = tt
+
+pub clean_four : (bytes : List ℕ) → Clean (four_at bytes)
+unfolding four_at
+clean_four bytes = clean_then (part_at 4 bytes) _ (clean_part 4 bytes) (λ _. tt)
+
+clean_eight : (bytes : List ℕ) → Clean (eight_at bytes)
+unfolding eight_at
+clean_eight bytes = clean_then (part_at 8 bytes) _ (clean_part 8 bytes) (λ _. tt)
+
+clean_time : (bytes : List ℕ) → Clean (time_at bytes)
+unfolding time_at
+clean_time bytes = clean_then (eight_at bytes) _ (clean_eight bytes) (λ time. clean_cond (nat_le time.0 last_time) (Ok time) (Err Field) tt field)
+
+pub clean_vector : (n : ℕ) (bytes : List ℕ) → Clean (vector_at n bytes)
+unfolding vector_at
+clean_vector zero bytes = tt
+clean_vector (suc n) bytes = clean_then (time_at bytes) _ (clean_time bytes) (λ first. clean_then (vector_at n first.1) _ (clean_vector n first.1) (λ _. tt))
+
+pub clean_sites : (bytes : List ℕ) → Clean (sites_at bytes)
+unfolding sites_at
+clean_sites bytes = clean_then (byte_at bytes) _ (clean_byte bytes) (λ from. clean_then (byte_at from.1) _ (clean_byte from.1) (λ to. clean_then (byte_at to.1) _ (clean_byte to.1) (λ n. clean_cond (sites_fit from.0 to.0 n.0) _ _ tt field)))
+
+pub clean_floor : (n : ℕ) (bytes : List ℕ) → Clean (floor_at n bytes)
+unfolding floor_at
+clean_floor n bytes = clean_then (eight_at bytes) _ (clean_eight bytes) (λ time. clean_then (byte_at time.1) _ (clean_byte time.1) (λ site.
+    clean_cond (eqb time.0 0 && eqb site.0 0) _ _ tt (clean_cond (stamp_fits n (moment time.0 site.0)) _ _ tt field)))
+
+-- ---- the first key
+
+key_of_record : (n : ℕ) (before bytes : List ℕ) (x : (List ℕ × Rec) × List ℕ) → record_at n before bytes ≡ Ok x → IsOk (key_at before bytes)
+unfolding record_at
+key_of_record n before bytes x h = let b = bind_ok (key_at before bytes) _ x h in subst (λ (r : Result (List ℕ × List ℕ) FrameFault). IsOk r) (sym b.1) refl
+
+-- nothing was read yet, or the first key was
+abbrev pub FirstRead : ℕ → List (List ℕ × Rec) → List ℕ → List ℕ → Type 0
+FirstRead zero rs bytes initial = (rs ≡ []) × (bytes ≡ initial)
+FirstRead (suc i) rs bytes initial = IsOk (key_at [] initial)
+
+pub first_read : (i : ℕ) (rs : List (List ℕ × Rec)) (bytes initial : List ℕ) → FirstRead i rs bytes initial → IsOk (key_at (last_key rs) bytes) → IsOk (key_at [] initial)
+first_read zero rs bytes initial start here = subst (λ (p : List (List ℕ × Rec) × List ℕ). IsOk (key_at (last_key p.0) p.1)) (λ i. (start.0 i, start.1 i)) here
+first_read (suc i) rs bytes initial later here = later
+
+pub first_of_record : (n i : ℕ) (rs : List (List ℕ × Rec)) (bytes initial : List ℕ) (x : (List ℕ × Rec) × List ℕ) → FirstRead i rs bytes initial → record_at n (last_key rs) bytes ≡ Ok x → IsOk (key_at [] initial)
+first_of_record n i rs bytes initial x so_far h = first_read i rs bytes initial so_far (key_of_record n (last_key rs) bytes x h)
+
+pub first_on : (i j : ℕ) (new : List (List ℕ × Rec)) (after initial : List ℕ) → j ≡ i + 1 → IsOk (key_at [] initial) → FirstRead j new after initial
+first_on i zero new after initial e h = absurd (omega (arith, e))
+first_on i (suc j) new after initial e h = h
