@@ -53,8 +53,10 @@ fn rewrite(items: &mut IndexMap<Key, Item, RandomState>, slabs: &mut Slabs, key:
     requires there { IsSome (get same_key items.old key.now) }
     requires held { IfSome (get same_key items.old key.now) (λ item. IsSome (held_in slabs.old item.chunk)) }
     requires fits { IfSome (get same_key items.old key.now) (λ item. length blob.now ≤ chunk_bytes item.chunk.class) }
-    ensures items { IfSome (get same_key items.old key.now) (λ item. (q : List ℕ) → get same_key items.new q ≡ cond (same_key q key.now) (Some (record item { digest = sha256 blob.now })) (get same_key items.old q)) }
-    ensures slabs { IfSome (get same_key items.old key.now) (λ item. slabs.new ≡ with_held slabs.old item.chunk.class item.chunk.number (Some blob.now)) }
+    ensures items { IfSome (get same_key items.old key.now) (λ item. (q : List ℕ) → get same_key items.new q
+        ≡ cond (same_key q key.now) (Some (record item { digest = sha256 blob.now })) (get same_key items.old q)) }
+    ensures slabs { IfSome (get same_key items.old key.now) (λ item. slabs.new
+        ≡ with_held slabs.old item.chunk.class item.chunk.number (Some blob.now)) }
 {
     let Some(item) = items.get_mut(key) else {
         unreachable!();
