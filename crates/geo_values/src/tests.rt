@@ -39,7 +39,9 @@ fn first(key: Option<Key>) -> Option<u8> {
 /// Values with so many pages.
 fn values(rt: &HostRuntime, pages: usize) -> Result<Values, Fail> {
     let hasher = RandomState::new(rt)?;
-    let slabs = Slabs::new(rt.alloc(), pages).ok().ok_or("no slabs")?;
+    let Ok(slabs) = Slabs::new(rt.alloc(), pages) else {
+        return Err("no slabs".into());
+    };
     Ok(Values::new(rt.alloc(), hasher, slabs)?)
 }
 
