@@ -1,14 +1,15 @@
 -- Where items stand after each call: what a caller that keeps track of them cites.
-use Rattle.std.proofs.Common.{◌≡◌, ℕ, ◌+◌, ◌-◌, ◌≤◌, true, false, nat_eq, nat_lt, cond, is_some, List, [], ◌∷◌, length, Option, Some, None, IfSome, get_or, refl, arith}
+use Rattle.std.proofs.Common.{◌≡◌, ℕ, ◌+◌, ◌-◌, ◌≤◌, true, false, nat_eq, nat_lt, cond, is_some, List, [], ◌∷◌, length, Option, Some, None, IfSome, Result, Ok, Err, OnErr, get_or, refl, ap, ◌∙◌, arith}
 use Rattle.std.proofs.lemmas.Bool.{eqb-true}
 use Rattle.std.proofs.lemmas.Option.{slice_get-get_or}
+use Rattle.std.specs.Cmp.{nat_eq_equiv}
 use Rattle.std.specs.Option.{option_map, option_map_or, unwrap_or}
 use Rattle.std.specs.Map.{lookup}
 use Rattle.lru.specs.LruCache.{last_entry}
 use Rattle.geo_lru.specs.declared.access.Access.{Access}
 use Rattle.geo_lru.specs.Lists.{Lists, IsApart, present, places, touched_in, without, moved, unseen, brought_forward, last_active, entered, touched_at, left, victim_of, hot_limit, warm_limit, hot_tail_moved, warm_tail_moved, cold_active_moved, hot_juggled, warm_juggled, cold_juggled, juggled}
 use Rattle.geo_lru.proofs.Tallies.{one, none}
-use Rattle.geo_lru.proofs.Places.{present-cons, present-touched_in, present-without, present-taken, present-tail, present-active, found, found-tail, touched-absent, without-absent}
+use Rattle.geo_lru.proofs.Places.{present-cons, present-touched_in, present-without, present-taken, present-tail, present-active, found, missing, found-tail, touched-absent, without-absent}
 
 -- no item comes to stand at more places
 pub fewer : (l m : Lists) → IsApart l → ((k : ℕ) → places k m ≤ places k l) → IsApart m
@@ -47,6 +48,25 @@ left-hot i l h t = rw (without-absent i l.warm (omega (arith, h.once i, found i 
 
 pub left-warm : (i : ℕ) (l : Lists) → IsApart l → is_some (lookup (nat_eq i) l.warm) ≡ true → left i l ≡ record { hot = without i l.hot; warm = without i l.warm; cold = l.cold }
 left-warm i l h t = rw (without-absent i l.cold (omega (arith, h.once i, found i l.warm t))) refl
+
+-- what holds at all holds of a refusal
+pub if_refused : {A E : Type 0} (result : Result A E) (P : Type 0) → P → OnErr result P
+if_refused (Ok _) P p = tt
+if_refused (Err _) P p = p
+
+-- an item that comes anew
+pub apart-renewed : (i : ℕ) (l : Lists) → IsApart l → IsApart (entered i (left i l))
+apart-renewed i l h = apart-entered i (left i l) (fewer l (left i l) h (λ k. omega (arith, places-left k i l (h.once i)))) (omega (arith, places-left i i l (h.once i), h.once i, one (nat_eq i i) (nat_eq_equiv.refl i)))
+
+pub renewed-hot : (i : ℕ) (l : Lists) → IsApart l → is_some (lookup (nat_eq i) l.hot) ≡ true → entered i (left i l) ≡ record l { hot = (i, unseen) ∷ without i l.hot }
+renewed-hot i l h t = ap (entered i) (left-hot i l h t)
+
+pub renewed-warm : (i : ℕ) (l : Lists) → IsApart l → is_some (lookup (nat_eq i) l.hot) ≡ false → is_some (lookup (nat_eq i) l.warm) ≡ true
+    → entered i (left i l) ≡ record { hot = (i, unseen) ∷ l.hot; warm = without i l.warm; cold = l.cold }
+renewed-warm i l h f t = ap (entered i) (left-warm i l h t) ∙ ap (λ es. record { hot = (i, unseen) ∷ es; warm = without i l.warm; cold = l.cold }) (without-absent i l.hot (missing i l.hot f))
+
+pub renewed-cold : (i : ℕ) (l : Lists) → is_some (lookup (nat_eq i) l.hot) ≡ false → entered i (left i l) ≡ record { hot = (i, unseen) ∷ l.hot; warm = without i l.warm; cold = without i l.cold }
+renewed-cold i l f = rw (without-absent i l.hot (missing i l.hot f)) refl
 
 -- the tail of a list, moved to its head
 pub brought_forward-tail : (es : List (ℕ × Access)) (i : ℕ) (a : Access) → last_entry es ≡ Some (i, a) → present i es ≤ 1 → brought_forward i es ≡ (i, moved a) ∷ without i es

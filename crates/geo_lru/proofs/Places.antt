@@ -51,6 +51,13 @@ absent i (e ∷ es) h = (elim (nat_eq i e.0) as (λ y. nat_eq i e.0 ≡ y → co
   | false ↦ λ t. let here : cond (nat_eq i e.0) 1 0 + present i es ≡ 0 = sym (present-cons i e.0 e.1 es) ∙ h in absent i es (omega (arith, rw t at here))
 ]) refl
 
+pub missing : (i : ℕ) (es : List (ℕ × Access)) → is_some (lookup (nat_eq i) es) ≡ false → present i es ≡ 0
+missing i [] h = refl
+missing i (e ∷ es) h = rw (present-cons i e.0 e.1 es) ((elim (nat_eq i e.0) as (λ y. nat_eq i e.0 ≡ y → cond y 1 0 + present i es ≡ 0) [
+  | true ↦ λ t. let h' = rw t at h in cc
+  | false ↦ λ t. omega (arith, missing i es (rw t at h))
+]) refl)
+
 pub touched-absent : (i : ℕ) (es : List (ℕ × Access)) → present i es ≡ 0 → touched_in i es ≡ es
 touched-absent i es h = rw (absent i es h) refl
 

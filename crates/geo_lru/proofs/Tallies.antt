@@ -1,12 +1,12 @@
 -- How many items of a list are active, before and after each change.
-use Rattle.std.proofs.Common.{◌≡◌, ℕ, ◌+◌, ◌≤◌, Bool, true, false, not, nat_eq, cond, List, [], ◌∷◌, Some, None, refl, ap, ◌∙◌, arith, reverse}
+use Rattle.std.proofs.Common.{◌≡◌, ℕ, ◌+◌, ◌≤◌, Bool, true, false, not, nat_eq, cond, List, [], ◌∷◌, Some, None, refl, ◌∙◌, arith, reverse}
 use Rattle.std.proofs.lemmas.List.Sums.{sum_by-cons}
 use Rattle.std.proofs.lemmas.Map.Entries.{sum_by-set_value, sum_by-remove_entry}
 use Rattle.std.specs.List.{find}
 use Rattle.std.specs.Map.{lookup, set_value, values_of}
 use Rattle.geo_lru.proofs.Reversed.{sum_by-reverse}
 use Rattle.geo_lru.specs.declared.access.Access.{Access}
-use Rattle.geo_lru.specs.Lists.{active_count, without, touched, moved, last_active}
+use Rattle.geo_lru.specs.Lists.{active_count, without, touched, last_active}
 
 abbrev one_if_active : Access → ℕ
 one_if_active a = cond a.active 1 0
@@ -40,9 +40,9 @@ pub active-missing : (i : ℕ) (es : List (ℕ × Access)) → lookup (nat_eq i)
 active-missing i es h = let same = rw h at (sum_by-remove_entry one_if_active (nat_eq i) es) in omega (arith, same)
 
 -- an item that goes to the head of its own list
-pub active-brought : (i : ℕ) (es : List (ℕ × Access)) (a b : Access) → lookup (nat_eq i) es ≡ Some a → b ≡ moved a
+pub active-brought : (i : ℕ) (es : List (ℕ × Access)) (a b : Access) → lookup (nat_eq i) es ≡ Some a → b.active ≡ false
     → active_count ((i, b) ∷ without i es) + cond a.active 1 0 ≡ active_count es
-active-brought i es a b h is = omega (arith, active-cons i b (without i es), active-without i es a h, none b.active (ap (λ x. x.active) is))
+active-brought i es a b h is = omega (arith, active-cons i b (without i es), active-without i es a h, none b.active is)
 
 -- a hit leaves an active item active
 pub still_active : (a : Access) → cond a.active 1 0 ≤ cond (touched a).active 1 0

@@ -1,5 +1,5 @@
 -- The three lists of a slab class, of items that are numbers.
-pub use Rattle.geo_lru.specs.Rules.{unseen, touched, moved, active_count, last_active, entered, victim_of, count, hot_limit, warm_limit}
+pub use Rattle.geo_lru.specs.Rules.{unseen, touched, moved, active_count, last_active, entered, victim_of, count, hot_limit, warm_limit, leaves_list, warm_leaves}
 use Rattle.geo_lru.specs.Rules.{ListsOf, present_by, places_by, touched_in_by, without_by, brought_forward_by, touched_by, left_by, hot_tail_moved_by, warm_tail_moved_by, cold_active_moved_by, hot_juggled_by, warm_juggled_by, cold_juggled_by, juggled_by}
 use Rattle.std.specs.Prelude.{◌≡◌, ℕ, ◌-◌, ◌^◌, ◌≤◌, nat_eq, List, Option}
 use Rattle.lru.specs.LruCache.{LruCache}

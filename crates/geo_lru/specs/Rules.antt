@@ -1,6 +1,6 @@
 -- The three lists of a slab class, of items of any kind, and the rules of moving between them (memcached's doc/new_lru.txt). `same`
 -- tells whether two items are one.
-use Rattle.std.specs.Prelude.{ℕ, ◌+◌, ◌*◌, ◌/◌, Bool, true, false, nat_lt, cond, List, ◌∷◌, length, reverse, find, count_by, Option, Some}
+use Rattle.std.specs.Prelude.{ℕ, ◌+◌, ◌*◌, ◌/◌, Bool, true, false, not, nat_lt, cond, List, ◌∷◌, length, reverse, find, count_by, Option, Some, is_some}
 use Rattle.std.specs.Option.{option_map, option_map_or}
 use Rattle.std.specs.Map.{keys_of, values_of, lookup, remove_entry, set_value}
 use Rattle.lru.specs.LruCache.{last_entry}
@@ -109,3 +109,13 @@ abbrev pub juggled_by : {I : Type 0} → (I → I → Bool) → ListsOf I → Op
 juggled_by same l = cond (nat_lt (hot_limit l) (length l.hot)) (hot_juggled_by same l)
     (cond (nat_lt (warm_limit l) (length l.warm)) (warm_juggled_by same l)
     (cold_juggled_by same l))
+
+-- whether the move of WARM's tail takes it to another list: an active one stays in WARM
+abbrev pub warm_leaves : {I : Type 0} → ListsOf I → Bool
+warm_leaves l = option_map_or (λ e. not e.1.active) (last_entry l.warm) false
+
+-- whether the move that is due, if any, takes an item to another list
+abbrev pub leaves_list : {I : Type 0} → ListsOf I → Bool
+leaves_list l = cond (nat_lt (hot_limit l) (length l.hot)) (is_some (last_entry l.hot))
+    (cond (nat_lt (warm_limit l) (length l.warm)) (warm_leaves l)
+    (is_some (last_active l.cold)))

@@ -1,6 +1,6 @@
 //! The moves between the lists.
-ghost use Rattle.std.specs.Prelude.{◌≡◌, ◌<◌, ◌^◌, ◌∷◌, length, is_some, nat_lt, unwrap_or, IsSome, IfOk, OnOk, OnErr};
-ghost use Rattle.geo_lru.specs.Lists.{present, without, moved, count, hot_limit, warm_limit, hot_juggled, warm_juggled, cold_juggled, juggled};
+ghost use Rattle.std.specs.Prelude.{◌≡◌, ◌<◌, ◌^◌, ◌∷◌, length, is_some, nat_lt, unwrap_or, IsTrue, IsSome, IfOk, OnOk, OnErr};
+ghost use Rattle.geo_lru.specs.Lists.{present, without, moved, count, hot_limit, warm_limit, hot_juggled, warm_juggled, cold_juggled, juggled, leaves_list, warm_leaves};
 
 use crate::access::Access;
 use crate::list::ItemList;
@@ -22,6 +22,7 @@ impl Segments {
         ensures moved { OnOk result (self.new ≡ unwrap_or (juggled self.old) self.old) }
         ensures unchanged { OnErr result (self.new ≡ self.old) }
         ensures due { OnErr result (IsSome (juggled self.old)) }
+        ensures elsewhere { OnErr result (IsTrue (leaves_list self.old)) }
     {
         if self.hot_is_over() {
             return self.move_hot_tail();
@@ -76,6 +77,7 @@ impl Segments {
         ensures moved { OnOk result (self.new ≡ unwrap_or (warm_juggled self.old) self.old) }
         ensures unchanged { OnErr result (self.new ≡ self.old) }
         ensures due { OnErr result (IsSome (warm_juggled self.old)) }
+        ensures elsewhere { OnErr result (IsTrue (warm_leaves self.old)) }
     {
         let Some((item, access)) = self.warm.tail() else {
             return Ok(false);

@@ -1,8 +1,8 @@
 //! One of the three lists.
-ghost use Rattle.std.specs.Prelude.{◌≡◌, ◌≤◌, ◌<◌, ◌^◌, [], ◌∷◌, length, is_some, nat_eq, nat_lt, IfOk, OnOk, OnErr};
+ghost use Rattle.std.specs.Prelude.{◌≡◌, ◌≤◌, ◌<◌, ◌^◌, [], ◌∷◌, length, cond, is_some, nat_eq, nat_lt, IfOk, OnOk, OnErr};
 ghost use Rattle.std.specs.Map.{lookup};
 ghost use Rattle.lru.specs.LruCache.{last_entry};
-ghost use Rattle.geo_lru.specs.Lists.{present, touched_in, brought_forward, without, last_active};
+ghost use Rattle.geo_lru.specs.Lists.{present, unseen, touched_in, brought_forward, without, last_active};
 
 use crate::access::Access;
 use lru::LruCache;
@@ -111,6 +111,22 @@ impl ItemList {
         if before.active {
             self.active -= 1;
         }
+    }
+
+    /// Moves the item to the head, as one that has just come, and tells whether it is here. Where it is not, nothing changes.
+    pub(crate) fn renew(&mut self, item: usize) -> bool
+        ensures found { result ≡ is_some (lookup (nat_eq item) self.old) }
+        ensures renewed { self.new ≡ cond result ((item, unseen) ∷ without item self.old) self.old }
+    {
+        let Some(access) = self.entries.get_mut(&item) else {
+            return false;
+        };
+        let before = *access;
+        *access = Access::unseen();
+        if before.active {
+            self.active -= 1;
+        }
+        true
     }
 
     /// Takes the item out, and tells whether it was here.

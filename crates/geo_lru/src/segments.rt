@@ -1,6 +1,6 @@
 //! The three lists of a class.
-ghost use Rattle.std.specs.Prelude.{◌≡◌, [], IfOk, OnOk, OnErr};
-ghost use Rattle.geo_lru.specs.Lists.{places, entered, touched_at, left, victim_of};
+ghost use Rattle.std.specs.Prelude.{◌≡◌, ◌≤◌, ℕ, [], IfOk, OnOk, OnErr};
+ghost use Rattle.geo_lru.specs.Lists.{present, places, entered, touched_at, left, victim_of};
 
 use crate::access::Access;
 use crate::list::ItemList;
@@ -49,6 +49,24 @@ impl Segments {
         Ok(())
     }
 
+    /// A known item comes anew: it leaves its list, if it is in one, and comes to HOT's head as when it enters. One that is in HOT needs
+    /// no memory for it.
+    pub fn renew(&mut self, known: usize) -> Result<(), AllocError>
+        ensures renewed { OnOk result (self.new ≡ entered known (left known self.old)) }
+        ensures unchanged { OnErr result (self.new ≡ self.old) }
+        ensures not_hot { OnErr result (present known self.old.hot ≡ 0) }
+    {
+        if self.hot.renew(known) {
+            return Ok(());
+        }
+        self.hot.push_head(known, Access::unseen())?;
+        if self.warm.remove(known) {
+            return Ok(());
+        }
+        self.cold.remove(known);
+        Ok(())
+    }
+
     /// Notes a hit on the item. Where it has not entered, nothing changes.
     pub fn hit(&mut self, item: usize)
         ensures { self.new ≡ touched_at item self.old }
@@ -77,7 +95,8 @@ impl Segments {
 
     /// The item to evict next, None exactly where there is none.
     pub fn victim(&self) -> Option<usize>
-        ensures { result ≡ victim_of self.now }
+        ensures victim { result ≡ victim_of self.now }
+        ensures once { (item : ℕ) → places item self.now ≤ 1 }
     {
         if let Some((item, _)) = self.cold.tail() {
             return Some(item);

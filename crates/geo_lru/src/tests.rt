@@ -203,6 +203,18 @@ fn an_item_that_left_may_enter_again(rt: HostRuntime) -> Result<(), Fail> {
 }
 
 #[test]
+fn an_item_comes_anew_from_each_list(rt: HostRuntime) -> Result<(), Fail> {
+    let mut segments = settled(rt.alloc())?;
+    for item in [5, 1, 3] {
+        segments.renew(item)?;
+    }
+    assert!(rt; has(&segments.hot, &[(3, UNSEEN), (1, UNSEEN), (5, UNSEEN)]));
+    assert!(rt; has(&segments.warm, &[]));
+    assert!(rt; has(&segments.cold, &[(4, UNSEEN), (2, FETCHED)]));
+    Ok(())
+}
+
+#[test]
 fn a_hit_on_an_unknown_item_changes_nothing(rt: HostRuntime) -> Result<(), Fail> {
     let mut segments = settled(rt.alloc())?;
     segments.hit(6);

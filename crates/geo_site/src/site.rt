@@ -1,5 +1,7 @@
 //! A site's state, and what can be asked of it.
 ghost use Rattle.std.specs.Prelude.{◌≡◌, ◌≢◌, ℕ, ◌≤◌, ◌<◌, List, length, None, Some, IsTrue, IfOk, ◌↔◌, true};
+ghost use Rattle.geo_slabs.specs.Storage.{class_count, most_pages};
+ghost use Rattle.geo_values.specs.Stock.{Same, first_stock};
 ghost use Rattle.geo_values.specs.Held.{stock_in};
 ghost use Rattle.geo_versions.specs.Keys.{same_key};
 ghost use Rattle.geo_versions.specs.Operations.{version_in};
@@ -10,6 +12,7 @@ ghost use Rattle.geo_site.specs.Machine.{Numbered, HasRows, Covers, Settled, End
 use crate::refusal::SetupError;
 use crate::setup::{Limits, Setup};
 use geo_delta::Changes;
+use geo_slabs::Slabs;
 use geo_stamp::{Acks, Stamp, Vector};
 use geo_values::Values;
 use geo_versions::{Key, Version, Versions};
@@ -45,6 +48,17 @@ pub struct Site {
     ghost named: { Settled (record_in versions) (stock_in values).held },
 }
 
+/// Empty values with so many pages, which are in range. It takes the memory of all pages.
+fn fresh_values(alloc: Global, hasher: RandomState, pages: usize) -> Result<Values, AllocError>
+    requires { (class_count ≤ pages) × (pages ≤ most_pages) }
+    ensures { IfOk result (λ values. Same (first_stock pages) (stock_in values)) }
+{
+    let Ok(slabs) = Slabs::new(alloc, pages) else {
+        return Err(AllocError);
+    };
+    Values::new(alloc, hasher, slabs)
+}
+
 impl Site {
     ghost use Rattle.std.specs.Map.{lookup};
     ghost use Rattle.geo_versions.specs.Maps.{Rising};
@@ -77,7 +91,7 @@ impl Site {
         let Ok(changes) = Changes::new(alloc, setup.sites as usize) else {
             return Err(SetupError::Memory);
         };
-        let Ok(values) = Values::new(alloc, hasher, setup.pages as usize) else {
+        let Ok(values) = fresh_values(alloc, hasher, setup.pages as usize) else {
             return Err(SetupError::Memory);
         };
         Ok(Site {

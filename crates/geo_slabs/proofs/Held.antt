@@ -413,6 +413,28 @@ held-at size per many pages os i whole all used lengths reach h =
       shows = rw zero-add at (held-cell (read size per pages) 0 (with_fresh os many) i found.0 found.1);
     }
 
+-- other bytes in a chunk that is held
+module _ {size per many : ℕ} {pages : List (List ℕ)} {os : List (Option ℕ)} {i : ℕ} (h : IsHeldAt size per many pages os i) where
+  pub listed-replaced : (free : List ℕ) (n : ℕ) → ListsFree os free → ListsFree (set os i (Some n)) free
+  listed-replaced free n listed k = elim (cases_eq k i) [
+    | inl same ↦ rw same (listed i ∙ ap free_cell h.is ∙ sym (ap free_cell (slice_get-set_same os i (Some n) h.below)))
+    | inr ne ↦ listed k ∙ sym (ap free_cell (slice_get-set_other os i k (Some n) ne))
+  ]
+
+  pub counted-replaced : (n : ℕ) → count_free (set os i (Some n)) ≡ count_free os
+  counted-replaced n = omega (arith, count_free-set os i (Some n) h.below, ap free_cell h.is)
+
+  pub chunks-replaced : (bytes : List ℕ) → length bytes ≤ size → length os ≤ many → AllFit size os → AllReach size per pages (length os)
+      → chunks_from (read size per (written size per pages i bytes)) 0 (with_fresh (set os i (Some (length bytes))) many) ≡ set (chunks_from (read size per pages) 0 (with_fresh os many)) i (Some bytes)
+  chunks-replaced bytes fits used lengths reach =
+      ap (chunks_from (read size per (written size per pages i bytes)) 0) (with_fresh-set os many i (Some (length bytes)) h.below)
+      ∙ chunks-set (read size per pages) (read size per (written size per pages i bytes)) 0 (with_fresh os many) i (length bytes) bytes
+      (omega (arith, h.below, used, length-with_fresh os many used))
+      (rw zero-add (read-same size per pages i bytes h.page fits))
+      (λ k m ne g.
+      let was : slice_get os k ≡ Some (Some m) = with_fresh-held os many k m g in
+      rw zero-add (read-other size per pages i bytes k m ne (lengths k m was) fits h.page (omega (arith, reach k (slice_get_within os k (Some m) was), lengths k m was))))
+
 -- the same, told of a class
 module _ (pages : List (Vec ℕ Global)) {size per most : ℕ} {os : List (Option ℕ)} {free : List ℕ} {has_pages has_lengths has_free : ℕ} (is : IsClass size per most pages os free has_pages has_lengths has_free) where
   pub class-many : per * length pages ≡ per * length (bytes_of pages)

@@ -1,6 +1,6 @@
 -- What callers want of a put and of a free: what becomes of the chunk, and that every other chunk keeps what it holds.
-use Rattle.std.proofs.Common.{◌≡◌, ◌≢◌, ℕ, zero, suc, ◌-◌, ◌<◌, inl, inr, true, false, List, [], ◌∷◌, ◌++◌, length, replicate, Option, Some, None, IsSome, slice_get, slice_set, refl, sym, ap, ◌∙◌, subst, arith}
-use Rattle.std.proofs.lemmas.List.{get_or-set_same, get_or-set_other, get_or_past, length-set}
+use Rattle.std.proofs.Common.{◌≡◌, ◌≢◌, ℕ, zero, suc, ◌-◌, ◌<◌, inl, inr, true, false, List, [], ◌∷◌, ◌++◌, length, replicate, Option, Some, None, IsSome, IfSome, slice_get, slice_set, refl, sym, ap, ◌∙◌, subst, arith}
+use Rattle.std.proofs.lemmas.List.{set-set, get_or-set_same, get_or-set_other, get_or_past, length-set}
 use Rattle.std.proofs.lemmas.Option.{slice_get_within}
 use Rattle.std.proofs.lemmas.Bool.{cases_eq, cases_lt}
 use Rattle.geo_slabs.specs.Chunks.{ClassState}
@@ -135,6 +135,50 @@ free_empties old new chunk freed h =
 pub free_keeps : (old new : Storage) (chunk : Chunk) → new ≡ with_held old chunk.class chunk.number None → IsSome (held_in old chunk) → (other : Chunk) → other ≢ chunk → held_in new other ≡ held_in old other
 free_keeps old new chunk freed h other ne =
     let there = held_there (slice_get (chunks_in old chunk.class) chunk.number) h in ap (λ s. held_in s other) freed ∙ held_other old chunk other (Some there.0) None there.1 ne
+
+-- what a chunk held before is all the same
+pub held_twice : (storage : Storage) (class number : ℕ) (a b : Option (List ℕ)) → class < length storage.classes → with_held (with_held storage class number a) class number b ≡ with_held storage class number b
+held_twice storage class number a b lt =
+    let old : ClassState = class_in storage class in
+    let once : List (Option (List ℕ)) = slice_set old.chunks number a in
+    let here : class_in (with_chunks storage class once) class ≡ record old { chunks = once } = get_or-set_same storage.classes class (record old { chunks = once }) no_class lt in
+    ap (λ (c : ClassState). record { classes = slice_set (slice_set storage.classes class (record old { chunks = once })) class (record c { chunks = slice_set c.chunks number b }); spare = storage.spare }) here
+    ∙ ap (λ cs. record { classes = slice_set (slice_set storage.classes class (record old { chunks = once })) class (record old { chunks = cs }); spare = storage.spare }) (set-set old.chunks number a b)
+    ∙ ap (λ cs. record { classes = cs; spare = storage.spare }) (set-set storage.classes class (record old { chunks = once }) (record old { chunks = slice_set old.chunks number b }))
+
+-- a chunk that is freed is free
+pub freed_there : (storage : Storage) (chunk : Chunk) → IsSome (held_in storage chunk) → slice_get (chunks_in (with_held storage chunk.class chunk.number None) chunk.class) chunk.number ≡ Some None
+freed_there storage chunk h =
+    let there = held_there (slice_get (chunks_in storage chunk.class) chunk.number) h in
+    ap (λ cs. slice_get cs chunk.number) (chunks_same storage chunk.class (slice_set (chunks_in storage chunk.class) chunk.number None) (class_there storage chunk.class chunk.number (Some there.0) there.1))
+    ∙ slice_get-set_same (chunks_in storage chunk.class) chunk.number None (slice_get_within (chunks_in storage chunk.class) chunk.number (Some there.0) there.1)
+
+-- other bytes are put as if the chunk had been freed before
+pub replace_puts : (old new : Storage) (class : ℕ) (chunk : Chunk) (bytes : List ℕ) → new ≡ with_held old chunk.class chunk.number (Some bytes) → IsSome (held_in old chunk) → chunk.class ≡ class
+    → IsPut (with_held old chunk.class chunk.number None) new class bytes chunk
+replace_puts old new class chunk bytes is h same =
+    let there = held_there (slice_get (chunks_in old chunk.class) chunk.number) h in
+    record {
+      class_is = same;
+      was_free = subst (λ k. slice_get (chunks_in (with_held old chunk.class chunk.number None) k) chunk.number ≡ Some None) same (freed_there old chunk h);
+      holds = subst (λ k. new ≡ with_held (with_held old chunk.class chunk.number None) k chunk.number (Some bytes)) same
+          (is ∙ sym (held_twice old chunk.class chunk.number None (Some bytes) (class_there old chunk.class chunk.number (Some there.0) there.1)));
+    }
+
+-- a chunk that holds other bytes: what it holds, and what the others do
+pub replace_keeps : (old new : Storage) (chunk : Chunk) (bytes : List ℕ) → new ≡ with_held old chunk.class chunk.number (Some bytes) → IsSome (held_in old chunk)
+    → (other : Chunk) → other ≢ chunk → held_in new other ≡ held_in old other
+replace_keeps old new chunk bytes is h other ne =
+    let there = held_there (slice_get (chunks_in old chunk.class) chunk.number) h in ap (λ s. held_in s other) is ∙ held_other old chunk other (Some there.0) (Some bytes) there.1 ne
+
+pub replace_gives : (old new : Storage) (chunk : Chunk) (bytes : List ℕ) → new ≡ with_held old chunk.class chunk.number (Some bytes) → IsSome (held_in old chunk) → held_in new chunk ≡ Some bytes
+replace_gives old new chunk bytes is h =
+    let there = held_there (slice_get (chunks_in old chunk.class) chunk.number) h in ap (λ s. held_in s chunk) is ∙ held_same old chunk (Some there.0) (Some bytes) there.1
+
+-- a put that gives no chunk, or another, leaves what a chunk holds
+pub put_others : (old new : Storage) (class : ℕ) (bytes : List ℕ) (result : Option Chunk) → PutDoes old new class bytes result → (other : Chunk) → IfSome result (λ chunk. other ≢ chunk) → held_in new other ≡ held_in old other
+put_others old new class bytes None does other ne = ap (λ s. held_in s other) does.1
+put_others old new class bytes (Some chunk) does other ne = put_keeps old new class bytes chunk does other ne
 
 -- a class of which a chunk was freed is not full
 pub free_makes_room : (old new : Storage) (chunk : Chunk) (class : ℕ) → new ≡ with_held old chunk.class chunk.number None → IsSome (held_in old chunk) → chunk.class ≡ class → IsFull new class → ⊥

@@ -1,5 +1,5 @@
 -- The chunks of all slab classes, and the pages that no class has.
-use Rattle.std.specs.Prelude.{◌≡◌, ℕ, zero, suc, ◌-◌, ◌*◌, ◌^◌, ◌<◌, ◌≤◌, List, [], ◌∷◌, ◌++◌, length, replicate, Option, Some, None, slice_get, slice_set, slice_index_or, ◌⊎◌, Result, Ok, Err}
+use Rattle.std.specs.Prelude.{◌≡◌, ℕ, zero, suc, ◌+◌, ◌-◌, ◌*◌, ◌^◌, ◌<◌, ◌≤◌, List, [], ◌∷◌, ◌++◌, length, replicate, Option, Some, None, slice_get, slice_set, slice_index_or, ◌⊎◌, Result, Ok, Err}
 use Rattle.geo_slabs.specs.declared.slabs.SlabsError.{SlabsError}
 use Rattle.geo_slabs.specs.declared.slabs.SlabsError.TheVariants.{TooFewPages, TooManyPages, Memory}
 use Rattle.geo_slabs.specs.Chunks.{ClassState}
@@ -88,6 +88,10 @@ first_classes pages (suc class) = first_classes pages class ++ first_class pages
 
 abbrev pub first : ℕ → Storage
 first pages = record { classes = first_classes pages class_count; spare = pages - class_count }
+
+-- nothing was put yet: each class has one page, whose chunks are free, and the others are spare
+pub record IsUnused (storage : Storage) : Type 0 where
+  pub is : storage ≡ first (storage.spare + class_count)
 
 -- how many pages there may be
 abbrev pub most_pages : ℕ

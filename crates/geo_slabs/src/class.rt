@@ -155,6 +155,19 @@ impl Class {
         read_in(&self.pages, index / self.per_page, from, length)
     }
 
+    /// Puts other bytes into a chunk that holds some.
+    pub(crate) fn replace(&mut self, number: u32, bytes: &[u8])
+        requires held { IsSomeAnd (slice_get self.old.chunks number) IsSome }
+        requires fits { length bytes.now ≤ self.old.chunk_bytes }
+        ensures { self.new ≡ record self.old { chunks = slice_set self.old.chunks number (Some bytes.now) } }
+    {
+        let taken = number as usize;
+        let from = taken % self.per_page * self.chunk_bytes;
+        let end = from + self.chunk_bytes;
+        write_in(&mut self.pages, taken / self.per_page, from, end, bytes);
+        self.lengths[taken] = Some(bytes.len() as u32);
+    }
+
     /// Frees a chunk.
     pub(crate) fn free(&mut self, number: u32)
         requires { IsSomeAnd (slice_get self.old.chunks number) IsSome }

@@ -1,5 +1,5 @@
 //! All slab classes, and the pages that none of them has yet.
-ghost use Rattle.std.specs.Prelude.{◌≡◌, ◌≤◌, ◌<◌, ◌+◌, Some, None, IsSome, IfSome, IfNone, IfOk, true, false, length, vec_capacity};
+ghost use Rattle.std.specs.Prelude.{◌≡◌, ◌≢◌, ◌≤◌, ◌<◌, ◌+◌, Some, None, IsSome, IfSome, IfNone, IfOk, true, false, length, vec_capacity};
 ghost use Rattle.geo_slabs.specs.Chunks.{AllReserved, page_bytes};
 ghost use Rattle.geo_slabs.specs.Storage.{class_count, chunk_bytes, chunks_a_page, held_in, with_held, IsClassOf, most_pages, first_class, first_classes};
 
@@ -127,12 +127,14 @@ impl Model for Slabs {
 }
 
 impl Slabs {
-    ghost use Rattle.geo_slabs.specs.Storage.{PutDoes, IsPut, AllHeld, chunks_in, with_page, OpenDoes};
+    ghost use Rattle.geo_slabs.specs.Storage.{PutDoes, IsPut, AllHeld, chunks_in, with_page, OpenDoes, IsUnused};
+    ghost use Rattle.geo_slabs.specs.declared.slabs.Chunk.{Chunk};
 
     /// Slabs of so many pages, of which each class has one at first. TooFewPages below 15, TooManyPages above 65,536. It takes the
     /// memory of all pages; nothing that is done with slabs later takes any.
     pub fn new(alloc: Global, pages: usize) -> Result<Slabs, SlabsError>
-        ensures { OpenDoes pages result }
+        ensures opened { OpenDoes pages result }
+        ensures unused { IfOk result IsUnused }
     {
         if pages < CLASSES {
             return Err(SlabsError::TooFewPages);
@@ -177,9 +179,8 @@ impl Slabs {
         true
     }
 
-    /// Puts bytes into a chunk of a class, which takes a spare page where none of its chunks is free and keeps it from then on. None exactly
-    /// where no page is spare either. A put takes the time of a chunk's bytes at most.
-    pub fn put(&mut self, class: usize, bytes: &[u8]) -> Option<Chunk>
+    /// Puts bytes into a free chunk of a class, which takes a spare page where it has none.
+    fn put_paged(&mut self, class: usize, bytes: &[u8]) -> Option<Chunk>
         requires class { class < class_count }
         requires fits { length bytes.now ≤ chunk_bytes class }
         ensures { PutDoes self.old self.new class bytes.now result }
@@ -193,6 +194,17 @@ impl Slabs {
         self.put_free(class, bytes)
     }
 
+    /// Puts bytes into a chunk of a class, which takes a spare page where none of its chunks is free and keeps it from then on. None exactly
+    /// where no page is spare either. A put takes the time of a chunk's bytes at most.
+    pub fn put(&mut self, class: usize, bytes: &[u8]) -> Option<Chunk>
+        requires class { class < class_count }
+        requires fits { length bytes.now ≤ chunk_bytes class }
+        ensures put { PutDoes self.old self.new class bytes.now result }
+        ensures others { (other : Chunk) → IfSome result (λ chunk. other ≢ chunk) → held_in self.new other ≡ held_in self.old other }
+    {
+        self.put_paged(class, bytes)
+    }
+
     /// The bytes that a chunk holds.
     pub fn bytes(&self, chunk: &Chunk) -> &[u8]
         requires { IsSome (held_in self.now chunk.now) }
@@ -201,12 +213,40 @@ impl Slabs {
         self.classes[chunk.class as usize].bytes(chunk.number)
     }
 
+    /// Puts other bytes into a chunk that holds some, in place of them.
+    pub fn replace(&mut self, chunk: &Chunk, bytes: &[u8])
+        requires held { IsSome (held_in self.old chunk.now) }
+        requires fits { length bytes.now ≤ chunk_bytes chunk.now.class }
+        ensures holds { self.new ≡ with_held self.old chunk.now.class chunk.now.number (Some bytes.now) }
+        ensures gives { held_in self.new chunk.now ≡ Some bytes.now }
+        ensures others { (other : Chunk) → other ≢ chunk.now → held_in self.new other ≡ held_in self.old other }
+    {
+        self.replace_in(chunk, bytes);
+    }
+
     /// Frees a chunk.
     pub fn free(&mut self, chunk: Chunk)
         requires { IsSome (held_in self.old chunk) }
-        ensures { self.new ≡ with_held self.old chunk.class chunk.number None }
+        ensures freed { self.new ≡ with_held self.old chunk.class chunk.number None }
+        ensures others { (other : Chunk) → other ≢ chunk → held_in self.new other ≡ held_in self.old other }
     {
-        let Chunk { class, number } = chunk;
-        self.classes[class as usize].free(number);
+        self.free_in(&chunk);
+    }
+
+    /// Puts other bytes into its class's chunk.
+    fn replace_in(&mut self, chunk: &Chunk, bytes: &[u8])
+        requires held { IsSome (held_in self.old chunk.now) }
+        requires fits { length bytes.now ≤ chunk_bytes chunk.now.class }
+        ensures { self.new ≡ with_held self.old chunk.now.class chunk.now.number (Some bytes.now) }
+    {
+        self.classes[chunk.class as usize].replace(chunk.number, bytes);
+    }
+
+    /// Frees its class's chunk.
+    fn free_in(&mut self, chunk: &Chunk)
+        requires { IsSome (held_in self.old chunk.now) }
+        ensures { self.new ≡ with_held self.old chunk.now.class chunk.now.number None }
+    {
+        self.classes[chunk.class as usize].free(chunk.number);
     }
 }

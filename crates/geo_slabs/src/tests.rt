@@ -64,6 +64,20 @@ fn keeps(rt: &impl Abort, slabs: &mut Slabs) -> Result<(), Fail> {
     Ok(())
 }
 
+/// Other bytes take the place of those that a chunk holds.
+fn replaces(slabs: &mut Slabs) -> Result<bool, Fail> {
+    let chunk = put(slabs, 3, b"first")?;
+    slabs.replace(&chunk, b"another");
+    Ok(slabs.bytes(&chunk) == b"another".as_slice())
+}
+
+#[test]
+fn a_chunk_takes_other_bytes(rt: HostRuntime) -> Result<(), Fail> {
+    let mut slabs = Slabs::new(rt.alloc(), 15).ok().ok_or("no slabs")?;
+    assert!(rt; replaces(&mut slabs)?);
+    Ok(())
+}
+
 #[test]
 fn a_chunk_keeps_what_was_put(rt: HostRuntime) -> Result<(), Fail> {
     let mut slabs = Slabs::new(rt.alloc(), 15).ok().ok_or("no slabs")?;

@@ -31,7 +31,7 @@ find-map f test (e ∷ es) = by (test (f e)) (find-map f test es)
     by true more = refl
     by false more = more
 
-last_active-named : (name : ℕ → List ℕ) (es : List (ℕ × Access)) → last_active (named_list name es) ≡ option_map (λ (e : ℕ × Access). (name e.0, e.1)) (last_active es)
+pub last_active-named : (name : ℕ → List ℕ) (es : List (ℕ × Access)) → last_active (named_list name es) ≡ option_map (λ (e : ℕ × Access). (name e.0, e.1)) (last_active es)
 last_active-named name es =
     ap (find (λ (e : List ℕ × Access). e.1.active)) (sym (map-reverse (λ (e : ℕ × Access). (name e.0, e.1)) es))
     ∙ find-map (λ (e : ℕ × Access). (name e.0, e.1)) (λ (e : List ℕ × Access). e.1.active) (reverse es)

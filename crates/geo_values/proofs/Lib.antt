@@ -15,3 +15,5 @@ pub mod Arrived
 pub mod Stored
 pub mod Staying
 pub mod Retained
+pub mod Renewed
+pub mod Standing

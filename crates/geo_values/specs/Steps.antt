@@ -1,10 +1,11 @@
 -- What the calls on parts make of the links.
-use Rattle.std.specs.Prelude.{◌≡◌, ℕ, ◌<◌, ◌⊎◌, Bool, cond, nat_eq, List, Option, Some, None, IsSome}
+use Rattle.std.specs.Prelude.{◌≡◌, ℕ, ◌<◌, ◌⊎◌, Bool, true, false, cond, nat_eq, List, Option, Some, None, IsSome}
 use Rattle.std.specs.Option.{unwrap_or}
+use Rattle.sha2.specs.Sha256.{sha256}
 use Rattle.geo_versions.specs.Keys.{same_key}
 use Rattle.geo_slabs.specs.Storage.{class_count, held_in, with_held, IsFull, PutDoes}
 use Rattle.geo_slabs.specs.declared.slabs.Chunk.{Chunk}
-use Rattle.geo_lru.specs.Lists.{entered, left, touched_at, juggled, victim_of}
+use Rattle.geo_lru.specs.Lists.{present, entered, left, touched_at, juggled, victim_of}
 use Rattle.geo_values.specs.Links.{Links, bytes_of}
 use Rattle.geo_values.specs.declared.parts.Item.{Item}
 
@@ -41,6 +42,33 @@ TakesOut old new key (Some item) = SameLinks (taken_out key item old) new
 -- a test, of which `may` tells which answers it may give of a key and its bytes, may answer so of a key
 abbrev pub MayAnswer : (List ℕ → List ℕ → Bool → Type 0) → Links → List ℕ → Bool → Type 0
 MayAnswer may l key answer = (bytes : List ℕ) → bytes_of l.storage (l.item key) ≡ Some bytes → may key bytes answer
+
+-- other bytes in a key's chunk, and its number comes anew in the lists
+abbrev pub renewed : List ℕ → Item → List ℕ → Links → Links
+renewed key item bytes l = record {
+  item = λ q. cond (same_key q key) (Some (record item { digest = sha256 bytes })) (l.item q);
+  key = l.key;
+  storage = with_held l.storage item.chunk.class item.chunk.number (Some bytes);
+  lists = λ class. cond (nat_eq class item.class) (entered item.number (left item.number (l.lists class))) (l.lists class);
+}
+
+-- the key has an item of the class, whose bytes become these
+pub record Renews (old new : Links) (key : List ℕ) (class : ℕ) (bytes : List ℕ) : Type 0 where
+  pub item : Item
+  pub is : old.item key ≡ Some item
+  pub class_is : item.class ≡ class
+  pub done : SameLinks (renewed key item bytes old) new
+
+abbrev pub IsElsewhere : Links → List ℕ → ℕ → Type 0
+IsElsewhere l key class = (item : Item) → l.item key ≡ Some item → item.class ≡ class → ⊥
+
+abbrev pub RenewsIf : Bool → Links → Links → List ℕ → ℕ → List ℕ → Type 0
+RenewsIf true old new key class bytes = Renews old new key class bytes
+RenewsIf false old new key class bytes = IsElsewhere old key class × SameLinks old new
+
+-- the key has no item of the class that is in HOT
+abbrev pub IsNotHot : Links → List ℕ → ℕ → Type 0
+IsNotHot l key class = (item : Item) → l.item key ≡ Some item → item.class ≡ class → present item.number (l.lists class).hot ≡ 0
 
 -- a hit on an item
 abbrev pub hit_on : Item → Links → Links

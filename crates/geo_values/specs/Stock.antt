@@ -1,6 +1,6 @@
 -- What is held under keys, as a caller sees it, and what each call makes of it. The lists are memcached's (doc/new_lru.txt), here of
 -- keys; pages and chunks are those of its slab classes.
-use Rattle.std.specs.Prelude.{◌≡◌, ℕ, ◌+◌, ◌-◌, ◌*◌, ◌&&◌, Bool, true, false, not, cond, nat_eq, nat_lt, List, [], length, filter, Option, Some, None, IsSome, IfSome}
+use Rattle.std.specs.Prelude.{◌≡◌, ℕ, ◌+◌, ◌-◌, ◌*◌, ◌≤◌, ◌&&◌, Bool, true, false, not, cond, nat_eq, nat_lt, List, [], length, filter, Option, Some, None, IsSome, IfSome}
 use Rattle.std.specs.Borrow.{Bor}
 use Rattle.std.specs.Fn.{Shared, FnReturns}
 use Rattle.std.specs.Option.{option_map_or, unwrap_or}
@@ -8,7 +8,7 @@ use Rattle.std.specs.Str.{bytes_eq}
 use Rattle.sha2.specs.Sha256.{sha256}
 use Rattle.geo_versions.specs.Keys.{same_key}
 use Rattle.geo_slabs.specs.Storage.{class_count, chunks_a_page, IsClassOf}
-use Rattle.geo_lru.specs.Rules.{ListsOf, entered, touched_by, victim_of, count, juggled_by}
+use Rattle.geo_lru.specs.Rules.{ListsOf, present_by, places_by, entered, touched_by, victim_of, count, juggled_by}
 
 pub record Stock : Type 0 where
   -- the bytes that are held of each key
@@ -83,6 +83,15 @@ pub record IsHeldIn (s : Stock) (key : List ℕ) (class : ℕ) : Type 0 where
   pub bytes : List ℕ
   pub held : s.held key ≡ Some bytes
   pub fits : IsClassOf (length bytes) class
+
+-- a key is held exactly where the lists of its class have it, and there it stands once
+pub record IsListed (s : Stock) : Type 0 where
+  pub once : (key : List ℕ) (class : ℕ) → IsHeldIn s key class → places_by same_key key (s.lists class) ≡ 1
+  pub only : (key : List ℕ) (class : ℕ) → 1 ≤ places_by same_key key (s.lists class) → IsHeldIn s key class
+
+-- a key is not in HOT of the class of so many bytes
+pub record IsNotInHot (s : Stock) (key : List ℕ) (bytes : ℕ) : Type 0 where
+  pub none : (class : ℕ) → IsClassOf bytes class → present_by same_key key (s.lists class).hot ≡ 0
 
 -- bytes are stored under a key: its old item is taken out first, then room is made in the class of the bytes
 pub record IsStored (old new : Stock) (key bytes : List ℕ) (evicted : Option (List ℕ)) : Type 0 where

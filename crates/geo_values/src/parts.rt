@@ -1,12 +1,13 @@
 //! What values are made of. A call may leave these parts for a while without the links that a whole `Values` has.
-ghost use Rattle.std.specs.Prelude.{◌≡◌, ◌+◌, ◌<◌, ◌≤◌, ℕ, cond, List, Option, Some, None, IsSome, is_some, IfSome, IfOk, OnOk, OnErr, length, slice_get, slice_index_or, slice_set, swap_remove};
+ghost use Rattle.std.specs.Prelude.{◌≡◌, ◌+◌, ◌<◌, ◌≤◌, ℕ, cond, List, Option, Some, None, IsTrue, IsSome, is_some, IfSome, IfOk, OnOk, OnErr, length, slice_get, slice_index_or, slice_set, swap_remove};
 ghost use Rattle.indexmap.specs.IndexMap.{get, spare};
+ghost use Rattle.sha2.specs.Sha256.{sha256};
 ghost use Rattle.geo_versions.specs.Keys.{same_key};
 ghost use Rattle.geo_slabs.specs.Storage.{class_count, chunk_bytes, held_in, with_held};
-ghost use Rattle.geo_lru.specs.Lists.{left, places, juggled, victim_of};
+ghost use Rattle.geo_lru.specs.Lists.{left, places, juggled, leaves_list, victim_of};
 ghost use Rattle.geo_values.specs.Stock.{no_items};
 
-use geo_lattice::Twin;
+use crate::blob::Blob;
 use geo_lru::Segments;
 use geo_slabs::{Chunk, Slabs};
 use geo_versions::{Digest, Key};
@@ -47,11 +48,28 @@ fn release(slabs: &mut Slabs, classes: &mut Vec<Segments>, item: Item)
     slabs.free(item.chunk);
 }
 
+/// Puts other bytes into the chunk of a key's item.
+fn rewrite(items: &mut IndexMap<Key, Item, RandomState>, slabs: &mut Slabs, key: &Key, blob: &Blob)
+    requires there { IsSome (get same_key items.old key.now) }
+    requires held { IfSome (get same_key items.old key.now) (λ item. IsSome (held_in slabs.old item.chunk)) }
+    requires fits { IfSome (get same_key items.old key.now) (λ item. length blob.now ≤ chunk_bytes item.chunk.class) }
+    ensures items { IfSome (get same_key items.old key.now) (λ item. (q : List ℕ) → get same_key items.new q
+        ≡ cond (same_key q key.now) (Some (record item { digest = sha256 blob.now })) (get same_key items.old q)) }
+    ensures slabs { IfSome (get same_key items.old key.now) (λ item. slabs.new
+        ≡ with_held slabs.old item.chunk.class item.chunk.number (Some blob.now)) }
+{
+    let Some(item) = items.get_mut(key) else {
+        unreachable!();
+    };
+    slabs.replace(&item.chunk, blob.bytes());
+    item.digest = blob.digest();
+}
+
 impl Parts {
-    ghost use Rattle.geo_slabs.specs.Storage.{IsFull};
+    ghost use Rattle.geo_slabs.specs.Storage.{IsFull, IsClassOf};
     ghost use Rattle.geo_values.specs.Stock.{Answers, IsRetained};
     ghost use Rattle.geo_values.specs.Links.{IsLinked, links_in, stock_of};
-    ghost use Rattle.geo_values.specs.Steps.{SameLinks, MayAnswer, Hits, moved_in, taken_out, CanGo, CanGoIfAny, CanEvictIfAny, HasVictim, Evicts, TakesOut, admitted, with_item, PutsWithRoom};
+    ghost use Rattle.geo_values.specs.Steps.{SameLinks, MayAnswer, Hits, RenewsIf, IsNotHot, moved_in, taken_out, CanGo, CanGoIfAny, CanEvictIfAny, HasVictim, Evicts, TakesOut, admitted, with_item, PutsWithRoom};
 
     /// Takes a key's item out, and tells whether there was one.
     pub(crate) fn take_out(&mut self, key: &Key) -> bool
@@ -139,6 +157,7 @@ impl Parts {
         ensures moved { OnOk result (SameLinks (moved_in class (links_in self.old)) (links_in self.new)) }
         ensures unchanged { OnErr result (SameLinks (links_in self.old) (links_in self.new)) }
         ensures due { OnErr result (IsSome (juggled ((links_in self.old).lists class))) }
+        ensures elsewhere { OnErr result (IsTrue (leaves_list ((links_in self.old).lists class))) }
         ensures classes { length self.new.classes.items ≡ class_count }
     {
         self.classes[class].juggle()
@@ -180,6 +199,28 @@ impl Parts {
             return Err(refused);
         }
         Ok(number)
+    }
+
+    /// Where a key has an item of this class, its bytes become these, and its number comes anew in the lists. Tells whether it has one.
+    /// Only an item that is not in HOT asks for memory.
+    pub(crate) fn renew(&mut self, key: &Key, class: usize, blob: &Blob) -> Result<bool, AllocError>
+        requires classes { length self.old.classes.items ≡ class_count }
+        requires linked { IsLinked (links_in self.old) }
+        requires class { IsClassOf (length blob.now) class }
+        ensures renews { IfOk result (λ done. RenewsIf done (links_in self.old) (links_in self.new) key.now class blob.now) }
+        ensures unchanged { OnErr result (SameLinks (links_in self.old) (links_in self.new)) }
+        ensures not_hot { OnErr result (IsNotHot (links_in self.old) key.now class) }
+        ensures classes { length self.new.classes.items ≡ class_count }
+    {
+        let Some(item) = self.items.get(key) else {
+            return Ok(false);
+        };
+        if item.class != class {
+            return Ok(false);
+        }
+        self.classes[item.class].renew(item.number)?;
+        rewrite(&mut self.items, &mut self.slabs, key, blob);
+        Ok(true)
     }
 
     /// Puts bytes into a chunk of a class. Where it is full its next victim goes first, whose key is told.

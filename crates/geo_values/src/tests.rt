@@ -2,7 +2,7 @@
 ghost use Rattle.std.specs.Prelude.{◌≤◌, length, IfOk};
 
 use crate::{Blob, Values};
-use geo_slabs::SlabsError;
+use geo_slabs::Slabs;
 use geo_versions::{Digest, Key};
 use std::alloc::Global;
 use std::hash::RandomState;
@@ -36,20 +36,13 @@ fn first(key: Option<Key>) -> Option<u8> {
     key.and_then(|key| name_of(&key))
 }
 
-/// Why there are no values with so many pages.
-fn refused(rt: &HostRuntime, pages: usize) -> Result<Option<SlabsError>, Fail> {
-    let hasher = RandomState::new(rt)?;
-    Ok(Values::new(rt.alloc(), hasher, pages).err())
-}
-
 /// Values with so many pages.
 fn values(rt: &HostRuntime, pages: usize) -> Result<Values, Fail> {
     let hasher = RandomState::new(rt)?;
-    Ok(
-        Values::new(rt.alloc(), hasher, pages)
-            .ok()
-            .ok_or("no values")?,
-    )
+    let Ok(slabs) = Slabs::new(rt.alloc(), pages) else {
+        return Err("no slabs".into());
+    };
+    Ok(Values::new(rt.alloc(), hasher, slabs)?)
 }
 
 /// Stores so many times one byte under a key, and tells which key was evicted.
@@ -128,9 +121,7 @@ fn a_blob_has_the_sha_256_of_its_bytes(rt: HostRuntime) -> Result<(), Fail> {
 }
 
 #[test]
-fn there_are_15_to_65536_pages(rt: HostRuntime) -> Result<(), Fail> {
-    assert_eq!(rt; refused(&rt, 14)?, Some(SlabsError::TooFewPages));
-    assert_eq!(rt; refused(&rt, 65_537)?, Some(SlabsError::TooManyPages));
+fn nothing_is_held_at_first(rt: HostRuntime) -> Result<(), Fail> {
     assert_eq!(rt; values(&rt, 15)?.len(), 0);
     Ok(())
 }

@@ -1,5 +1,5 @@
 //! Values under keys.
-ghost use Rattle.std.specs.Prelude.{◌≡◌, ◌+◌, ◌<◌, ◌≤◌, ℕ, cond, List, Option, Some, None, IsSome, is_some, IfSome, IfOk, OnOk, OnErr, length, replicate, option_copied};
+ghost use Rattle.std.specs.Prelude.{◌≡◌, ◌+◌, ◌<◌, ◌≤◌, ℕ, cond, List, Option, Some, None, IsTrue, IsSome, is_some, IfSome, IfOk, OnOk, OnErr, length, replicate, option_copied};
 ghost use Rattle.geo_values.specs.Stock.{no_items};
 ghost use Rattle.geo_slabs.specs.Storage.{class_count};
 
@@ -7,7 +7,7 @@ use crate::blob::Blob;
 use crate::parts::{Item, Parts};
 use geo_lattice::Twin;
 use geo_lru::Segments;
-use geo_slabs::{CLASSES, Slabs, SlabsError, class_of};
+use geo_slabs::{CLASSES, Slabs, class_of};
 use geo_versions::{Digest, Key};
 use indexmap::IndexMap;
 use slab::Slab;
@@ -49,20 +49,18 @@ impl Values {
     ghost use Rattle.std.specs.List.{IsDistinct, list_any};
     ghost use Rattle.std.specs.Option.{unwrap_or};
     ghost use Rattle.geo_versions.specs.Keys.{same_key};
-    ghost use Rattle.geo_lru.specs.Rules.{victim_of, juggled_by};
+    ghost use Rattle.geo_lru.specs.Rules.{victim_of, juggled_by, leaves_list};
     ghost use Rattle.geo_slabs.specs.Chunks.{page_bytes};
-    ghost use Rattle.geo_values.specs.Stock.{Same, IsHeldIn, IsStored, IsRetained, Answers, dropped, hit_at, evicted_from, juggled_in, with_digest};
-    ghost use Rattle.geo_values.specs.Held.{stock_in, keys_in, count_in, OpenDoes};
+    ghost use Rattle.geo_values.specs.Stock.{first_stock, Same, IsHeldIn, IsListed, IsNotInHot, IsStored, IsRetained, Answers, dropped, hit_at, evicted_from, juggled_in, with_digest};
+    ghost use Rattle.geo_slabs.specs.Storage.{IsUnused, IsClassOf};
+    ghost use Rattle.geo_values.specs.Held.{stock_in, keys_in, count_in};
 
-    /// Values with so many pages, of a mebibyte each. Each class has one at first, the others are spare. TooFewPages below 15,
-    /// TooManyPages above 65,536. It takes the memory of all pages.
-    pub fn new(alloc: Global, hasher: RandomState, pages: usize) -> Result<Values, SlabsError>
-        ensures { OpenDoes pages result }
+    /// Empty values, which take all pages of slabs that nothing was put into.
+    pub fn new(alloc: Global, hasher: RandomState, slabs: Slabs) -> Result<Values, AllocError>
+        requires unused { IsUnused slabs }
+        ensures { IfOk result (λ values. Same (first_stock (slabs.spare + class_count)) (stock_in values)) }
     {
-        let slabs = Slabs::new(alloc, pages)?;
-        let Ok(classes) = empty_classes(alloc) else {
-            return Err(SlabsError::Memory);
-        };
+        let classes = empty_classes(alloc)?;
         let parts = Parts {
             items: IndexMap::with_hasher(alloc, hasher),
             keys: Slab::new(alloc),
@@ -77,6 +75,7 @@ impl Values {
         ensures len { result ≡ count_in self.now }
         ensures apart { IsDistinct same_key (keys_in self.now) }
         ensures held { (q : List ℕ) → list_any (same_key q) (keys_in self.now) ≡ is_some ((stock_in self.now).held q) }
+        ensures listed { IsListed (stock_in self.now) }
     {
         self.parts.items.len()
     }
@@ -146,12 +145,14 @@ impl Values {
         ensures moved { OnOk result (Same (juggled_in class (stock_in self.old)) (stock_in self.new)) }
         ensures unchanged { OnErr result (Same (stock_in self.old) (stock_in self.new)) }
         ensures due { OnErr result (IsSome (juggled_by same_key ((stock_in self.old).lists class))) }
+        ensures elsewhere { OnErr result (IsTrue (leaves_list ((stock_in self.old).lists class))) }
     {
         self.parts.juggle(class)
     }
 
     /// Stores a key's bytes, at most a mebibyte, and gives the key that was evicted for them, if any. What the key had before is let
-    /// go first. Err only where a growth was refused: then nothing has changed.
+    /// go first. Err only where a growth was refused: then nothing has changed. A key that is in HOT of the class of these bytes needs
+    /// none; to come to HOT from elsewhere takes memory each time.
     pub fn store(
         &mut self,
         alloc: Global,
@@ -161,8 +162,28 @@ impl Values {
         requires { length blob.now ≤ 1048576 }
         ensures stored { IfOk result (λ evicted. IsStored (stock_in self.old) (stock_in self.new) key.now blob.now evicted) }
         ensures unchanged { OnErr result (Same (stock_in self.old) (stock_in self.new)) }
+        ensures not_hot { OnErr result (IsNotInHot (stock_in self.old) key.now (length blob.now)) }
     {
         let class = class_of(blob.bytes().len());
+        let renewed = self.parts.renew(key, class, blob)?;
+        if renewed {
+            return Ok(None);
+        }
+        self.store_anew(alloc, key, class, blob)
+    }
+
+    /// Stores a key's bytes in a chunk and under a number of their own.
+    fn store_anew(
+        &mut self,
+        alloc: Global,
+        key: &Key,
+        class: usize,
+        blob: &Blob,
+    ) -> Result<Option<Key>, AllocError>
+        requires class { IsClassOf (length blob.now) class }
+        ensures stored { IfOk result (λ evicted. IsStored (stock_in self.old) (stock_in self.new) key.now blob.now evicted) }
+        ensures unchanged { OnErr result (Same (stock_in self.old) (stock_in self.new)) }
+    {
         let own = key.twin(alloc)?;
         let number = self.parts.admit(key.twin(alloc)?, class)?;
         let _was = self.parts.take_out(key);

@@ -13,13 +13,13 @@ use Rattle.geo_site.proofs.site.Site.new.Goals as goal
 pub invariant_of-result : goal.invariant_of-result
 invariant_of-result c =
     let z = zeros_length c.args.setup.sites in
-    let len = ap length c.new-3.ensures in
+    let len = ap length c.new-2.ensures in
     record {
       numbered = (omega arith, omega (arith, z, len), omega (arith, z, len));
-      rows = rows_none c.args.setup.sites _ c.new-4.result (omega arith) (len ∙ z) c.new-4.ensures;
-      floor_known = ap (knows_floor c.new-3.result) c.new-5.ensures.floor;
-      covered = λ key. ap (knows_record c.new-3.result) (c.new-5.ensures.records key);
-      traced = subst (λ ring. Traced nothing_pending (record_in c.new-5.result) ring) (sym c.in-Ok-new.ensures) (traced_first nothing_pending (record_in c.new-5.result) c.args.setup.sites c.new-5.ensures.records);
-      ends = λ q st e h ne. absurd (none_some (sym (ap (λ (r : Record). r.1) (c.new-5.ensures.records q)) ∙ h));
-      named = λ key bytes h. absurd (some_none (sym h ∙ c.in-Ok-new-2.ensures.2.held key));
+      rows = rows_none c.args.setup.sites _ c.new-3.result (omega arith) (len ∙ z) c.new-3.ensures;
+      floor_known = ap (knows_floor c.new-2.result) c.new-4.ensures.floor;
+      covered = λ key. ap (knows_record c.new-2.result) (c.new-4.ensures.records key);
+      traced = subst (λ ring. Traced nothing_pending (record_in c.new-4.result) ring) (sym c.in-Ok-new.ensures) (traced_first nothing_pending (record_in c.new-4.result) c.args.setup.sites c.new-4.ensures.records);
+      ends = λ q st e h ne. absurd (none_some (sym (ap (λ (r : Record). r.1) (c.new-4.ensures.records q)) ∙ h));
+      named = λ key bytes h. absurd (some_none (sym h ∙ c.in-Ok-fresh_values.ensures.held key));
     }

@@ -1,10 +1,11 @@
-use Rattle.std.proofs.Common.{◌≡◌, IfOk, OnOk, OnErr, IsSome, is_some, subst}
+use Rattle.std.proofs.Common.{◌≡◌, IfOk, OnOk, OnErr, IsTrue, IsSome, is_some, subst}
 use Rattle.geo_versions.specs.Keys.{same_key}
-use Rattle.geo_lru.specs.Rules.{juggled_by}
+use Rattle.geo_lru.specs.Rules.{juggled_by, leaves_list}
 use Rattle.geo_values.specs.Stock.{Same, juggled_in}
 use Rattle.geo_values.specs.Held.{stock_in}
-use Rattle.geo_values.specs.Links.{Kept, links_of, links_in, stock_of}
+use Rattle.geo_values.specs.Links.{Kept, links_of, links_in, key_of, stock_of}
 use Rattle.geo_values.proofs.Juggled.{told-juggled, linked-juggles, stock-juggles, same-juggles}
+use Rattle.geo_values.proofs.Standing.{leaves_list-named}
 use Rattle.geo_values.proofs.values.Values.juggle.Goals as goal
 
 pub invariant_of-self : goal.invariant_of-self
@@ -29,3 +30,8 @@ pub returns-clause-due : goal.returns-clause-due
 returns-clause-due c =
     subst (λ (k : Kept). OnErr c.juggle.result (IsSome (juggled_by same_key ((stock_in k).lists c.args.class)))) c.self.view_is
     (rw (told-juggled c.self.invariant.1 c.args.class) c.juggle.ensures.due)
+
+pub returns-clause-elsewhere : goal.returns-clause-elsewhere
+returns-clause-elsewhere c =
+    subst (λ (k : Kept). OnErr c.juggle.result (IsTrue (leaves_list ((stock_in k).lists c.args.class)))) c.self.view_is
+    (rw (leaves_list-named (key_of (links_in c.self.inside.parts)) ((links_in c.self.inside.parts).lists c.args.class)) c.juggle.ensures.elsewhere)
