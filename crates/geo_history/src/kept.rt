@@ -3,6 +3,7 @@ ghost use Rattle.std.specs.Prelude.{◌≡◌, IfOk, replicate};
 ghost use Rattle.geo_history.specs.Standings.{who_in, who_of};
 ghost use Rattle.geo_history.specs.Keeping.{story_of, IsKept, IsCounted};
 
+use crate::boxed::BoxedParcel;
 use crate::history::{History, Opening};
 use crate::parts::Parts;
 use crate::step::Step;
@@ -145,7 +146,7 @@ impl Kept {
         alloc: Global,
         seat: u8,
         to: u8,
-    ) -> Result<(Parcel, Parcel), SendError>
+    ) -> Result<(Parcel, BoxedParcel), SendError>
         requires left { made_by (story_in self.old) seat < most_steps }
         ensures does { SendForDoes (story_in self.old) (story_in self.new) seat to result }
     {

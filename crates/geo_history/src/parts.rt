@@ -4,6 +4,7 @@ ghost use Rattle.geo_slabs.specs.Storage.{class_count};
 ghost use Rattle.geo_site.specs.Sites.{FlushDoes, Rests, Stays};
 ghost use Rattle.geo_history.specs.Keeping.{most_steps, most_seats, made_in, IsCounted, step_with, step_of, is_flush_due, flush_count, flush_steps, story_of, ActForDoes, SendForDoes, TakeForDoes, RemoveForDoes, EvictForDoes, TickForDoes, ReapForDoes, JuggleForDoes};
 
+use crate::boxed::BoxedParcel;
 use crate::history::Opening;
 use crate::step::{Answer, Event, Step};
 use geo_chunks::Chunks;
@@ -118,7 +119,7 @@ impl Parts {
         alloc: Global,
         seat: u8,
         to: u8,
-    ) -> Result<(Parcel, Parcel), SendError>
+    ) -> Result<(Parcel, BoxedParcel), SendError>
         requires counted { IsCounted self.old.opening self.old.steps.items self.old.counts.items }
         requires left { made_in self.old.opening self.old.steps.items seat < most_steps }
         ensures does { SendForDoes (story_of self.old) (story_of self.new) seat to result }
@@ -131,11 +132,14 @@ impl Parts {
         let event = Event::Send { to };
         match self.site.send(alloc, to) {
             Ok(parcel) => {
-                let (Ok(one), Ok(two)) = (parcel.twin(alloc), parcel.twin(alloc)) else {
+                let Ok(one) = BoxedParcel::copy_of(alloc, &parcel) else {
                     return Err(SendError::Memory);
                 };
-                self.append(seat, event, Answer::Sent(parcel), None, None);
-                Ok((one, two))
+                let Ok(two) = BoxedParcel::copy_of(alloc, &parcel) else {
+                    return Err(SendError::Memory);
+                };
+                self.append(seat, event, Answer::Sent(one), None, None);
+                Ok((parcel, two))
             }
             Err(SendError::NoSuchSite) => {
                 let why = SendError::NoSuchSite;
@@ -159,7 +163,7 @@ impl Parts {
         ensures setup { self.new.setup ≡ self.old.setup }
         ensures counted { IsCounted self.new.opening self.new.steps.items self.new.counts.items }
     {
-        let (Ok(()), Ok(copy)) = (self.steps.ready(1), parcel.twin(alloc)) else {
+        let (Ok(()), Ok(copy)) = (self.steps.ready(1), BoxedParcel::copy_of(alloc, &parcel)) else {
             let why = TakeError::Memory;
             return Err(Refused { why, parcel });
         };

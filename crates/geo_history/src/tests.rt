@@ -75,7 +75,7 @@ fn asked_of(event: &Event) -> Asked {
         Event::Command { now, .. } => Asked::Command(*now),
         Event::Evict { .. } => Asked::Evict,
         Event::Send { to } => Asked::Send(*to),
-        Event::Take { parcel } => Asked::Take(parcel.from),
+        Event::Take { parcel } => Asked::Take(parcel.parcel().from),
         Event::Remove => Asked::Remove,
         Event::Tick { now } => Asked::Tick(*now),
         Event::Reap { now, .. } => Asked::Reap(*now),
@@ -95,7 +95,7 @@ fn told_of(answer: &Answer) -> Told {
     match answer {
         Answer::Replied(reply) => said(reply),
         Answer::Evicted(held) => Told::Evicted(*held),
-        Answer::Sent(parcel) => Told::Sent(parcel.to),
+        Answer::Sent(parcel) => Told::Sent(parcel.parcel().to),
         Answer::SendRefused(why) => Told::SendRefused(*why),
         Answer::Taken(taken) => Told::Taken(*taken),
         Answer::TakeRefused(why) => Told::TakeRefused(*why),
