@@ -1,5 +1,6 @@
 //! A history that has ended, as plain data.
 use crate::step::Step;
+use geo_chunks::Chunks;
 use geo_site::{Setup, SiteState};
 
 /// Where a history begins.
@@ -18,5 +19,5 @@ pub struct History {
     /// Which part of what was done at the site it is, from 0.
     pub era: u32,
     pub opening: Opening,
-    pub steps: Vec<Step>,
+    pub steps: Chunks<Step>,
 }

@@ -3,9 +3,11 @@ ghost use Rattle.std.specs.Prelude.{◌≡◌, IfOk, replicate};
 ghost use Rattle.geo_history.specs.Standings.{who_in, who_of};
 ghost use Rattle.geo_history.specs.Keeping.{story_of, IsKept, IsCounted};
 
+use crate::boxed::BoxedParcel;
 use crate::history::{History, Opening};
 use crate::parts::Parts;
 use crate::step::Step;
+use geo_chunks::Chunks;
 use geo_delta::Parcel;
 use geo_grammar::{Reply, Request};
 use geo_site::{ReapError, Refused, SendError, Setup, SetupError, Site, SiteState, Taken};
@@ -57,7 +59,7 @@ impl Kept {
     {
         let own = copied(&setup);
         let site = Site::new(alloc, setup)?;
-        let Ok(counts) = no_steps(alloc) else {
+        let (Ok(counts), Ok(steps)) = (no_steps(alloc), Chunks::new(alloc)) else {
             return Err(SetupError::Memory);
         };
         let opening = Opening {
@@ -69,7 +71,7 @@ impl Kept {
                 site,
                 setup: own,
                 opening,
-                steps: Vec::new(alloc),
+                steps,
                 counts,
             },
         })
@@ -90,10 +92,10 @@ impl Kept {
     }
 
     /// The steps so far.
-    pub fn steps(&self) -> &[Step]
-        ensures { result.now ≡ (story_in self.now).steps }
+    pub fn steps(&self) -> &Chunks<Step>
+        ensures { result.now.items ≡ (story_in self.now).steps }
     {
-        self.parts.steps.as_slice()
+        &self.parts.steps
     }
 
     /// The history, which ends here.
@@ -144,7 +146,7 @@ impl Kept {
         alloc: Global,
         seat: u8,
         to: u8,
-    ) -> Result<(Parcel, Parcel), SendError>
+    ) -> Result<(Parcel, BoxedParcel), SendError>
         requires left { made_by (story_in self.old) seat < most_steps }
         ensures does { SendForDoes (story_in self.old) (story_in self.new) seat to result }
     {

@@ -6,6 +6,7 @@
 //! and knows nothing of threads, locks or other sites.
 #![tactic(auto)]
 
+pub mod boxed;
 pub mod history;
 pub mod kept;
 pub mod parts;
@@ -13,6 +14,7 @@ pub mod step;
 #[cfg(test)]
 mod tests;
 
+pub use boxed::BoxedParcel;
 pub use history::{History, Opening};
 pub use kept::{Kept, MOST_STEPS};
 pub use step::{Answer, Event, Step};

@@ -1,11 +1,13 @@
 //! What a site with its history is made of. A call leaves these parts for a while without the link that a whole `Kept` has.
-ghost use Rattle.std.specs.Prelude.{◌≡◌, ◌≢◌, ◌≤◌, ◌<◌, ◌+◌, ◌^◌, ◌∷◌, ◌++◌, [], ℕ, true, List, length, vec_len, vec_capacity, slice_index_or};
+ghost use Rattle.std.specs.Prelude.{◌≡◌, ◌≢◌, ◌≤◌, ◌<◌, ◌+◌, ◌^◌, ◌∷◌, ◌++◌, [], ℕ, true, List, length, slice_index_or};
 ghost use Rattle.geo_slabs.specs.Storage.{class_count};
 ghost use Rattle.geo_site.specs.Sites.{FlushDoes, Rests, Stays};
 ghost use Rattle.geo_history.specs.Keeping.{most_steps, most_seats, made_in, IsCounted, step_with, step_of, is_flush_due, flush_count, flush_steps, story_of, ActForDoes, SendForDoes, TakeForDoes, RemoveForDoes, EvictForDoes, TickForDoes, ReapForDoes, JuggleForDoes};
 
+use crate::boxed::BoxedParcel;
 use crate::history::Opening;
 use crate::step::{Answer, Event, Step};
+use geo_chunks::Chunks;
 use geo_delta::Parcel;
 use geo_grammar::{Reply, Request};
 use geo_lattice::Twin;
@@ -19,7 +21,7 @@ pub struct Parts {
     pub(crate) site: Site,
     pub(crate) setup: Setup,
     pub(crate) opening: Opening,
-    pub(crate) steps: Vec<Step>,
+    pub(crate) steps: Chunks<Step>,
     /// How many steps each seat has made.
     pub(crate) counts: Vec<u64>,
 }
@@ -34,7 +36,7 @@ impl Parts {
         victim: Option<Key>,
         made: Option<(Digest, u32)>,
     )
-        requires room { vec_len self.old.steps < vec_capacity self.old.steps }
+        requires room { 1 ≤ self.old.steps.room }
         requires counted { IsCounted self.old.opening self.old.steps.items self.old.counts.items }
         requires left { made_in self.old.opening self.old.steps.items seat < most_steps }
         ensures site { self.new.site ≡ self.old.site }
@@ -42,12 +44,11 @@ impl Parts {
         ensures opening { self.new.opening ≡ self.old.opening }
         ensures steps { self.new.steps.items ≡ self.old.steps.items ++ step_with seat (made_in self.old.opening self.old.steps.items seat + 1) event answer victim made ∷ [] }
         ensures counted { IsCounted self.new.opening self.new.steps.items self.new.counts.items }
-        ensures len { vec_len self.new.steps ≡ vec_len self.old.steps + 1 }
-        ensures capacity { vec_capacity self.new.steps ≡ vec_capacity self.old.steps }
+        ensures room { self.new.steps.room + 1 ≡ self.old.steps.room }
     {
         let number = self.counts[seat as usize] + 1;
         self.counts[seat as usize] = number;
-        self.steps.push_reserved(Step {
+        self.steps.push(Step {
             seat,
             number,
             event,
@@ -59,7 +60,7 @@ impl Parts {
 
     /// Carries out a flush that is due, as a step of its own, for which there is room, and tells whether there was one.
     fn flush_due(&mut self, seat: u8, now: u64) -> bool
-        requires room { vec_len self.old.steps < vec_capacity self.old.steps }
+        requires room { 1 ≤ self.old.steps.room }
         requires counted { IsCounted self.old.opening self.old.steps.items self.old.counts.items }
         requires left { made_in self.old.opening self.old.steps.items seat + flush_count (story_of self.old) now ≤ most_steps }
         ensures told { result ≡ is_flush_due (story_of self.old) now }
@@ -68,8 +69,7 @@ impl Parts {
         ensures opening { self.new.opening ≡ self.old.opening }
         ensures steps { self.new.steps.items ≡ self.old.steps.items ++ flush_steps (story_of self.old) seat now }
         ensures counted { IsCounted self.new.opening self.new.steps.items self.new.counts.items }
-        ensures len { vec_len self.new.steps ≡ vec_len self.old.steps + flush_count (story_of self.old) now }
-        ensures capacity { vec_capacity self.new.steps ≡ vec_capacity self.old.steps }
+        ensures room { self.new.steps.room + flush_count (story_of self.old) now ≡ self.old.steps.room }
     {
         if !self.site.tick(now) {
             return false;
@@ -93,7 +93,7 @@ impl Parts {
         ensures setup { self.new.setup ≡ self.old.setup }
         ensures counted { IsCounted self.new.opening self.new.steps.items self.new.counts.items }
     {
-        self.steps.reserve(2)?;
+        self.steps.ready(2)?;
         self.flush_due(seat, now);
         let acted = match self.site.act_full(alloc, now, &request, 2) {
             Ok(acted) => acted,
@@ -119,24 +119,27 @@ impl Parts {
         alloc: Global,
         seat: u8,
         to: u8,
-    ) -> Result<(Parcel, Parcel), SendError>
+    ) -> Result<(Parcel, BoxedParcel), SendError>
         requires counted { IsCounted self.old.opening self.old.steps.items self.old.counts.items }
         requires left { made_in self.old.opening self.old.steps.items seat < most_steps }
         ensures does { SendForDoes (story_of self.old) (story_of self.new) seat to result }
         ensures setup { self.new.setup ≡ self.old.setup }
         ensures counted { IsCounted self.new.opening self.new.steps.items self.new.counts.items }
     {
-        if self.steps.reserve(1).is_err() {
+        if self.steps.ready(1).is_err() {
             return Err(SendError::Memory);
         }
         let event = Event::Send { to };
         match self.site.send(alloc, to) {
             Ok(parcel) => {
-                let (Ok(one), Ok(two)) = (parcel.twin(alloc), parcel.twin(alloc)) else {
+                let Ok(one) = BoxedParcel::copy_of(alloc, &parcel) else {
                     return Err(SendError::Memory);
                 };
-                self.append(seat, event, Answer::Sent(parcel), None, None);
-                Ok((one, two))
+                let Ok(two) = BoxedParcel::copy_of(alloc, &parcel) else {
+                    return Err(SendError::Memory);
+                };
+                self.append(seat, event, Answer::Sent(one), None, None);
+                Ok((parcel, two))
             }
             Err(SendError::NoSuchSite) => {
                 let why = SendError::NoSuchSite;
@@ -160,7 +163,7 @@ impl Parts {
         ensures setup { self.new.setup ≡ self.old.setup }
         ensures counted { IsCounted self.new.opening self.new.steps.items self.new.counts.items }
     {
-        let (Ok(()), Ok(copy)) = (self.steps.reserve(1), parcel.twin(alloc)) else {
+        let (Ok(()), Ok(copy)) = (self.steps.ready(1), BoxedParcel::copy_of(alloc, &parcel)) else {
             let why = TakeError::Memory;
             return Err(Refused { why, parcel });
         };
@@ -193,7 +196,7 @@ impl Parts {
         ensures setup { self.new.setup ≡ self.old.setup }
         ensures counted { IsCounted self.new.opening self.new.steps.items self.new.counts.items }
     {
-        self.steps.reserve(1)?;
+        self.steps.ready(1)?;
         let _before = self.site.records();
         let count = self.site.remove();
         let _after = self.site.records();
@@ -214,7 +217,7 @@ impl Parts {
         ensures setup { self.new.setup ≡ self.old.setup }
         ensures counted { IsCounted self.new.opening self.new.steps.items self.new.counts.items }
     {
-        self.steps.reserve(1)?;
+        self.steps.ready(1)?;
         let copy = key.twin(alloc)?;
         let done = self.site.evict(key);
         let event = Event::Evict { key: copy };
@@ -230,7 +233,7 @@ impl Parts {
         ensures setup { self.new.setup ≡ self.old.setup }
         ensures counted { IsCounted self.new.opening self.new.steps.items self.new.counts.items }
     {
-        self.steps.reserve(1)?;
+        self.steps.ready(1)?;
         Ok(self.flush_due(seat, now))
     }
 
@@ -248,7 +251,7 @@ impl Parts {
         ensures setup { self.new.setup ≡ self.old.setup }
         ensures counted { IsCounted self.new.opening self.new.steps.items self.new.counts.items }
     {
-        let (Ok(()), Ok(copy)) = (self.steps.reserve(2), key.twin(alloc)) else {
+        let (Ok(()), Ok(copy)) = (self.steps.ready(2), key.twin(alloc)) else {
             return Err(ReapError::Memory);
         };
         self.flush_due(seat, now);

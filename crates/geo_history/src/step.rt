@@ -1,5 +1,5 @@
 //! One call at a site, with what it answered.
-use geo_delta::Parcel;
+use crate::boxed::BoxedParcel;
 use geo_grammar::{Reply, Request};
 use geo_site::{ReapError, SendError, TakeError, Taken};
 use geo_versions::{Digest, Key};
@@ -14,7 +14,7 @@ pub enum Event {
     /// To make a parcel for another site.
     Send { to: u8 },
     /// To take a parcel.
-    Take { parcel: Parcel },
+    Take { parcel: BoxedParcel },
     /// To drop what is left of deleted keys, where every site is known to know the deletes.
     Remove,
     /// To carry out a flush that waits, where its moment has come.
@@ -31,7 +31,7 @@ pub enum Answer {
     /// Whether bytes were held.
     Evicted(bool),
     /// The parcel.
-    Sent(Parcel),
+    Sent(BoxedParcel),
     /// No parcel was made.
     SendRefused(SendError),
     /// What the parcel tells was joined.

@@ -3,6 +3,7 @@ ghost use Rattle.std.specs.Prelude.{◌≤◌, ◌^◌};
 
 use crate::kept::MOST_STEPS;
 use crate::{Answer, Event, Kept, Step};
+use geo_chunks::Chunks;
 use geo_delta::Parcel;
 use geo_grammar::{Reply, Request, ValueBytes, Verb};
 use geo_lattice::Items;
@@ -74,7 +75,7 @@ fn asked_of(event: &Event) -> Asked {
         Event::Command { now, .. } => Asked::Command(*now),
         Event::Evict { .. } => Asked::Evict,
         Event::Send { to } => Asked::Send(*to),
-        Event::Take { parcel } => Asked::Take(parcel.from),
+        Event::Take { parcel } => Asked::Take(parcel.parcel().from),
         Event::Remove => Asked::Remove,
         Event::Tick { now } => Asked::Tick(*now),
         Event::Reap { now, .. } => Asked::Reap(*now),
@@ -94,7 +95,7 @@ fn told_of(answer: &Answer) -> Told {
     match answer {
         Answer::Replied(reply) => said(reply),
         Answer::Evicted(held) => Told::Evicted(*held),
-        Answer::Sent(parcel) => Told::Sent(parcel.to),
+        Answer::Sent(parcel) => Told::Sent(parcel.parcel().to),
         Answer::SendRefused(why) => Told::SendRefused(*why),
         Answer::Taken(taken) => Told::Taken(*taken),
         Answer::TakeRefused(why) => Told::TakeRefused(*why),
@@ -106,9 +107,10 @@ fn told_of(answer: &Answer) -> Told {
 }
 
 /// The steps as they are told apart here.
-fn seen(alloc: Global, steps: &[Step]) -> Result<Vec<Seen>, Fail> {
+fn seen(alloc: Global, steps: &Chunks<Step>) -> Result<Vec<Seen>, Fail> {
     let mut all = Vec::new(alloc);
-    for step in steps {
+    for place in 0..steps.len() {
+        let step = steps.get(place).ok_or("no step")?;
         all.push((
             step.seat,
             step.number,
@@ -426,7 +428,7 @@ fn append_and_flush(alloc: Global, kept: &mut Kept) -> Result<(), Fail> {
 }
 
 /// What the second step made of older bytes.
-fn made_by_the_second(steps: &[Step]) -> Option<(Digest, u32)> {
+fn made_by_the_second(steps: &Chunks<Step>) -> Option<(Digest, u32)> {
     steps.get(1).and_then(|step| step.made)
 }
 
@@ -476,9 +478,10 @@ fn store_two(alloc: Global, kept: &mut Kept) -> Result<(), Fail> {
 }
 
 /// The bytes of the key of each step's victim, if any.
-fn victims<'a>(alloc: Global, steps: &'a [Step]) -> Result<Vec<Option<&'a [u8]>>, Fail> {
+fn victims<'a>(alloc: Global, steps: &'a Chunks<Step>) -> Result<Vec<Option<&'a [u8]>>, Fail> {
     let mut all = Vec::new(alloc);
-    for step in steps {
+    for place in 0..steps.len() {
+        let step = steps.get(place).ok_or("no step")?;
         all.push(step.victim.as_ref().map(|key| key.bytes()))?;
     }
     Ok(all)

@@ -9,7 +9,7 @@ use crate::refusal::{CallError, NoSeat, Returned};
 use crate::seat::Seat;
 use geo_delta::Parcel;
 use geo_grammar::{Reply, Request};
-use geo_history::Kept;
+use geo_history::{BoxedParcel, Kept};
 use geo_site::{Refused, SendError, TakeError, Taken};
 use std::alloc::{AllocError, Global};
 use std::sync::ledger::{Book, Ledger, Share};
@@ -147,7 +147,7 @@ impl<L: Ledger> Desk<L> {
         number: u8,
         account: &mut Account<L>,
         to: u8,
-    ) -> Result<(Parcel, Parcel), CallError<SendError>>
+    ) -> Result<(Parcel, BoxedParcel), CallError<SendError>>
         ensures made { IfOk result (λ parcels. (account.new.count ≡ account.old.count + 1) × (parcels.1 ≡ parcels.0)) }
         ensures unmade { IfErr result (λ why. account.new.count ≡ account.old.count + sends_made why) }
     {

@@ -1,10 +1,11 @@
 //! Whether a history tells of a seat what the seat keeps.
-ghost use Rattle.std.specs.Prelude.{◌≡◌, ◌≢◌, MatchBool};
+ghost use Rattle.std.specs.Prelude.{◌≡◌, ◌≢◌, ◌≤◌, ◌-◌, ◌∷◌, ◌++◌, [], length, take, IfSome, IfNone, MatchBool};
 ghost use Rattle.geo_station.specs.Seats.{is_call_of, call_of, calls_of};
 ghost use Rattle.geo_station.specs.Endings.{EndsSo};
 
 use crate::call::Call;
 use crate::equal::Equal;
+use geo_chunks::Chunks;
 use geo_history::{Event, Step};
 
 /// Whether a step is one that its seat keeps, and of this seat.
@@ -36,13 +37,25 @@ pub enum Ending {
     Other,
 }
 
-/// How the calls of a seat among steps end. It walks back from the last.
-pub fn ending_of(steps: &[Step], seat: u8, kept: &[Call]) -> Ending
-    ensures { EndsSo result (calls_of seat steps.now) kept.now }
+/// The last of so many first steps. None where that is none.
+fn last_of(steps: &Chunks<Step>, count: usize) -> Option<&Step>
+    requires { count ≤ length steps.now.items }
+    ensures some { IfSome result (λ step. (1 ≤ count) × (take count steps.now.items ≡ take (count - 1) steps.now.items ++ step.now ∷ [])) }
+    ensures none { IfNone result (count ≡ 0) }
 {
-    let (mut before, mut left) = (steps, kept);
-    while let Some((step, earlier)) = before.split_last() {
-        before = earlier;
+    if count == 0 {
+        return None;
+    }
+    steps.get(count - 1)
+}
+
+/// How the calls of a seat among steps end. It walks back from the last.
+pub fn ending_of(steps: &Chunks<Step>, seat: u8, kept: &[Call]) -> Ending
+    ensures { EndsSo result (calls_of seat steps.now.items) kept.now }
+{
+    let (mut count, mut left) = (steps.len(), kept);
+    while let Some(step) = last_of(steps, count) {
+        count -= 1;
         if is_call_of(step, seat) {
             let Some((call, others)) = left.split_last() else {
                 return Ending::Tail;

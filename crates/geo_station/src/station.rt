@@ -15,7 +15,7 @@ use crate::refusal::{CallError, NoSeat, Returned, SeatSpent, StationError};
 use crate::seat::Seat;
 use geo_delta::Parcel;
 use geo_grammar::{Reply, Request};
-use geo_history::{Answer, Event, History, Kept};
+use geo_history::{Answer, BoxedParcel, Event, History, Kept};
 use geo_lattice::Twin;
 use geo_site::{SendError, TakeError, Taken};
 use std::alloc::Global;
@@ -185,7 +185,7 @@ impl<L: Ledger> Station<L> {
             let why = CallError::SeatSpent;
             return Err(Returned { why, parcel });
         }
-        let (Ok(()), Ok(copy)) = (calls.reserve(1), parcel.twin(alloc)) else {
+        let (Ok(()), Ok(copy)) = (calls.reserve(1), BoxedParcel::copy_of(alloc, &parcel)) else {
             let why = CallError::Site(TakeError::Memory);
             return Err(Returned { why, parcel });
         };

@@ -14,7 +14,9 @@ impl Equal for Event {
             ) => *now == *now2 && request.equals(request2),
             (Event::Evict { key }, Event::Evict { key: key2 }) => key.equals(key2),
             (Event::Send { to }, Event::Send { to: to2 }) => *to == *to2,
-            (Event::Take { parcel }, Event::Take { parcel: parcel2 }) => parcel.equals(parcel2),
+            (Event::Take { parcel }, Event::Take { parcel: parcel2 }) => {
+                parcel.parcel().equals(parcel2.parcel())
+            }
             (Event::Remove, Event::Remove) => true,
             (Event::Tick { now }, Event::Tick { now: now2 }) => *now == *now2,
             (
@@ -33,7 +35,7 @@ impl Equal for Answer {
     fn equals(&self, other: &Self) -> bool {
         match (self, other) {
             (Answer::Replied(one), Answer::Replied(two)) => one.equals(two),
-            (Answer::Sent(one), Answer::Sent(two)) => one.equals(two),
+            (Answer::Sent(one), Answer::Sent(two)) => one.parcel().equals(two.parcel()),
             (Answer::SendRefused(one), Answer::SendRefused(two)) => *one == *two,
             (Answer::Taken(one), Answer::Taken(two)) => *one == *two,
             (Answer::TakeRefused(one), Answer::TakeRefused(two)) => *one == *two,

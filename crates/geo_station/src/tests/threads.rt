@@ -89,6 +89,17 @@ fn day<L: Ledger + Send + Sync, R: Threads + Wait + Sync>(
     Ok((told, last, closed(alloc, station, first, second)?))
 }
 
+/// Whether each step is a request at the moment 100.
+fn are_commands(history: &History) -> bool {
+    for place in 0..history.steps.len() {
+        let event = history.steps.get(place).map(|step| &step.event);
+        if !matches!(event, Some(Event::Command { now: 100, .. })) {
+            return false;
+        }
+    }
+    true
+}
+
 #[test]
 fn two_threads_are_told_what_the_history_has(rt: HostRuntime) -> Result<(), Fail> {
     let kept = opened(&rt, 1, 1)?;
@@ -96,8 +107,6 @@ fn two_threads_are_told_what_the_history_has(rt: HostRuntime) -> Result<(), Fail
     assert_eq!(rt; told, [200, 200, 200, 200]);
     assert_eq!(rt; last, 1);
     assert_eq!(rt; history.steps.len(), 401);
-    assert!(rt;
-        history.steps.iter().all(|step| matches!(&step.event, Event::Command { now: 100, .. }))
-    );
+    assert!(rt; are_commands(&history));
     Ok(())
 }

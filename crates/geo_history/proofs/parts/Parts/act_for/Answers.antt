@@ -1,4 +1,4 @@
-use Rattle.std.proofs.Common.{◌≡◌, ◌+◌, ◌<◌, ◌≤◌, ◌++◌, ◌∷◌, [], ℕ, refl, ap, subst, sym, ◌∙◌, List, arith, inr, vec_len, vec_capacity}
+use Rattle.std.proofs.Common.{◌≡◌, ◌+◌, ◌<◌, ◌≤◌, ◌++◌, ◌∷◌, [], ℕ, refl, ap, subst, sym, ◌∙◌, List, arith, inr}
 use Rattle.geo_history.specs.Keeping.{Story, story_of, made_by, flush_count, most_steps, ActForDoes, ActsFor, DoesNothing, GoesOn, flush_steps}
 use Rattle.geo_history.proofs.Calls.{refused_act, acts_for, made_after, few_flushes, two_popped}
 use Rattle.geo_history.proofs.parts.Parts.act_for.Goals as goal
@@ -6,8 +6,8 @@ use Rattle.geo_history.proofs.parts.Parts.act_for.Goals as goal
 pub returns-in-Err-clause-does : goal.returns-in-Err-clause-does
 returns-in-Err-clause-does c =
     let now = c.args.self.now in
-    let first : Story = record { site = now.site; opening = now.opening; steps = c.reserve.new.self.items } in
-    let same : first ≡ story_of now = λ i. record { site = now.site; opening = now.opening; steps = c.reserve.ensures.items i } in
+    let first : Story = record { site = now.site; opening = now.opening; steps = c.ready.new.self.items } in
+    let same : first ≡ story_of now = λ i. record { site = now.site; opening = now.opening; steps = c.ready.ensures.items i } in
     let last : Story = record { site = c.act_full.new.self; opening = c.flush_due.new.self.opening; steps = c.flush_due.new.self.steps.items } in
     subst (λ (s : Story). DoesNothing s last c.args.seat c.args.now) same
     (inr (record {
@@ -18,23 +18,23 @@ returns-in-Err-clause-does c =
 pub append-requires-clause-room : goal.append-requires-clause-room
 append-requires-clause-room c =
     let now = c.args.self.now in
-    let first : Story = record { site = now.site; opening = now.opening; steps = c.reserve.new.self.items } in
+    let first : Story = record { site = now.site; opening = now.opening; steps = c.ready.new.self.items } in
     let few = few_flushes first c.args.now in
-    omega (arith, few, c.flush_due.ensures.len, c.flush_due.ensures.capacity, c.in_ok-reserve.ensures.ok)
+    omega (arith, few, c.flush_due.ensures.room, c.in_ok-ready.ensures.ok)
 
 pub append-requires-clause-left : goal.append-requires-clause-left
 append-requires-clause-left c =
     let now = c.args.self.now in
-    let first : Story = record { site = now.site; opening = now.opening; steps = c.reserve.new.self.items } in
-    let same : first ≡ story_of now = λ i. record { site = now.site; opening = now.opening; steps = c.reserve.ensures.items i } in
+    let first : Story = record { site = now.site; opening = now.opening; steps = c.ready.new.self.items } in
+    let same : first ≡ story_of now = λ i. record { site = now.site; opening = now.opening; steps = c.ready.ensures.items i } in
     made_after first (story_of c.flush_due.new.self) c.args.seat c.args.now (record { opening = c.flush_due.ensures.opening; more = c.flush_due.ensures.steps })
     (subst (λ (s : Story). made_by s c.args.seat + flush_count s c.args.now + 1 ≤ most_steps) (sym same) c.requires.left)
 
 pub returns-clause-does : goal.returns-clause-does
 returns-clause-does c =
     let now = c.args.self.now in
-    let first : Story = record { site = now.site; opening = now.opening; steps = c.reserve.new.self.items } in
-    let same : first ≡ story_of now = λ i. record { site = now.site; opening = now.opening; steps = c.reserve.ensures.items i } in
+    let first : Story = record { site = now.site; opening = now.opening; steps = c.ready.new.self.items } in
+    let same : first ≡ story_of now = λ i. record { site = now.site; opening = now.opening; steps = c.ready.ensures.items i } in
     let tells = c.in-Ok.ensures.does in
     let last : Story = story_of c.append.new.self in
     let whole : Story = record { site = c.act_full.new.self; opening = last.opening; steps = last.steps } in

@@ -13,5 +13,5 @@ returns-clause-counted c =
     let there : c.args.seat < length counts = subst (λ n. c.args.seat < n) (sym c.requires.counted.many) below in
     let number : c.index.result.now ≡ made_in opening steps c.args.seat = c.index.ensures ∙ get_or_any counts c.args.seat c.index.result.now 0 there ∙ c.requires.counted.counted c.args.seat below in
     subst (λ (ss : List Step). IsCounted opening ss (slice_set counts c.args.seat (c.index.result.now + 1)))
-    (sym (c.push_reserved.ensures.items ∙ ap (λ n. steps ++ step_with c.args.seat (n + 1) c.args.event c.args.answer c.args.victim c.args.made ∷ []) number))
+    (sym (c.push.ensures.items ∙ ap (λ n. steps ++ step_with c.args.seat (n + 1) c.args.event c.args.answer c.args.victim c.args.made ∷ []) number))
     (counted_more opening steps c.args.seat c.args.event c.args.answer c.args.victim c.args.made counts (c.index.result.now + 1) below c.requires.left (ap (λ n. n + 1) number) c.requires.counted)

@@ -11,24 +11,24 @@ use Rattle.geo_history.proofs.parts.Parts.reap_for.Goals as goal
 pub append-requires-clause-left : goal.append-requires-clause-left
 append-requires-clause-left c =
     let now = c.args.self.now in
-    let first : Story = record { site = now.site; opening = now.opening; steps = c.reserve.new.self.items } in
-    let same : first ≡ story_of now = λ i. record { site = now.site; opening = now.opening; steps = c.reserve.ensures.items i } in
+    let first : Story = record { site = now.site; opening = now.opening; steps = c.ready.new.self.items } in
+    let same : first ≡ story_of now = λ i. record { site = now.site; opening = now.opening; steps = c.ready.ensures.items i } in
     made_after first (story_of c.flush_due.new.self) c.args.seat c.args.now (record { opening = c.flush_due.ensures.opening; more = c.flush_due.ensures.steps })
     (subst (λ (s : Story). made_by s c.args.seat + flush_count s c.args.now + 1 ≤ most_steps) (sym same) c.requires.left)
 
 pub append-requires-in-Err-ClockEnded-clause-left : goal.append-requires-in-Err-ClockEnded-clause-left
 append-requires-in-Err-ClockEnded-clause-left c =
     let now = c.args.self.now in
-    let first : Story = record { site = now.site; opening = now.opening; steps = c.reserve.new.self.items } in
-    let same : first ≡ story_of now = λ i. record { site = now.site; opening = now.opening; steps = c.reserve.ensures.items i } in
+    let first : Story = record { site = now.site; opening = now.opening; steps = c.ready.new.self.items } in
+    let same : first ≡ story_of now = λ i. record { site = now.site; opening = now.opening; steps = c.ready.ensures.items i } in
     made_after first (story_of c.flush_due.new.self) c.args.seat c.args.now (record { opening = c.flush_due.ensures.opening; more = c.flush_due.ensures.steps })
     (subst (λ (s : Story). made_by s c.args.seat + flush_count s c.args.now + 1 ≤ most_steps) (sym same) c.requires.left)
 
 pub returns-in-Ok-clause-does : goal.returns-in-Ok-clause-does
 returns-in-Ok-clause-does c =
     let now = c.args.self.now in
-    let first : Story = record { site = now.site; opening = now.opening; steps = c.reserve.new.self.items } in
-    let same : first ≡ story_of now = λ i. record { site = now.site; opening = now.opening; steps = c.reserve.ensures.items i } in
+    let first : Story = record { site = now.site; opening = now.opening; steps = c.ready.new.self.items } in
+    let same : first ≡ story_of now = λ i. record { site = now.site; opening = now.opening; steps = c.ready.ensures.items i } in
     let last : Story = story_of c.append.new.self in
     let whole : Story = record { site = c.reap.new.self; opening = last.opening; steps = last.steps } in
     let there : whole ≡ last = λ i. record { site = sym c.append.ensures.site i; opening = last.opening; steps = last.steps } in
@@ -40,8 +40,8 @@ returns-in-Ok-clause-does c =
 pub returns-in-Err-ClockEnded-clause-does : goal.returns-in-Err-ClockEnded-clause-does
 returns-in-Err-ClockEnded-clause-does c =
     let now = c.args.self.now in
-    let first : Story = record { site = now.site; opening = now.opening; steps = c.reserve.new.self.items } in
-    let same : first ≡ story_of now = λ i. record { site = now.site; opening = now.opening; steps = c.reserve.ensures.items i } in
+    let first : Story = record { site = now.site; opening = now.opening; steps = c.ready.new.self.items } in
+    let same : first ≡ story_of now = λ i. record { site = now.site; opening = now.opening; steps = c.ready.ensures.items i } in
     let last : Story = story_of c.append-in-Err-ClockEnded.new.self in
     let whole : Story = record { site = c.reap.new.self; opening = last.opening; steps = last.steps } in
     let there : whole ≡ last = λ i. record { site = sym c.append-in-Err-ClockEnded.ensures.site i; opening = last.opening; steps = last.steps } in
