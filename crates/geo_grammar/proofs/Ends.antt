@@ -3,7 +3,7 @@ use Rattle.std.proofs.Common.{◌≡◌, ℕ, Bool, true, false, ltb, eqb, ◌||
 use Rattle.std.specs.List.{list_any}
 use Rattle.std.proofs.lemmas.Bool.{cond_both}
 use Rattle.geo_grammar.specs.Limits.{longest_line}
-use Rattle.geo_grammar.specs.Faults.{line_fault, block_fault}
+use Rattle.geo_grammar.specs.Faults.{line_fault, block_fault, is_long_fault, says_too_long}
 use Rattle.geo_grammar.specs.Commands.{line_says}
 use Rattle.geo_grammar.specs.declared.fault.LineFault.{LineFault}
 use Rattle.geo_grammar.specs.declared.fault.LineFault.TheVariants as line_why
@@ -12,7 +12,7 @@ use Rattle.geo_grammar.specs.declared.fault.BlockFault.TheVariants as block_why
 use Rattle.geo_grammar.specs.declared.line.Line.{Line}
 use Rattle.geo_grammar.specs.declared.line.Line.TheVariants.{Whole, Storage, Huge, Bad}
 use Rattle.geo_grammar.specs.declared.item.Item.{Item}
-use Rattle.geo_grammar.specs.Places.{Place, InLine, InData, AtReturn, Skips, Ended, Turn, turn, said_turn, seen_turn, skip_turn, items_from, place_after, is_ended, is_long_fault, says_too_long}
+use Rattle.geo_grammar.specs.Places.{Place, InLine, InData, AtReturn, Skips, Ended, Turn, turn, said_turn, seen_turn, skip_turn, items_from, place_after, is_ended}
 use Rattle.geo_grammar.specs.Protocol.{items_of}
 use Rattle.geo_grammar.proofs.Turns.{at_end}
 use Rattle.geo_grammar.proofs.Whole.{items_is}

@@ -5,7 +5,6 @@ use Rattle.geo_grammar.specs.Faults.{line_fault, block_fault}
 use Rattle.geo_grammar.specs.Commands.{stored, line_says}
 use Rattle.geo_grammar.specs.declared.fault.BlockFault.{BlockFault}
 use Rattle.geo_grammar.specs.declared.fault.BlockFault.TheVariants.{BadData, TooLarge}
-use Rattle.geo_grammar.specs.declared.fault.Fault.{Fault}
 use Rattle.geo_grammar.specs.declared.fault.Fault.TheVariants as fault
 use Rattle.geo_grammar.specs.declared.head.Head.{Head}
 use Rattle.geo_grammar.specs.declared.line.Line.{Line}
@@ -100,16 +99,3 @@ is_ended (InData head got) = false
 is_ended (AtReturn head got) = false
 is_ended (Skips left why) = false
 is_ended Ended = true
-
-abbrev pub is_long_fault : Fault → Bool
-is_long_fault fault.Unknown = false
-is_long_fault fault.BadLine = false
-is_long_fault fault.BadData = false
-is_long_fault fault.LineTooLong = true
-is_long_fault fault.TooLarge = false
-is_long_fault fault.BadNumber = false
-
--- the item says that a line was too long
-abbrev pub says_too_long : Item → Bool
-says_too_long (item.Request request) = false
-says_too_long (item.Fault why) = is_long_fault why

@@ -1,8 +1,8 @@
 -- The place at which a reader's state stands.
-use Rattle.std.specs.Prelude.{ℕ, List, [], ◌∷◌, ◌++◌}
+use Rattle.std.specs.Prelude.{◌≡◌, ℕ, List, [], ◌∷◌, ◌++◌}
 use Rattle.geo_grammar.specs.Commands.{stored}
 use Rattle.geo_grammar.specs.Places as place
-use Rattle.geo_grammar.specs.Places.{Place, InLine, Skips}
+use Rattle.geo_grammar.specs.Places.{Place, InLine, Skips, IsPlace, start_place, place_after}
 use Rattle.geo_grammar.specs.Blocks.{block_place}
 use Rattle.geo_grammar.specs.declared.item.Item.{Item}
 use Rattle.geo_grammar.specs.declared.item.Item.TheVariants as item
@@ -28,3 +28,8 @@ finished (Line seen) front = []
 finished (Data head got returned) front = item.Request (stored head (got.items ++ front)) ∷ []
 finished (Skip left why) front = []
 finished Ended front = []
+
+-- the state is that behind the text
+pub record Stands (state : State) (text : List ℕ) : Type 0 where
+  pub place : IsPlace (place_of state)
+  pub behind : place_of state ≡ place_after start_place text

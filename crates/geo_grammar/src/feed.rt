@@ -1,7 +1,7 @@
 //! A piece taken from where a reader stands. What an `Err` leaves is what was there: all that can fail comes first.
-ghost use Rattle.std.specs.Prelude.{◌≡◌, ◌++◌, IfOk, OnOk, OnErr};
+ghost use Rattle.std.specs.Prelude.{◌≡◌, ◌++◌, [], true, IfOk, IsOk, OnOk, OnErr};
 ghost use Rattle.std.specs.Option.{option_to_list};
-ghost use Rattle.geo_grammar.specs.Places.{IsPlace, start_place, items_from, place_after};
+ghost use Rattle.geo_grammar.specs.Places.{IsPlace, start_place, items_from, place_after, is_ended};
 ghost use Rattle.geo_grammar.specs.States.{IsBlock, place_of, finished};
 
 use crate::block::{BlockCut, cut_block};
@@ -107,7 +107,12 @@ pub fn feed_state(alloc: Global, state: &mut State, piece: &[u8]) -> Result<Vec<
     ensures next { OnOk result (place_of state.new ≡ place_after (place_of state.old) piece.now) }
     ensures place { IsPlace (place_of state.new) }
     ensures err { OnErr result (place_of state.new ≡ place_of state.old) }
+    ensures empty { piece.now ≡ [] → IsOk result }
+    ensures silent { is_ended (place_of state.old) ≡ true → IsOk result }
 {
+    if piece.is_empty() {
+        return Ok(Vec::new(alloc));
+    }
     match state {
         State::Line(seen) => match cut_seen(seen.as_slice(), piece) {
             LineCut::Open => {
@@ -132,6 +137,6 @@ pub fn feed_state(alloc: Global, state: &mut State, piece: &[u8]) -> Result<Vec<
             let from = State::skip(*left, *fault);
             feed_from(alloc, state, None, from, piece)
         }
-        State::Ended => feed_from(alloc, state, None, State::Ended, piece),
+        State::Ended => Ok(Vec::new(alloc)),
     }
 }

@@ -527,7 +527,8 @@ fn appends_answers_one_after_the_other(rt: HostRuntime) -> Result<(), Fail> {
     push_answer(&mut out, &Request::Stats, &Reply::Stored)?;
     push_answer(&mut out, &store(alloc, true)?, &Reply::Exists)?;
     push_answer(&mut out, &Request::Quit, &Reply::Number(10))?;
-    assert_eq!(rt; out.as_slice(), b"STORED\r\n10\r\n".as_slice());
+    push_reply(&mut out, &Reply::Done)?;
+    assert_eq!(rt; out.as_slice(), b"STORED\r\n10\r\nOK\r\n".as_slice());
     Ok(())
 }
 

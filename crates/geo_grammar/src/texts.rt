@@ -1,6 +1,7 @@
 //! The texts of answers.
-ghost use Rattle.std.specs.Prelude.{◌≡◌, ◌++◌, List, codes, decimal, length, IfOk, OnOk};
+ghost use Rattle.std.specs.Prelude.{◌≡◌, ◌++◌, List, codes, decimal, length, IfOk, OnOk, OnErr};
 ghost use Rattle.std.specs.List.{flat_map};
+ghost use Rattle.std.specs.Io.{StartsWith};
 ghost use Rattle.geo_grammar.specs.Replies.{answer_bytes, reply_bytes, found_bytes, unique_bytes, stat_bytes, stats_bytes};
 
 use crate::reply::{Found, Reply};
@@ -10,14 +11,16 @@ use itoa::Buffer;
 use std::alloc::{AllocError, Global};
 
 fn push_number(out: &mut Vec<u8>, number: u64) -> Result<(), AllocError>
-    ensures { OnOk result (out.new.items ≡ out.old.items ++ decimal number) }
+    ensures text { OnOk result (out.new.items ≡ out.old.items ++ decimal number) }
+    ensures keeps { StartsWith out.new.items out.old.items }
 {
     let mut buffer = Buffer::new();
     out.extend_from_slice(buffer.format(number).as_bytes())
 }
 
 fn push_head(out: &mut Vec<u8>, found: &Found) -> Result<(), AllocError>
-    ensures { OnOk result (out.new.items ≡ out.old.items ++ codes "VALUE " ++ found.now.key ++ codes " " ++ decimal found.now.flags ++ codes " " ++ decimal (length found.now.bytes)) }
+    ensures text { OnOk result (out.new.items ≡ out.old.items ++ codes "VALUE " ++ found.now.key ++ codes " " ++ decimal found.now.flags ++ codes " " ++ decimal (length found.now.bytes)) }
+    ensures keeps { StartsWith out.new.items out.old.items }
 {
     out.extend_from_slice(b"VALUE ")?;
     out.extend_from_slice(found.key.bytes())?;
@@ -28,7 +31,8 @@ fn push_head(out: &mut Vec<u8>, found: &Found) -> Result<(), AllocError>
 }
 
 fn push_unique(out: &mut Vec<u8>, unique: Option<u64>) -> Result<(), AllocError>
-    ensures { OnOk result (out.new.items ≡ out.old.items ++ unique_bytes unique) }
+    ensures text { OnOk result (out.new.items ≡ out.old.items ++ unique_bytes unique) }
+    ensures keeps { StartsWith out.new.items out.old.items }
 {
     let Some(number) = unique else {
         return Ok(());
@@ -38,7 +42,8 @@ fn push_unique(out: &mut Vec<u8>, unique: Option<u64>) -> Result<(), AllocError>
 }
 
 fn push_found(out: &mut Vec<u8>, found: &Found) -> Result<(), AllocError>
-    ensures { OnOk result (out.new.items ≡ out.old.items ++ found_bytes found.now) }
+    ensures text { OnOk result (out.new.items ≡ out.old.items ++ found_bytes found.now) }
+    ensures keeps { StartsWith out.new.items out.old.items }
 {
     push_head(out, found)?;
     push_unique(out, found.unique)?;
@@ -48,7 +53,8 @@ fn push_found(out: &mut Vec<u8>, found: &Found) -> Result<(), AllocError>
 }
 
 fn push_all(out: &mut Vec<u8>, values: &[Found]) -> Result<(), AllocError>
-    ensures { OnOk result (out.new.items ≡ out.old.items ++ flat_map found_bytes values.now) }
+    ensures text { OnOk result (out.new.items ≡ out.old.items ++ flat_map found_bytes values.now) }
+    ensures keeps { StartsWith out.new.items out.old.items }
 {
     for found in values {
         push_found(out, found)?;
@@ -58,7 +64,8 @@ fn push_all(out: &mut Vec<u8>, values: &[Found]) -> Result<(), AllocError>
 
 #[tactic(auto, unfolding(crate::specs::Replies::stat_bytes))]
 fn push_stat(out: &mut Vec<u8>, name: &[u8], value: u64) -> Result<(), AllocError>
-    ensures { OnOk result (out.new.items ≡ out.old.items ++ stat_bytes name.now value) }
+    ensures text { OnOk result (out.new.items ≡ out.old.items ++ stat_bytes name.now value) }
+    ensures keeps { StartsWith out.new.items out.old.items }
 {
     out.extend_from_slice(b"STAT ")?;
     out.extend_from_slice(name)?;
@@ -68,7 +75,8 @@ fn push_stat(out: &mut Vec<u8>, name: &[u8], value: u64) -> Result<(), AllocErro
 }
 
 fn push_stats(out: &mut Vec<u8>, stats: &Stats) -> Result<(), AllocError>
-    ensures { OnOk result (out.new.items ≡ out.old.items ++ stats_bytes stats.now) }
+    ensures text { OnOk result (out.new.items ≡ out.old.items ++ stats_bytes stats.now) }
+    ensures keeps { StartsWith out.new.items out.old.items }
 {
     push_stat(out, b"curr_items", stats.curr_items)?;
     push_stat(out, b"get_hits", stats.get_hits)?;
@@ -80,8 +88,9 @@ fn push_stats(out: &mut Vec<u8>, stats: &Stats) -> Result<(), AllocError>
     out.extend_from_slice(b"END\r\n")
 }
 
-fn push_reply(out: &mut Vec<u8>, reply: &Reply) -> Result<(), AllocError>
-    ensures { OnOk result (out.new.items ≡ out.old.items ++ reply_bytes reply.now) }
+fn push_text(out: &mut Vec<u8>, reply: &Reply) -> Result<(), AllocError>
+    ensures text { OnOk result (out.new.items ≡ out.old.items ++ reply_bytes reply.now) }
+    ensures keeps { StartsWith out.new.items out.old.items }
 {
     match reply {
         Reply::Stored => out.extend_from_slice(b"STORED\r\n"),
@@ -112,10 +121,26 @@ fn push_reply(out: &mut Vec<u8>, reply: &Reply) -> Result<(), AllocError>
     }
 }
 
-/// Appends the bytes that answer a request by a reply, none where the request wants no answer. Where memory was refused a part
-/// of them may stand there.
+/// Appends the text of a reply, whatever it answers.
+pub fn push_reply(out: &mut Vec<u8>, reply: &Reply) -> Result<(), AllocError>
+    ensures text { OnOk result (out.new.items ≡ out.old.items ++ reply_bytes reply.now) }
+    ensures err { OnErr result (out.new.items ≡ out.old.items) }
+{
+    let before = out.len();
+    match push_text(out, reply) {
+        Ok(()) => Ok(()),
+        Err(error) => {
+            // A part of the text may stand there.
+            out.truncate(before);
+            Err(error)
+        }
+    }
+}
+
+/// Appends the bytes that answer a request by a reply, none where the request wants no answer.
 pub fn push_answer(out: &mut Vec<u8>, request: &Request, reply: &Reply) -> Result<(), AllocError>
-    ensures { OnOk result (out.new.items ≡ out.old.items ++ answer_bytes request.now reply.now) }
+    ensures text { OnOk result (out.new.items ≡ out.old.items ++ answer_bytes request.now reply.now) }
+    ensures err { OnErr result (out.new.items ≡ out.old.items) }
 {
     if request.is_noreply() {
         return Ok(());

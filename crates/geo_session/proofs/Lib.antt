@@ -1,4 +1,3 @@
 pub mod Lists
 pub mod Talks
-pub mod Items
 pub mod Pieces

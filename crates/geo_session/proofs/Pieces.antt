@@ -1,16 +1,19 @@
 -- Sessions, piece by piece.
-use Rattle.std.proofs.Common.{◌≡◌, ℕ, ◌+◌, ◌≤◌, Bool, true, false, List, [], ◌++◌, length, Option, Result, Ok, Err, refl, sym, ap, subst, ◌∙◌, arith, append_assoc, append-nil, length-append, ◌⊎◌, inl, inr, ◌||◌}
+use Rattle.std.proofs.Common.{◌≡◌, ℕ, ◌≤◌, Bool, true, false, cond, List, [], ◌∷◌, ◌++◌, length, take, drop, Option, None, Some, is_none, Result, Ok, Err, IfOk, IfErr, refl, sym, ap, subst, ◌∙◌, arith, append_assoc, append-nil, ◌⊎◌, inl, inr}
 use Rattle.std.specs.Result.{IsErrAnd}
 use Rattle.std.specs.Io.KnownBytes.{Appends, Consumes}
 use Rattle.std.proofs.KnownBytes.{Appends-nil, Appends-trans, Consumes-trans}
-use Rattle.geo_grammar.specs.Places.{Place, start_place, items_from, place_after, is_ended, says_too_long}
+use Rattle.std.proofs.lemmas.Bool.{cond-true, cond-false}
+use Rattle.std.proofs.lemmas.List.{take-append-drop}
+use Rattle.geo_grammar.specs.Protocol.{items_in as items_up_to, items_of}
 use Rattle.geo_grammar.specs.declared.item.Item.{Item}
 use Rattle.geo_grammar.specs.declared.reply.Reply.{Reply}
 use Rattle.geo_grammar.specs.declared.request.Request.{Request}
 use Rattle.geo_session.specs.Closings.{is_quit, has_quit, has_long_line, until_quit, StaysOpen}
-use Rattle.geo_session.specs.Exchanges.{Exchange, items_in, text_of, Runs}
-use Rattle.geo_session.specs.Sessions.{IsDue, Ended, IsRefused, StopsFor, Stopped, blames_reader, blames_writer}
-use Rattle.geo_session.specs.Batches.{Adds, IsCourse, AnswersItems, WritesStart, Answered, EndsBy, PieceEnds, PieceStops}
+use Rattle.geo_session.specs.Connections.{Connection, Answered, Broken, BreaksFor, IsRefused, IsEnd}
+use Rattle.geo_session.specs.Exchanges.{Exchange, items_in, text_of, count_after, Runs}
+use Rattle.geo_session.specs.Sessions.{IsDue, Ended, Sends, AllWritten, StopsFor, Stopped, blames_reader, blames_writer}
+use Rattle.geo_session.specs.Batches.{AnswersItems, LosesAnswers, AnsweredBy, BrokenBy, Served, ServedPart}
 use Rattle.geo_session.specs.declared.answers.Answers.{Answers}
 use Rattle.geo_session.specs.declared.answers.Course.{Course}
 use Rattle.geo_session.specs.declared.answers.Course.TheVariants as course_of
@@ -19,30 +22,204 @@ use Rattle.geo_session.specs.declared.end.SessionEnd.TheVariants.{Quit, EndOfInp
 use Rattle.geo_session.specs.declared.fault.SessionFault.{SessionFault}
 use Rattle.geo_session.specs.declared.fault.SessionFault.TheVariants.{Read, Write, Memory, TooManyReads, Spent}
 use Rattle.geo_session.proofs.Lists.{list_any-behind}
-use Rattle.geo_session.proofs.Talks.{Runs-append, items_in-append, text_of-append, calls_few, until_quit-behind, until_quit-none, until_quit_few}
-use Rattle.geo_session.proofs.Items.{items_from-append, place_after-append, items_few}
+use Rattle.geo_session.proofs.Talks.{Runs-append, items_in-append, text_of-append, until_quit-behind, until_quit-none}
 
-pub StaysOpen-append : (xs ys : List Item) → StaysOpen xs → StaysOpen ys → StaysOpen (xs ++ ys)
-StaysOpen-append xs ys h k = record { quits = list_any-behind is_quit xs ys h.quits ∙ k.quits; lines = list_any-behind says_too_long xs ys h.lines ∙ k.lines }
+-- ---- a piece is answered
 
--- the items of a piece stand behind those of what came before it
-items_then : (p q : Place) (xs ys : List ℕ) → q ≡ place_after p xs → items_from p (xs ++ ys) ≡ items_from p xs ++ items_from q ys
-items_then p q xs ys e = items_from-append p xs ys ∙ ap (λ x. items_from p xs ++ items_from x ys) (sym e)
+-- the items that are acted on behind a text that ended nothing
+pub acted_behind : (text piece : List ℕ) (items : List Item) → StaysOpen (items_of text) → items_of (text ++ piece) ≡ items_of text ++ items → until_quit (items_of (text ++ piece)) ≡ items_of text ++ until_quit items
+acted_behind text piece items stays brings = ap until_quit brings ∙ until_quit-behind (items_of text) items stays.quits
 
--- texts that are written one after the other
-both_written : (xs ys : List Exchange) (u v w : Option (List ℕ)) → Appends u v (text_of xs) → Appends v w (text_of ys) → Appends u w (text_of (xs ++ ys))
-both_written xs ys u v w h k = subst (λ (x : List ℕ). Appends u w x) (sym (text_of-append xs ys)) (Appends-trans u v w (text_of xs) (text_of ys) h k)
+pub quits_behind : (text piece : List ℕ) (items : List Item) (t : Bool) → StaysOpen (items_of text) → items_of (text ++ piece) ≡ items_of text ++ items → has_quit items ≡ t → has_quit (items_of (text ++ piece)) ≡ t
+quits_behind text piece items t stays brings h = ap has_quit brings ∙ list_any-behind is_quit (items_of text) items stays.quits ∙ h
 
--- what is due behind items that end nothing
-due_behind : (end : SessionEnd) (xs ys : List Item) (left : Option (List ℕ)) → StaysOpen xs → IsDue end ys left → IsDue end (xs ++ ys) left
-due_behind Quit xs ys left h k = list_any-behind is_quit xs ys h.quits ∙ k
-due_behind EndOfInput xs ys left h k = (StaysOpen-append xs ys h k.0, k.1)
-due_behind LineTooLong xs ys left h k = (list_any-behind is_quit xs ys h.quits ∙ k.0, list_any-behind says_too_long xs ys h.lines ∙ k.1)
+pub ends_by_quit : (items : List Item) → has_quit items ≡ true → IsEnd items (Some Quit)
+ends_by_quit items h = cond-true (has_quit items) _ _ h
 
-pub due_by : (end : SessionEnd) (items : List Item) (left : Option (List ℕ)) → EndsBy end items → IsDue end items left
-due_by Quit items left h = h
-due_by EndOfInput items left h = absurd h
-due_by LineTooLong items left h = h
+pub ends_by_line : (items : List Item) → has_quit items ≡ false → has_long_line items ≡ true → IsEnd items (Some LineTooLong)
+ends_by_line items h k = cond-false (has_quit items) _ _ h ∙ cond-true (has_long_line items) _ _ k
+
+-- where a fault comes before anything was answered
+pub broken_before : {S : Type 0} (answers : S → Request → Reply → S → Type 0) (refuses : S → Request → S → Type 0) (piece text : List ℕ) (old new : Answers) (before after : S) (items : List Item)
+    → StaysOpen (items_of text) → items_of (text ++ piece) ≡ items_of text ++ items → new ≡ old → after ≡ before → BrokenBy answers refuses Memory piece text old new before after
+broken_before answers refuses piece text old new before after items stays brings same stood = record {
+  done = [];
+  lost = [];
+  left = until_quit items;
+  mid = before;
+  came = acted_behind text piece items stays brings;
+  run = refl;
+  appended = ap (λ (a : Answers). a.text.items) same ∙ sym (append-nil old.text.items);
+  count = ap (λ (a : Answers). a.calls) same;
+  why = (omega arith, stood);
+}
+
+module _ {S : Type 0} (answers : S → Request → Reply → S → Type 0) (refuses : S → Request → S → Type 0) (piece text next : List ℕ) (items : List Item) (old new : Answers) (before after : S) (stays : StaysOpen (items_of text)) (read : next ≡ text ++ piece) (brings : items_of (text ++ piece) ≡ items_of text ++ items) where
+  -- all items up to an end
+  pub answered_all : (course : Course) (h : AnswersItems answers refuses course items before after old new) → h.left ≡ [] → after ≡ h.mid → AnsweredBy answers piece text next old new before after
+  answered_all course h none same = record {
+    exchanges = h.done;
+    read = read;
+    came = acted_behind text piece items stays brings ∙ ap (λ (t : List Item). items_of text ++ t) (h.came ∙ ap (λ (t : List Item). items_in h.done ++ t) none ∙ append-nil (items_in h.done));
+    run = subst (λ (s : S). Runs answers before h.done s) (sym same) h.run;
+    adds = h.adds;
+  }
+
+  pub broken_spent : AnswersItems answers refuses course_of.Spent items before after old new → BrokenBy answers refuses Spent piece text old new before after
+  broken_spent h =
+      let whole : h.done ++ [] ≡ h.done = append-nil h.done in
+      record {
+        done = h.done;
+        lost = [];
+        left = h.left;
+        mid = h.mid;
+        came = acted_behind text piece items stays brings ∙ ap (λ (t : List Item). items_of text ++ t) (h.came ∙ ap (λ (t : List Exchange). items_in t ++ h.left) (sym whole));
+        run = subst (λ (t : List Exchange). Runs answers before t h.mid) (sym whole) h.run;
+        appended = h.adds.text;
+        count = h.adds.count ∙ ap (count_after old.calls) (sym whole);
+        why = (refl, h.course_is);
+      }
+
+  pub broken_lost : LosesAnswers answers items before after old new → BrokenBy answers refuses Memory piece text old new before after
+  broken_lost h = record {
+    done = h.done;
+    lost = h.lost ∷ [];
+    left = h.left;
+    mid = after;
+    came = acted_behind text piece items stays brings ∙ ap (λ (t : List Item). items_of text ++ t) h.came;
+    run = h.run;
+    appended = h.text;
+    count = h.count;
+    why = (omega arith, refl);
+  }
+
+-- ---- its answers are written
+
+-- one write more
+pub Sends-then : (a b c : Connection) (u v w : Option (List ℕ)) (count : ℕ) (bytes : List ℕ) → Sends a b u v → c ≡ record b { owed = drop count b.owed } → bytes ≡ b.owed → Appends v w (take count bytes) → Sends a c u w
+Sends-then a b c u v w count bytes h e same more =
+    let rest : drop count b.owed ≡ c.owed = sym (ap (λ (x : Connection). x.owed) e) in
+    record {
+      part = h.part ++ take count b.owed;
+      front = h.front ∙ ap (λ (t : List ℕ). h.part ++ t) (sym (take-append-drop count b.owed) ∙ ap (λ (t : List ℕ). take count b.owed ++ t) rest) ∙ sym (append_assoc h.part (take count b.owed) c.owed);
+      written = Appends-trans u v w h.part (take count b.owed) h.written (subst (λ (t : List ℕ). Appends v w (take count t)) same more);
+      stays = e ∙ ap (λ (x : Connection). record x { owed = drop count b.owed }) h.stays ∙ ap (λ (t : List ℕ). record a { owed = t }) rest;
+    }
+
+nothing_behind : (a b : List ℕ) → b ≡ [] → a ++ b ≡ a
+nothing_behind a b h = ap (λ (t : List ℕ). a ++ t) h ∙ append-nil a
+
+-- what was sent is all that was owed
+sent_all : (mid new : Connection) (u v : Option (List ℕ)) (h : Sends mid new u v) → new.owed ≡ [] → h.part ≡ mid.owed
+sent_all mid new u v h paid = sym (h.front ∙ nothing_behind h.part new.owed paid)
+
+module _ {S : Type 0} (answers : S → Request → Reply → S → Type 0) (refuses : S → Request → S → Type 0) (piece : List ℕ) (old mid new : Connection) (before after : S) (u v : Option (List ℕ)) (none : old.owed ≡ []) (sends : Sends mid new u v) where
+  owed_is : (exchanges : List Exchange) → mid.owed ≡ old.owed ++ text_of exchanges → mid.owed ≡ text_of exchanges
+  owed_is exchanges h = h ∙ ap (λ (t : List ℕ). t ++ text_of exchanges) none
+
+  pub served : {T : Type 0} {F : Type 0} (r : Result T F) → IfOk r (λ _. Answered answers piece old mid before after) → new.owed ≡ [] → IfOk r (λ _. Served answers piece old.read before after u v)
+  served (Err e) h paid = h
+  served (Ok x) h paid = record {
+    exchanges = h.exchanges;
+    came = h.came;
+    run = h.run;
+    written = subst (λ (t : List ℕ). Appends u v t) (sent_all mid new u v sends paid ∙ owed_is h.exchanges h.owed) sends.written;
+  }
+
+  pub served_read : {T : Type 0} {F : Type 0} (r : Result T F) → IfOk r (λ _. Answered answers piece old mid before after) → IfOk r (λ _. new.read ≡ old.read ++ piece)
+  served_read (Err e) h = h
+  served_read (Ok x) h = ap (λ (c : Connection). c.read) sends.stays ∙ h.read
+
+  -- what goes on, and what comes, is not changed by a write
+  pub served_end : (r : Result (Option SessionEnd) SessionFault) → IfOk r (λ end. IsEnd (items_of mid.read) end) → IfOk r (λ end. IsEnd (items_of new.read) end)
+  served_end (Err fault) h = h
+  served_end (Ok end) h = subst (λ (t : List ℕ). IsEnd (items_of t) end) (sym (ap (λ (c : Connection). c.read) sends.stays)) h
+
+  pub served_on : (r : Result (Option SessionEnd) SessionFault) → IfOk r (λ end. mid.goes_on ≡ is_none end) → IfOk r (λ end. new.goes_on ≡ is_none end)
+  served_on (Err fault) h = h
+  served_on (Ok end) h = ap (λ (c : Connection). c.goes_on) sends.stays ∙ h
+
+  part_of : (fault : SessionFault) → Broken answers refuses fault piece old mid before after → new.owed ≡ [] → ServedPart answers refuses fault piece old.read before after u v
+  part_of Read h paid = absurd h.why
+  part_of Write h paid = absurd h.why
+  part_of TooManyReads h paid = absurd h.why
+  part_of Memory h paid = record {
+    done = h.done;
+    lost = h.lost;
+    left = h.left;
+    mid = h.mid;
+    part = text_of h.done;
+    rest = [];
+    came = h.came;
+    run = h.run;
+    split = sym (append-nil (text_of h.done));
+    written = subst (λ (t : List ℕ). Appends u v t) (sent_all mid new u v sends paid ∙ owed_is h.done h.owed) sends.written;
+    why = (refl, h.why);
+  }
+  part_of Spent h paid = record {
+    done = h.done;
+    lost = h.lost;
+    left = h.left;
+    mid = h.mid;
+    part = text_of h.done;
+    rest = [];
+    came = h.came;
+    run = h.run;
+    split = sym (append-nil (text_of h.done));
+    written = subst (λ (t : List ℕ). Appends u v t) (sent_all mid new u v sends paid ∙ owed_is h.done h.owed) sends.written;
+    why = (refl, h.why);
+  }
+
+  pub served_part : {T : Type 0} (r : Result T SessionFault) → IfErr r (λ fault. Broken answers refuses fault piece old mid before after) → new.owed ≡ [] → IfErr r (λ fault. ServedPart answers refuses fault piece old.read before after u v)
+  served_part (Ok x) h paid = h
+  served_part (Err fault) h paid = part_of fault h paid
+
+  broken_stands : (fault : SessionFault) (lost : List Exchange) (left : List Item) (done : S) → BreaksFor refuses fault lost left done after → (length lost ≤ 1) × ((after ≡ done) ⊎ IsRefused refuses left done after)
+  broken_stands Read lost left done h = absurd h
+  broken_stands Write lost left done h = absurd h
+  broken_stands TooManyReads lost left done h = absurd h
+  broken_stands Memory lost left done h = (h.0, inl h.1)
+  broken_stands Spent lost left done h = (let none_lost = ap (λ (t : List Exchange). length t) h.0 in omega arith, inr h.1)
+
+  -- a write failed
+  pub unwritten : {T : Type 0} (r : Result T SessionFault) → IfOk r (λ _. Answered answers piece old mid before after) → IfErr r (λ fault. Broken answers refuses fault piece old mid before after) → ServedPart answers refuses Write piece old.read before after u v
+  unwritten (Ok x) h k =
+      let whole : h.exchanges ++ [] ≡ h.exchanges = append-nil h.exchanges in
+      record {
+        done = h.exchanges;
+        lost = [];
+        left = [];
+        mid = after;
+        part = sends.part;
+        rest = new.owed;
+        came = h.came ∙ ap (λ (t : List Item). items_of old.read ++ t) (sym (append-nil (items_in (h.exchanges ++ [])) ∙ ap items_in whole));
+        run = subst (λ (t : List Exchange). Runs answers before t after) (sym whole) h.run;
+        split = sym (owed_is h.exchanges h.owed) ∙ sends.front;
+        written = sends.written;
+        why = (omega arith, inl refl);
+      }
+  unwritten (Err fault) h k = record {
+    done = k.done;
+    lost = k.lost;
+    left = k.left;
+    mid = k.mid;
+    part = sends.part;
+    rest = new.owed;
+    came = k.came;
+    run = k.run;
+    split = sym (owed_is k.done k.owed) ∙ sends.front;
+    written = sends.written;
+    why = broken_stands fault k.lost k.left k.mid k.why;
+  }
+
+-- the two kinds of fault of a piece blame no device
+pub broken_blames : {S T : Type 0} (answers : S → Request → Reply → S → Type 0) (refuses : S → Request → S → Type 0) (piece : List ℕ) (old new : Connection) (before after : S) (r : Result T SessionFault) → IfErr r (λ fault. Broken answers refuses fault piece old new before after) → (blames_reader r ≡ false) × (blames_writer r ≡ false)
+broken_blames answers refuses piece old new before after (Ok x) h = (refl, refl)
+broken_blames answers refuses piece old new before after (Err Read) h = absurd h.why
+broken_blames answers refuses piece old new before after (Err Write) h = absurd h.why
+broken_blames answers refuses piece old new before after (Err TooManyReads) h = absurd h.why
+broken_blames answers refuses piece old new before after (Err Memory) h = (refl, refl)
+broken_blames answers refuses piece old new before after (Err Spent) h = (refl, refl)
 
 -- a fault that is passed on is blamed on the same
 pub read_blamed : {T : Type 0} (r : Result T SessionFault) (f : SessionFault) → IsErrAnd r (λ e. e ≡ f) → blames_reader r ≡ blames_reader {T = T} (Err f)
@@ -53,172 +230,128 @@ pub write_blamed : {T : Type 0} (r : Result T SessionFault) (f : SessionFault) �
 write_blamed (Ok x) f h = absurd h
 write_blamed {T} (Err e) f h = ap (λ (x : SessionFault). blames_writer {T = T} (Err x)) h
 
+-- ---- whole sessions
+
+-- all that came so far ended nothing, and is answered and written
+pub record Progress {S : Type 0} (answers : S → Request → Reply → S → Type 0) (text : List ℕ) (old new : S) (before after : Option (List ℕ)) : Type 0 where
+  pub exchanges : List Exchange
+  pub came : items_in exchanges ≡ items_of text
+  pub run : Runs answers old exchanges new
+  pub written : Appends before after (text_of exchanges)
+
+-- texts that are written one after the other
+both_written : (xs ys : List Exchange) (u v w : Option (List ℕ)) → Appends u v (text_of xs) → Appends v w (text_of ys) → Appends u w (text_of (xs ++ ys))
+both_written xs ys u v w h k = subst (λ (x : List ℕ). Appends u w x) (sym (text_of-append xs ys)) (Appends-trans u v w (text_of xs) (text_of ys) h k)
+
+pub no_items : items_of [] ≡ []
+unfolding items_up_to
+no_items = refl
+
+pub none_stays : StaysOpen (items_of [])
+none_stays = subst StaysOpen (sym no_items) (record { quits = refl; lines = refl })
+
+-- the end that a piece brings is due
+due_at : (end : SessionEnd) (items : List Item) (left : Option (List ℕ)) (q l : Bool) → has_quit items ≡ q → has_long_line items ≡ l → cond q (Some Quit) (cond l (Some LineTooLong) None) ≡ Some end → IsDue end items left
+due_at Quit items left true l h k e = h
+due_at Quit items left false true h k e = absurd cc
+due_at Quit items left false false h k e = absurd cc
+due_at EndOfInput items left true l h k e = absurd cc
+due_at EndOfInput items left false true h k e = absurd cc
+due_at EndOfInput items left false false h k e = absurd cc
+due_at LineTooLong items left true l h k e = absurd cc
+due_at LineTooLong items left false true h k e = (h, k)
+due_at LineTooLong items left false false h k e = absurd cc
+
+pub due_by : (end : SessionEnd) (items : List Item) (left : Option (List ℕ)) → IsEnd items (Some end) → IsDue end items left
+due_by end items left h = due_at end items left (has_quit items) (has_long_line items) refl refl h
+
+-- nothing more comes
+none_more : (text : List ℕ) → StaysOpen (items_of text) → until_quit (items_of (text ++ [])) ≡ items_of text ++ []
+none_more text stays = until_quit-none (items_of (text ++ [])) (ap (λ (t : List ℕ). has_quit (items_of t)) (append-nil text) ∙ stays.quits) ∙ ap items_of (append-nil text) ∙ sym (append-nil (items_of text))
+
 module _ {S : Type 0} (answers : S → Request → Reply → S → Type 0) where
-  -- nothing came yet
-  pub Answered-none : (p : Place) (s : S) (w : Option (List ℕ)) → Answered answers p p [] s s w w
-  Answered-none p s w = record {
+  pub Progress-none : (s : S) (w : Option (List ℕ)) → Progress answers [] s s w w
+  Progress-none s w = record { exchanges = []; came = sym no_items; run = refl; written = Appends-nil w }
+
+  -- one piece more
+  pub Progress-then : (text piece : List ℕ) (a b c : S) (u v w : Option (List ℕ)) → Progress answers text a b u v → Served answers piece text b c v w → StaysOpen (items_of (text ++ piece)) → Progress answers (text ++ piece) a c u w
+  Progress-then text piece a b c u v w h k stays = record {
+    exchanges = h.exchanges ++ k.exchanges;
+    came = items_in-append h.exchanges k.exchanges ∙ ap (λ (t : List Item). t ++ items_in k.exchanges) h.came ∙ sym k.came ∙ until_quit-none (items_of (text ++ piece)) stays.quits;
+    run = Runs-append answers h.exchanges k.exchanges a b c h.run k.run;
+    written = both_written h.exchanges k.exchanges u v w h.written k.written;
+  }
+
+  -- a session whose last read brings its end
+  pub session_ends : (end : SessionEnd) (text piece : List ℕ) (a b c : S) (r s t u v w : Option (List ℕ)) → Consumes r s text → Consumes s t piece → length piece ≤ 262144 → StaysOpen (items_of text)
+      → Progress answers text a b u v → Served answers piece text b c v w → IsDue end (items_of (text ++ piece)) t → Ended answers end a c r t u w
+  session_ends end text piece a b c r s t u v w before read short stays h k due = record {
+    earlier = text;
+    piece = piece;
+    exchanges = h.exchanges ++ k.exchanges;
+    read = Consumes-trans r s t text piece before read;
+    short = short;
+    stays_open = stays;
+    came = items_in-append h.exchanges k.exchanges ∙ ap (λ (t : List Item). t ++ items_in k.exchanges) h.came ∙ sym k.came;
+    run = Runs-append answers h.exchanges k.exchanges a b c h.run k.run;
+    written = both_written h.exchanges k.exchanges u v w h.written k.written;
+    due = due;
+  }
+
+  -- a read that brings nothing
+  pub served_none : (text : List ℕ) (s : S) (w : Option (List ℕ)) → StaysOpen (items_of text) → Served answers [] text s s w w
+  served_none text s w stays = record {
     exchanges = [];
-    stands = refl;
-    came = refl;
-    stays_open = record { quits = refl; lines = refl };
+    came = none_more text stays;
     run = refl;
     written = Appends-nil w;
   }
 
-  -- one piece more
-  pub Answered-then : (p q r : Place) (xs ys : List ℕ) (a b c : S) (u v w : Option (List ℕ)) → Answered answers p q xs a b u v → Answered answers q r ys b c v w → Answered answers p r (xs ++ ys) a c u w
-  Answered-then p q r xs ys a b c u v w h k =
-      let whole = items_then p q xs ys h.stands in
-      record {
-        exchanges = h.exchanges ++ k.exchanges;
-        stands = k.stands ∙ ap (λ (x : Place). place_after x ys) h.stands ∙ sym (place_after-append p xs ys);
-        came = items_in-append h.exchanges k.exchanges ∙ ap (λ (x : List Item). x ++ items_in k.exchanges) h.came ∙ ap (λ (x : List Item). items_from p xs ++ x) k.came ∙ sym whole;
-        stays_open = subst StaysOpen (sym whole) (StaysOpen-append (items_from p xs) (items_from q ys) h.stays_open k.stays_open);
-        run = Runs-append answers h.exchanges k.exchanges a b c h.run k.run;
-        written = both_written h.exchanges k.exchanges u v w h.written k.written;
-      }
-
--- a fault behind what was answered and written
-stops_behind : {S : Type 0} (refuses : S → Request → S → Type 0) (fault : SessionFault) (bytes all : List ℕ) (xs ys : List Item) (said done : List Exchange) (left : List Item) (mid new : S) (u v w : Option (List ℕ))
-    → length bytes ≤ length all → StaysOpen xs → Appends u v (text_of said) → StopsFor refuses fault bytes ys [] done left mid new v w → StopsFor refuses fault all (xs ++ ys) said done left mid new u w
-stops_behind refuses Read bytes all xs ys said done left mid new u v w few stays before why = record {
-  stays_open = StaysOpen-append xs ys stays why.stays_open;
-  none_left = why.none_left;
-  stays = why.stays;
-  written = both_written said done u v w before why.written;
-}
-stops_behind refuses Write bytes all xs ys said done left mid new u v w few stays before why = record {
-  part = why.part;
-  rest = why.rest;
-  split = why.split;
-  stays = why.stays;
-  written = Appends-trans u v w (text_of said) why.part before why.written;
-}
-stops_behind refuses Memory bytes all xs ys said done left mid new u v w few stays before why = (
-  why.0,
-  subst (λ (x : List ℕ). Appends u w x) (append-nil (text_of said)) (Appends-trans u v w (text_of said) [] before why.1),
-)
-stops_behind refuses TooManyReads bytes all xs ys said done left mid new u v w few stays before why = (
-  let long = why.0 in omega arith,
-  record {
-    stays_open = StaysOpen-append xs ys stays why.1.stays_open;
-    none_left = why.1.none_left;
-    stays = why.1.stays;
-    written = both_written said done u v w before why.1.written;
-  },
-)
-stops_behind refuses Spent bytes all xs ys said done left mid new u v w few stays before why = (why.0, both_written said done u v w before why.1)
-
-module _ {S : Type 0} (answers : S → Request → Reply → S → Type 0) (refuses : S → Request → S → Type 0) (items : List ℕ → List Item) (same : (t : List ℕ) → items t ≡ items_from start_place t) where
-  -- a session whose last read brings its end
-  pub session_ends : (end : SessionEnd) (q : Place) (xs ys : List ℕ) (a b c : S) (r s t u v w : Option (List ℕ)) (es : List Exchange)
-      → Consumes r s xs → Consumes s t ys → length ys ≤ 16384 → Answered answers start_place q xs a b u v
-      → items_in es ≡ until_quit (items_from q ys) → Runs answers b es c → Appends v w (text_of es) → IsDue end (items_from q ys) t → Ended answers items end a c r t u w
-  session_ends end q xs ys a b c r s t u v w es before read short h came run written due =
-      let whole : items (xs ++ ys) ≡ items_from start_place xs ++ items_from q ys = same (xs ++ ys) ∙ items_then start_place q xs ys h.stands in
-      record {
-        earlier = xs;
-        piece = ys;
-        exchanges = h.exchanges ++ es;
-        read = Consumes-trans r s t xs ys before read;
-        short = short;
-        stays_open = subst StaysOpen (sym (same xs)) h.stays_open;
-        came = items_in-append h.exchanges es ∙ ap (λ (x : List Item). x ++ items_in es) h.came ∙ ap (λ (x : List Item). items_from start_place xs ++ x) came
-            ∙ sym (until_quit-behind (items_from start_place xs) (items_from q ys) h.stays_open.quits) ∙ ap until_quit (sym whole);
-        run = Runs-append answers h.exchanges es a b c h.run run;
-        written = both_written h.exchanges es u v w h.written written;
-        due = subst (λ (x : List Item). IsDue end x t) (sym whole) (due_behind end (items_from start_place xs) (items_from q ys) t h.stays_open due);
-      }
-
   -- a session that a fault ends at its last read
-  pub session_stops : (fault : SessionFault) (q : Place) (bytes xs ys : List ℕ) (a b mid c : S) (r s t u v w : Option (List ℕ)) (done : List Exchange) (left : List Item)
-      → Consumes r s xs → Consumes s t ys → length ys ≤ 16384 → Answered answers start_place q xs a b u v
-      → until_quit (items_from q ys) ≡ items_in done ++ left → Runs answers b done mid → length bytes ≤ length (xs ++ ys)
-      → StopsFor refuses fault bytes (items_from q ys) [] done left mid c v w → Stopped answers refuses items fault a c r t u w
-  session_stops fault q bytes xs ys a b mid c r s t u v w done left before read short h came run few why =
-      let whole : items (xs ++ ys) ≡ items_from start_place xs ++ items_from q ys = same (xs ++ ys) ∙ items_then start_place q xs ys h.stands in
-      record {
-        earlier = xs;
-        piece = ys;
-        said = h.exchanges;
-        unsaid = done;
-        left = left;
-        mid = mid;
-        read = Consumes-trans r s t xs ys before read;
-        short = short;
-        stays_open = subst StaysOpen (sym (same xs)) h.stays_open;
-        first = h.came ∙ sym (same xs);
-        came = ap until_quit whole ∙ until_quit-behind (items_from start_place xs) (items_from q ys) h.stays_open.quits ∙ ap (λ (x : List Item). items_from start_place xs ++ x) came
-            ∙ sym (append_assoc (items_from start_place xs) (items_in done) left)
-            ∙ ap (λ (x : List Item). x ++ left) (ap (λ (x : List Item). x ++ items_in done) (sym h.came) ∙ sym (items_in-append h.exchanges done));
-        run = Runs-append answers h.exchanges done a b mid h.run run;
-        why = subst (λ (x : List Item). StopsFor refuses fault (xs ++ ys) x h.exchanges done left mid c u w) (sym whole)
-            (stops_behind refuses fault bytes (xs ++ ys) (items_from start_place xs) (items_from q ys) h.exchanges done left mid c u v w few h.stays_open h.written why);
-      }
+  pub session_stops : (refuses : S → Request → S → Type 0) (fault : SessionFault) (text piece : List ℕ) (a b c : S) (r s t u v w : Option (List ℕ)) → Consumes r s text → Consumes s t piece → length piece ≤ 262144 → StaysOpen (items_of text)
+      → Progress answers text a b u v → ServedPart answers refuses fault piece text b c v w → Stopped answers refuses fault a c r t u w
+  session_stops refuses fault text piece a b c r s t u v w before read short stays h k = record {
+    earlier = text;
+    piece = piece;
+    said = h.exchanges;
+    unsaid = k.done;
+    lost = k.lost;
+    left = k.left;
+    mid = k.mid;
+    part = k.part;
+    rest = k.rest;
+    read = Consumes-trans r s t text piece before read;
+    short = short;
+    stays_open = stays;
+    first = h.came;
+    came = k.came ∙ ap (λ (t : List Item). t ++ (items_in (k.done ++ k.lost) ++ k.left)) (sym h.came);
+    run = Runs-append answers h.exchanges (k.done ++ k.lost) a b k.mid h.run k.run;
+    split = k.split;
+    written = Appends-trans u v w (text_of h.exchanges) k.part h.written k.written;
+    why = k.why;
+  }
 
--- what was done with a piece, before it is written
-module _ {S : Type 0} (answers : S → Request → Reply → S → Type 0) (refuses : S → Request → S → Type 0) (p q : Place) (piece : List ℕ) (items : List Item) (old new : S) (before after : Answers) (is : items ≡ items_from p piece) (empty : before.text.items ≡ []) where
-  text_is : (done : List Exchange) → Adds before after done → after.text.items ≡ text_of done
-  text_is done h = h.text ∙ ap (λ (x : List ℕ). x ++ text_of done) empty
+  -- a fault between two pieces
+  pub part_none : (refuses : S → Request → S → Type 0) (fault : SessionFault) (text : List ℕ) (s : S) (w : Option (List ℕ)) → StaysOpen (items_of text) → StopsFor refuses fault (text ++ []) (items_of (text ++ [])) [] [] [] s s → ServedPart answers refuses fault [] text s s w w
+  part_none refuses fault text s w stays why = record {
+    done = [];
+    lost = [];
+    left = [];
+    mid = s;
+    part = [];
+    rest = [];
+    came = none_more text stays;
+    run = refl;
+    split = refl;
+    written = Appends-nil w;
+    why = why;
+  }
 
-  text_written : (done : List Exchange) (text : List ℕ) (v w : Option (List ℕ)) → Adds before after done → text ≡ after.text.items → Appends v w text → Appends v w (text_of done)
-  text_written done text v w h same written = subst (λ (x : List ℕ). Appends v w x) (same ∙ text_is done h) written
-
-  pub calls_fit : (course : Course) → AnswersItems answers refuses course items old new before after → after.calls ≤ before.calls + length piece
-  calls_fit course h =
-      let counted = h.adds.counted in
-      let few = calls_few h.done in
-      let came : length (until_quit items) ≡ length (items_in h.done) + length h.left = ap (λ (x : List Item). length x) h.came ∙ length-append (items_in h.done) h.left in
-      let some = until_quit_few items in
-      let those : length items ≡ length (items_from p piece) = ap (λ (x : List Item). length x) is in
-      let bytes = items_few p piece in
-      omega arith
-
-  stays_by : (course : Course) (left : List Item) (mid : S) → IsCourse refuses course items left mid new → (new ≡ mid) ⊎ IsRefused refuses left mid new
-  stays_by course_of.Open left mid h = inl h.2
-  stays_by course_of.Quits left mid h = inl h.2
-  stays_by course_of.Spent left mid h = inr h
-
-  -- a write that failed
-  pub piece_cut : (course : Course) (fault : SessionFault) (text : List ℕ) (v w : Option (List ℕ)) → AnswersItems answers refuses course items old new before after → fault ≡ Write → text ≡ after.text.items → WritesStart text v w
-      → PieceStops answers refuses fault p piece old new v w
-  piece_cut course fault text v w h write same start = subst (λ (f : SessionFault). PieceStops answers refuses f p piece old new v w) (sym write) (record {
-    done = h.done;
-    left = h.left;
-    mid = h.mid;
-    came = ap until_quit (sym is) ∙ h.came;
-    run = h.run;
-    why = record { part = start.part; rest = start.rest; split = sym (text_is h.done h.adds) ∙ sym same ∙ start.split; stays = stays_by course h.left h.mid h.course_is; written = start.written };
-  })
-
-  -- nothing ended the session
-  pub piece_answered : (course : Course) (text : List ℕ) (v w : Option (List ℕ)) → AnswersItems answers refuses course items old new before after → course ≡ course_of.Open → q ≡ place_after p piece → has_long_line (items_from p piece) ≡ false
-      → text ≡ after.text.items → Appends v w text → Answered answers p q piece old new v w
-  piece_answered course text v w h open_is stands lines same written =
-      let how : IsCourse refuses course_of.Open items h.left h.mid new = subst (λ (x : Course). IsCourse refuses x items h.left h.mid new) open_is h.course_is in
-      let none : has_quit (items_from p piece) ≡ false = ap has_quit (sym is) ∙ how.0 in
-      record {
-        exchanges = h.done;
-        stands = stands;
-        came = sym (append-nil (items_in h.done)) ∙ ap (λ (x : List Item). items_in h.done ++ x) (sym how.1) ∙ sym h.came ∙ ap until_quit is ∙ until_quit-none (items_from p piece) none;
-        stays_open = record { quits = none; lines = lines };
-        run = subst (λ (s : S). Runs answers old h.done s) (sym how.2) h.run;
-        written = text_written h.done text v w h.adds same written;
-      }
-
-  -- a line was too long
-  pub piece_too_long : (course : Course) (text : List ℕ) (v w : Option (List ℕ)) → AnswersItems answers refuses course items old new before after → course ≡ course_of.Open → has_long_line (items_from p piece) ≡ true
-      → text ≡ after.text.items → Appends v w text → PieceEnds answers LineTooLong p piece old new v w
-  piece_too_long course text v w h open_is lines same written =
-      let how : IsCourse refuses course_of.Open items h.left h.mid new = subst (λ (x : Course). IsCourse refuses x items h.left h.mid new) open_is h.course_is in
-      record {
-        exchanges = h.done;
-        came = sym (append-nil (items_in h.done)) ∙ ap (λ (x : List Item). items_in h.done ++ x) (sym how.1) ∙ sym h.came ∙ ap until_quit is;
-        run = subst (λ (s : S). Runs answers old h.done s) (sym how.2) h.run;
-        written = text_written h.done text v w h.adds same written;
-        ends = (ap has_quit (sym is) ∙ how.0, lines);
-      }
-
--- whether a line was too long, by where the reader stands
-pub long_line : (p q : Place) (piece : List ℕ) (t : Bool) → is_ended (place_after p piece) ≡ (is_ended p || has_long_line (items_from p piece)) → is_ended p ≡ false → q ≡ place_after p piece → is_ended q ≡ t → has_long_line (items_from p piece) ≡ t
-long_line p q piece t law unended stands is = sym (law ∙ ap (λ (b : Bool). b || has_long_line (items_from p piece)) unended) ∙ ap is_ended (sym stands) ∙ is
+pub all_written : {S : Type 0} (text : List ℕ) (s : S) → StaysOpen (items_of text) → AllWritten (items_of (text ++ [])) [] [] [] s s
+all_written text s stays = record {
+  stays_open = subst (λ (t : List ℕ). StaysOpen (items_of t)) (sym (append-nil text)) stays;
+  none_lost = refl;
+  none_left = refl;
+  none_owed = refl;
+  stays = refl;
+}

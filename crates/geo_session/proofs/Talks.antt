@@ -1,12 +1,13 @@
 -- Exchanges, one after the other.
-use Rattle.std.proofs.Common.{◌≡◌, ℕ, ◌+◌, ◌≤◌, ◌||◌, Bool, true, false, cond, List, [], ◌∷◌, ◌++◌, length, refl, sym, ap, subst, ◌∙◌, arith, append_assoc, append-nil}
+use Rattle.std.proofs.Common.{◌≡◌, ℕ, ◌+◌, min, ◌||◌, Bool, true, false, cond, List, [], ◌∷◌, ◌++◌, refl, sym, ap, subst, ◌∙◌, append_assoc, append-nil}
 use Rattle.geo_grammar.specs.Replies.{is_noreply, answer_bytes, reply_bytes, fault_bytes}
 use Rattle.geo_grammar.specs.declared.fault.Fault.{Fault}
 use Rattle.geo_grammar.specs.declared.item.Item.{Item}
 use Rattle.geo_grammar.specs.declared.reply.Reply.{Reply}
 use Rattle.geo_grammar.specs.declared.request.Request.{Request}
 use Rattle.geo_session.specs.Closings.{is_quit, has_quit, until_quit}
-use Rattle.geo_session.specs.Exchanges.{Exchange, Asked, Told, item_in, items_in, bytes_in, text_of, calls_in, Runs}
+use Rattle.geo_grammar.specs.Limits.{most_number}
+use Rattle.geo_session.specs.Exchanges.{Exchange, Asked, Told, item_in, items_in, bytes_in, text_of, count_after, Runs}
 use Rattle.geo_session.specs.Batches.{Adds}
 use Rattle.geo_session.specs.declared.answers.Answers.{Answers}
 use Rattle.geo_session.proofs.Lists.{list_any-behind}
@@ -24,19 +25,10 @@ pub text_of-append : (xs ys : List Exchange) → text_of (xs ++ ys) ≡ text_of 
 text_of-append [] ys = refl
 text_of-append (x ∷ xs) ys = ap (λ t. bytes_in x ++ t) (text_of-append xs ys) ∙ sym (append_assoc (bytes_in x) (text_of xs) (text_of ys))
 
-pub calls_in-append : (xs ys : List Exchange) → calls_in (xs ++ ys) ≡ calls_in xs + calls_in ys
-calls_in-append [] ys = omega arith
-calls_in-append (Asked request reply ∷ xs) ys = let more = calls_in-append xs ys in omega arith
-calls_in-append (Told fault ∷ xs) ys = calls_in-append xs ys
-
-pub calls_in-one : (x : Exchange) → calls_in (x ∷ []) ≤ 1
-calls_in-one (Asked request reply) = omega arith
-calls_in-one (Told fault) = omega arith
-
-pub calls_few : (xs : List Exchange) → calls_in xs ≤ length (items_in xs)
-calls_few [] = omega arith
-calls_few (Asked request reply ∷ xs) = let few = calls_few xs in omega arith
-calls_few (Told fault ∷ xs) = let few = calls_few xs in omega arith
+pub count_after-append : (count : ℕ) (xs ys : List Exchange) → count_after count (xs ++ ys) ≡ count_after (count_after count xs) ys
+count_after-append count [] ys = refl
+count_after-append count (Asked request reply ∷ xs) ys = count_after-append (min (count + 1) most_number) xs ys
+count_after-append count (Told fault ∷ xs) ys = count_after-append count xs ys
 
 quit_first : (t a : Bool) (b c : List Item) → (a ≡ false → b ≡ c) → (t || a) ≡ false → cond t [] b ≡ c
 quit_first true a b c more none = cc
@@ -46,14 +38,6 @@ quit_first false a b c more none = more none
 pub until_quit-behind : (xs ys : List Item) → has_quit xs ≡ false → until_quit (xs ++ ys) ≡ xs ++ until_quit ys
 until_quit-behind [] ys h = refl
 until_quit-behind (x ∷ xs) ys h = ap (λ (t : List Item). x ∷ t) (quit_first (is_quit x) (has_quit xs) (until_quit (xs ++ ys)) (xs ++ until_quit ys) (until_quit-behind xs ys) h)
-
-few_or_none : (t : Bool) (xs : List Item) (n : ℕ) → length xs ≤ n → length (cond t [] xs) ≤ n
-few_or_none true xs n h = omega arith
-few_or_none false xs n h = h
-
-pub until_quit_few : (xs : List Item) → length (until_quit xs) ≤ length xs
-until_quit_few [] = omega arith
-until_quit_few (x ∷ xs) = let few = few_or_none (is_quit x) (until_quit xs) (length xs) (until_quit_few xs) in omega arith
 
 pub until_quit-none : (xs : List Item) → has_quit xs ≡ false → until_quit xs ≡ xs
 until_quit-none xs h = ap until_quit (sym (append-nil xs)) ∙ until_quit-behind xs [] h ∙ append-nil xs
@@ -112,17 +96,14 @@ pub fault_said : (fault : Fault) (old new text : List ℕ) → new ≡ old ++ te
 fault_said fault old new text h is = h ∙ ap (λ (t : List ℕ). old ++ t) (is ∙ sym (append-nil (fault_bytes fault)))
 
 -- what is added to what waits
-pub Adds-none : (a b : Answers) → b.text.items ≡ a.text.items → b.calls ≡ a.calls → Adds a b []
-Adds-none a b text calls = record { text = text ∙ sym (append-nil a.text.items); counted = omega arith }
+pub Adds-none : (a : Answers) → Adds a a []
+Adds-none a = record { text = sym (append-nil a.text.items); count = refl }
 
 pub Adds-then : (a b c : Answers) (xs ys : List Exchange) → Adds a b xs → Adds b c ys → Adds a c (xs ++ ys)
 Adds-then a b c xs ys h k = record {
   text = k.text ∙ ap (λ (t : List ℕ). t ++ text_of ys) h.text ∙ append_assoc a.text.items (text_of xs) (text_of ys) ∙ ap (λ (t : List ℕ). a.text.items ++ t) (sym (text_of-append xs ys));
-  counted = let first = h.counted in let then_more = k.counted in omega (arith, calls_in-append xs ys);
+  count = k.count ∙ ap (λ n. count_after n ys) h.count ∙ sym (count_after-append a.calls xs ys);
 }
 
 pub Adds-same : (a b c : Answers) (xs : List Exchange) → Adds a b xs → Adds b c [] → Adds a c xs
-Adds-same a b c xs h k = record {
-  text = k.text ∙ append-nil b.text.items ∙ h.text;
-  counted = let first = h.counted in let then_none = k.counted in omega arith;
-}
+Adds-same a b c xs h k = record { text = k.text ∙ append-nil b.text.items ∙ h.text; count = k.count ∙ h.count }

@@ -1,25 +1,24 @@
--- What is done with the items that one read brings, before their answers are written, and how sessions go on from read to read.
-use Rattle.std.specs.Prelude.{◌≡◌, ℕ, ◌+◌, true, false, List, [], ◌∷◌, ◌++◌, Option}
+-- What is done with the items that one read brings, before their answers are written.
+use Rattle.std.specs.Prelude.{◌≡◌, ℕ, true, false, List, [], ◌∷◌, ◌++◌, Option}
 use Rattle.std.specs.Io.KnownBytes.{Appends}
-use Rattle.geo_grammar.specs.Places.{Place, items_from, place_after}
+use Rattle.geo_grammar.specs.Protocol.{items_of}
 use Rattle.geo_grammar.specs.declared.item.Item.{Item}
 use Rattle.geo_grammar.specs.declared.item.Item.TheVariants as kind
 use Rattle.geo_grammar.specs.declared.reply.Reply.{Reply}
 use Rattle.geo_grammar.specs.declared.request.Request.{Request}
-use Rattle.geo_session.specs.Closings.{has_quit, has_long_line, until_quit, StaysOpen}
-use Rattle.geo_session.specs.Exchanges.{Exchange, item_in, items_in, text_of, calls_in, Runs}
-use Rattle.geo_session.specs.Sessions.{IsRefused, StopsFor}
+use Rattle.geo_session.specs.Closings.{has_quit, until_quit}
+use Rattle.geo_session.specs.Connections.{IsRefused, BreaksFor}
+use Rattle.geo_session.specs.Exchanges.{Exchange, item_in, items_in, text_of, count_after, Runs}
+use Rattle.geo_session.specs.Sessions.{StopsFor}
 use Rattle.geo_session.specs.declared.answers.Answers.{Answers}
 use Rattle.geo_session.specs.declared.answers.Course.{Course}
 use Rattle.geo_session.specs.declared.answers.Course.TheVariants.{Open, Quits, Spent}
-use Rattle.geo_session.specs.declared.end.SessionEnd.{SessionEnd}
-use Rattle.geo_session.specs.declared.end.SessionEnd.TheVariants.{Quit, EndOfInput, LineTooLong}
 use Rattle.geo_session.specs.declared.fault.SessionFault.{SessionFault}
 
 -- exchanges that were done: their text stands behind what waits to be written, and they are counted
 pub record Adds (before after : Answers) (exchanges : List Exchange) : Type 0 where
   pub text : after.text.items ≡ before.text.items ++ text_of exchanges
-  pub counted : after.calls ≡ before.calls + calls_in exchanges
+  pub count : after.calls ≡ count_after before.calls exchanges
 
 -- an item was answered
 pub record AnswersItem {S : Type 0} (answers : S → Request → Reply → S → Type 0) (item : Item) (old new : S) (before after : Answers) : Type 0 where
@@ -29,10 +28,12 @@ pub record AnswersItem {S : Type 0} (answers : S → Request → Reply → S →
   pub adds : Adds before after (exchange ∷ [])
 
 -- an item was answered, and memory was refused for the text
-pub record LosesAnswer {S : Type 0} (answers : S → Request → Reply → S → Type 0) (item : Item) (old new : S) : Type 0 where
+pub record LosesAnswer {S : Type 0} (answers : S → Request → Reply → S → Type 0) (item : Item) (old new : S) (before after : Answers) : Type 0 where
   pub exchange : Exchange
   pub came : item_in exchange ≡ item
   pub run : Runs answers old (exchange ∷ []) new
+  pub text : after.text.items ≡ before.text.items
+  pub count : after.calls ≡ count_after before.calls (exchange ∷ [])
 
 -- a request was not answered
 pub record RefusesItem {S : Type 0} (refuses : S → Request → S → Type 0) (item : Item) (old new : S) (before after : Answers) : Type 0 where
@@ -58,47 +59,52 @@ pub record AnswersItems {S : Type 0} (answers : S → Request → Reply → S �
   pub course_is : IsCourse refuses course items left mid new
 
 -- a beginning of them was answered, and memory was refused for the text of the last
-pub record LosesAnswers {S : Type 0} (answers : S → Request → Reply → S → Type 0) (items : List Item) (old new : S) : Type 0 where
+pub record LosesAnswers {S : Type 0} (answers : S → Request → Reply → S → Type 0) (items : List Item) (old new : S) (before after : Answers) : Type 0 where
   pub done : List Exchange
+  pub lost : Exchange
   pub left : List Item
-  pub came : until_quit items ≡ items_in done ++ left
-  pub run : Runs answers old done new
+  pub came : until_quit items ≡ items_in (done ++ lost ∷ []) ++ left
+  pub run : Runs answers old (done ++ lost ∷ []) new
+  pub text : after.text.items ≡ before.text.items ++ text_of done
+  pub count : after.calls ≡ count_after before.calls (done ++ lost ∷ [])
 
--- a write that failed: a beginning is written
-pub record WritesStart (bytes : List ℕ) (before after : Option (List ℕ)) : Type 0 where
-  pub part : List ℕ
-  pub rest : List ℕ
-  pub split : bytes ≡ part ++ rest
-  pub written : Appends before after part
-
--- all that came from a place on is answered and written, and nothing of it ended the session
-pub record Answered {S : Type 0} (answers : S → Request → Reply → S → Type 0) (place next : Place) (bytes : List ℕ) (old new : S) (before after : Option (List ℕ)) : Type 0 where
+-- a piece behind a text was answered
+pub record AnsweredBy {S : Type 0} (answers : S → Request → Reply → S → Type 0) (piece text next : List ℕ) (old new : Answers) (before after : S) : Type 0 where
   pub exchanges : List Exchange
-  pub stands : next ≡ place_after place bytes
-  pub came : items_in exchanges ≡ items_from place bytes
-  pub stays_open : StaysOpen (items_from place bytes)
-  pub run : Runs answers old exchanges new
-  pub written : Appends before after (text_of exchanges)
+  pub read : next ≡ text ++ piece
+  pub came : until_quit (items_of (text ++ piece)) ≡ items_of text ++ items_in exchanges
+  pub run : Runs answers before exchanges after
+  pub adds : Adds old new exchanges
 
--- which end the items of a piece bring
-abbrev pub EndsBy : SessionEnd → List Item → Type 0
-EndsBy Quit items = has_quit items ≡ true
-EndsBy EndOfInput items = ⊥
-EndsBy LineTooLong items = (has_quit items ≡ false) × (has_long_line items ≡ true)
-
--- a piece brought the end of the session
-pub record PieceEnds {S : Type 0} (answers : S → Request → Reply → S → Type 0) (end : SessionEnd) (place : Place) (piece : List ℕ) (old new : S) (before after : Option (List ℕ)) : Type 0 where
-  pub exchanges : List Exchange
-  pub came : items_in exchanges ≡ until_quit (items_from place piece)
-  pub run : Runs answers old exchanges new
-  pub written : Appends before after (text_of exchanges)
-  pub ends : EndsBy end (items_from place piece)
-
--- a fault ended the session within a piece
-pub record PieceStops {S : Type 0} (answers : S → Request → Reply → S → Type 0) (refuses : S → Request → S → Type 0) (fault : SessionFault) (place : Place) (piece : List ℕ) (old new : S) (before after : Option (List ℕ)) : Type 0 where
+-- a fault came within it
+pub record BrokenBy {S : Type 0} (answers : S → Request → Reply → S → Type 0) (refuses : S → Request → S → Type 0) (fault : SessionFault) (piece text : List ℕ) (old new : Answers) (before after : S) : Type 0 where
   pub done : List Exchange
+  pub lost : List Exchange
   pub left : List Item
   pub mid : S
-  pub came : until_quit (items_from place piece) ≡ items_in done ++ left
-  pub run : Runs answers old done mid
-  pub why : StopsFor refuses fault piece (items_from place piece) [] done left mid new before after
+  pub came : until_quit (items_of (text ++ piece)) ≡ items_of text ++ (items_in (done ++ lost) ++ left)
+  pub run : Runs answers before (done ++ lost) mid
+  pub appended : new.text.items ≡ old.text.items ++ text_of done
+  pub count : new.calls ≡ count_after old.calls (done ++ lost)
+  pub why : BreaksFor refuses fault lost left mid after
+
+-- a piece behind a text was answered, and its answers are written
+pub record Served {S : Type 0} (answers : S → Request → Reply → S → Type 0) (piece text : List ℕ) (old new : S) (before after : Option (List ℕ)) : Type 0 where
+  pub exchanges : List Exchange
+  pub came : until_quit (items_of (text ++ piece)) ≡ items_of text ++ items_in exchanges
+  pub run : Runs answers old exchanges new
+  pub written : Appends before after (text_of exchanges)
+
+-- a fault ended the session within it
+pub record ServedPart {S : Type 0} (answers : S → Request → Reply → S → Type 0) (refuses : S → Request → S → Type 0) (fault : SessionFault) (piece text : List ℕ) (old new : S) (before after : Option (List ℕ)) : Type 0 where
+  pub done : List Exchange
+  pub lost : List Exchange
+  pub left : List Item
+  pub mid : S
+  pub part : List ℕ
+  pub rest : List ℕ
+  pub came : until_quit (items_of (text ++ piece)) ≡ items_of text ++ (items_in (done ++ lost) ++ left)
+  pub run : Runs answers old (done ++ lost) mid
+  pub split : text_of done ≡ part ++ rest
+  pub written : Appends before after part
+  pub why : StopsFor refuses fault (text ++ piece) (items_of (text ++ piece)) lost left rest mid new

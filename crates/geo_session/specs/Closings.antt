@@ -1,11 +1,13 @@
 -- Which items of a connection are acted on, and which of them end it (memcached's protocol.txt, "quit").
-use Rattle.std.specs.Prelude.{◌≡◌, Bool, true, false, List, [], ◌∷◌, if◌then◌else◌}
+use Rattle.std.specs.Prelude.{◌≡◌, Bool, true, false, List, [], ◌∷◌, Option, Some, None, if◌then◌else◌}
 use Rattle.std.specs.List.{list_any}
-use Rattle.geo_grammar.specs.Places.{says_too_long}
+use Rattle.geo_grammar.specs.Faults.{says_too_long}
 use Rattle.geo_grammar.specs.declared.item.Item.{Item}
 use Rattle.geo_grammar.specs.declared.item.Item.TheVariants as item
 use Rattle.geo_grammar.specs.declared.request.Request.{Request}
 use Rattle.geo_grammar.specs.declared.request.Request.TheVariants as request
+use Rattle.geo_session.specs.declared.end.SessionEnd.{SessionEnd}
+use Rattle.geo_session.specs.declared.end.SessionEnd.TheVariants.{Quit, LineTooLong}
 
 -- the client asks for the end of its connection
 abbrev pub asks_to_quit : Request → Bool
@@ -41,3 +43,7 @@ until_quit (item ∷ items) = item ∷ (if is_quit item then [] else until_quit 
 pub record StaysOpen (items : List Item) : Type 0 where
   pub quits : has_quit items ≡ false
   pub lines : has_long_line items ≡ false
+
+-- the end that these items bring, if they bring one
+abbrev pub end_by : List Item → Option SessionEnd
+end_by items = if has_quit items then Some Quit else (if has_long_line items then Some LineTooLong else None)

@@ -1,6 +1,7 @@
 -- What a session says to its client, item by item.
-use Rattle.std.specs.Prelude.{◌≡◌, ℕ, suc, List, [], ◌∷◌, map}
+use Rattle.std.specs.Prelude.{◌≡◌, ℕ, ◌+◌, min, List, [], ◌∷◌, map}
 use Rattle.std.specs.List.{flat_map}
+use Rattle.geo_grammar.specs.Limits.{most_number}
 use Rattle.geo_grammar.specs.Replies.{answer_bytes, fault_bytes}
 use Rattle.geo_grammar.specs.declared.fault.Fault.{Fault}
 use Rattle.geo_grammar.specs.declared.item.Item.{Item}
@@ -28,11 +29,11 @@ bytes_in (Told fault) = fault_bytes fault
 abbrev pub text_of : List Exchange → List ℕ
 text_of exchanges = flat_map bytes_in exchanges
 
--- how often the backend was asked
-abbrev pub calls_in : List Exchange → ℕ
-calls_in [] = 0
-calls_in (Asked request reply ∷ exchanges) = suc (calls_in exchanges)
-calls_in (Told fault ∷ exchanges) = calls_in exchanges
+-- how often the backend has answered, in 64 bits, behind these too
+abbrev pub count_after : ℕ → List Exchange → ℕ
+count_after count [] = count
+count_after count (Asked request reply ∷ exchanges) = count_after (min (count + 1) most_number) exchanges
+count_after count (Told fault ∷ exchanges) = count_after count exchanges
 
 -- the replies are those of one run of the backend: each request finds the state that the one before it left. A fault reaches no
 -- backend

@@ -1,5 +1,6 @@
 pub mod Closings
 pub mod Exchanges
+pub mod Connections
 pub mod Sessions
 pub mod Batches
 pub mod Bares

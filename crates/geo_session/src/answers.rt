@@ -1,17 +1,17 @@
 //! The answers to what one read brought.
-ghost use Rattle.std.specs.Prelude.{◌≡◌, ◌++◌, ◌+◌, ◌≤◌, ◌<◌, ◌^◌, [], true, length, MatchBool, OnOk, IfOk, IfErr, if◌then◌else◌};
-ghost use Rattle.geo_grammar.specs.Replies.{reply_bytes};
+ghost use Rattle.std.specs.Prelude.{◌≡◌, ◌+◌, [], min, MatchBool, IfOk, IfErr};
+ghost use Rattle.geo_grammar.specs.Limits.{most_number};
 ghost use Rattle.geo_session.specs.Closings.{is_quit};
 
 use crate::backend::Backend;
 use crate::gate::Gate;
-use geo_grammar::{Item, Reply, Request, fault_text, push_answer};
+use geo_grammar::{Item, Request, fault_text, push_reply};
 use std::alloc::{AllocError, Global};
 use std::rt::Clock;
 use std::sync::Wait;
 
-/// How many bytes of memory a session keeps for its answers between two reads.
-const MOST_KEPT: usize = 65_536;
+/// How many bytes of memory a session keeps for its answers while none are owed.
+const MOST_KEPT: usize = 1_048_576;
 
 /// How far the items of a piece were answered.
 #[derive(Clone, Copy)]
@@ -30,12 +30,11 @@ fn asks_to_quit(item: &Item) -> bool
     matches!(item, Item::Request(Request::Quit))
 }
 
-/// Appends the text of a reply, whatever it was asked by.
-fn push_reply(text: &mut Vec<u8>, reply: &Reply) -> Result<(), AllocError>
-    ensures { OnOk result (text.new.items ≡ text.old.items ++ reply_bytes reply.now) }
+/// One more, as far as 64 bits go.
+fn one_more(count: u64) -> u64
+    ensures { result ≡ min (count + 1) most_number }
 {
-    // The request itself has gone to the backend. This one wants its answer, as it did.
-    push_answer(text, &Request::Stats, reply)
+    if count == u64::MAX { count } else { count + 1 }
 }
 
 /// Answers that wait to be written, and how often the backend has answered in this session.
@@ -59,7 +58,7 @@ impl Answers {
         }
     }
 
-    /// Makes room for the answers to the next read. Much memory is given back.
+    /// Lets go of the text. The memory of a long one is given back.
     pub fn restart(&mut self, alloc: Global)
         ensures text { self.new.text.items ≡ [] }
         ensures calls { self.new.calls ≡ self.old.calls }
@@ -71,8 +70,7 @@ impl Answers {
         }
     }
 
-    /// Has a request answered, and appends the answer where the client wants it. False where the backend gives none. Where
-    /// memory was refused a part of the text may stand there.
+    /// Has a request answered, and appends the answer where the client wants it. False where the backend gives none.
     fn answer_request<R: Wait + Clock, B: Backend, G: Gate>(
         &mut self,
         rt: &R,
@@ -81,15 +79,14 @@ impl Answers {
         gate: &G,
         request: Request,
     ) -> Result<bool, AllocError>
-        requires { self.old.calls + 1 < 2 ^ 64 }
         ensures ok { IfOk result (λ done. MatchBool done (AnswersItem B.answers (Item.Request request) backend.old backend.new self.old self.new) (RefusesItem B.refuses (Item.Request request) backend.old backend.new self.old self.new)) }
-        ensures err { IfErr result (λ _. LosesAnswer B.answers (Item.Request request) backend.old backend.new) }
+        ensures err { IfErr result (λ _. LosesAnswer B.answers (Item.Request request) backend.old backend.new self.old self.new) }
     {
         let quiet = request.is_noreply();
         let Some(reply) = backend.act(rt, alloc, request) else {
             return Ok(false);
         };
-        self.calls += 1;
+        self.calls = one_more(self.calls);
         gate.pass(rt, self.calls);
         if !quiet {
             push_reply(&mut self.text, &reply)?;
@@ -106,9 +103,8 @@ impl Answers {
         gate: &G,
         item: Item,
     ) -> Result<bool, AllocError>
-        requires { self.old.calls + 1 < 2 ^ 64 }
         ensures ok { IfOk result (λ done. MatchBool done (AnswersItem B.answers item backend.old backend.new self.old self.new) (RefusesItem B.refuses item backend.old backend.new self.old self.new)) }
-        ensures err { IfErr result (λ _. LosesAnswer B.answers item backend.old backend.new) }
+        ensures err { IfErr result (λ _. LosesAnswer B.answers item backend.old backend.new self.old self.new) }
     {
         match item {
             Item::Request(request) => self.answer_request(rt, alloc, backend, gate, request),
@@ -128,9 +124,8 @@ impl Answers {
         gate: &G,
         items: Vec<Item>,
     ) -> Result<Course, AllocError>
-        requires { self.old.calls + length items.items < 2 ^ 64 }
         ensures ok { IfOk result (λ course. AnswersItems B.answers B.refuses course items.items backend.old backend.new self.old self.new) }
-        ensures err { IfErr result (λ _. LosesAnswers B.answers items.items backend.old backend.new) }
+        ensures err { IfErr result (λ _. LosesAnswers B.answers items.items backend.old backend.new self.old self.new) }
     {
         for item in items {
             let quits = asks_to_quit(&item);

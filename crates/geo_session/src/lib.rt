@@ -10,10 +10,12 @@
 mod answers;
 mod backend;
 mod bare;
+pub mod clock;
 mod end;
 mod fault;
 mod gate;
 mod output;
+mod serving;
 mod session;
 
 pub use backend::Backend;
@@ -21,7 +23,8 @@ pub use bare::Bare;
 pub use end::SessionEnd;
 pub use fault::SessionFault;
 pub use gate::{Gate, OpenGate};
-pub use session::serve;
+pub use serving::serve;
+pub use session::Session;
 
 #[cfg(test)]
 mod tests;

@@ -2,5 +2,5 @@ use Rattle.std.proofs.Common.{rules, append_assoc}
 use Rattle.std.proofs.lemmas.Result.{IfOk-equal}
 use Rattle.geo_grammar.proofs.texts.push_stats.Goals as goal
 
-pub returns : goal.returns
-returns c = search (rules, IfOk-equal, append_assoc)
+pub returns-clause-text : goal.returns-clause-text
+returns-clause-text c = search (rules, IfOk-equal, append_assoc)

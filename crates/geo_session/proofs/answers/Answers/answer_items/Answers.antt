@@ -1,10 +1,11 @@
-use Rattle.std.proofs.Common.{arith, refl, sym, ap, ◌∙◌, ◌≡◌, ◌++◌, ◌∷◌, [], true, false, List, length, cond, length-append}
+use Rattle.std.proofs.Common.{arith, refl, sym, ap, ◌∙◌, ◌≡◌, ◌++◌, ◌∷◌, [], true, false, List, length, cond}
 use Rattle.std.specs.Vec.Iter.{into_iter_items}
 use Rattle.geo_grammar.specs.declared.item.Item.{Item}
 use Rattle.geo_session.specs.Closings.{is_quit, until_quit}
+use Rattle.geo_session.specs.Exchanges.{count_after}
 use Rattle.geo_lattice.proofs.Showing.{rest_more, rest_none}
 use Rattle.geo_session.proofs.Lists.{on_err}
-use Rattle.geo_session.proofs.Talks.{Runs-append, one_acted, last_acted, next_left, all_acted, quits_in, came_more, has_quit-not, calls_in-one, Adds-then, Adds-same}
+use Rattle.geo_session.proofs.Talks.{Runs-append, one_acted, last_acted, next_left, all_acted, quits_in, came_more, has_quit-not, count_after-append, Adds-then, Adds-same}
 use Rattle.geo_session.proofs.answers.Answers.answer_items.Goals as goal
 
 pub returns-in_err-answer_item-clause-err : goal.returns-in_err-answer_item-clause-err
@@ -15,10 +16,13 @@ returns-in_err-answer_item-clause-err g c =
     let all : c.loop-item.yielded ++ (item ∷ rest) ≡ c.args.items.items = ap (λ (x : List Item). c.loop-item.yielded ++ x) (sym c.in-Some.ensures.steps.0) ∙ i.rest ∙ c.into_iter-item-iterator.ensures.into_iter_gives.0 in
     let h = c.in_err-answer_item.ensures.err in
     on_err c.from_residual.result _ (record {
-      done = i.done ++ h.exchange ∷ [];
+      done = i.done;
+      lost = h.exchange;
       left = cond (is_quit item) [] (until_quit rest);
       came = one_acted c.args.items.items c.loop-item.yielded rest item i.done h.exchange all i.goes_on i.came h.came;
       run = Runs-append g.B.Backend.answers i.done (h.exchange ∷ []) _ c.loop-item.backend _ i.run h.run;
+      text = h.text ∙ i.adds.text;
+      count = h.count ∙ ap (λ n. count_after n (h.exchange ∷ [])) i.adds.count ∙ sym (count_after-append c.args.self.now.calls i.done (h.exchange ∷ []));
     })
 
 pub returns-then-not-branch-clause-ok : goal.returns-then-not-branch-clause-ok
@@ -72,7 +76,6 @@ loop-item-preserved g c =
       goes_on = has_quit-not c.loop-item.yielded item i.goes_on goes;
       run = Runs-append g.B.Backend.answers i.done (h.exchange ∷ []) _ c.loop-item.backend _ i.run h.run;
       adds = Adds-then c.args.self.now c.loop-item.self c.answer_item.new.self i.done (h.exchange ∷ []) i.adds h.adds;
-      few = let few = i.few in let counted = h.adds.counted in let one = calls_in-one h.exchange in omega (arith, length-append c.loop-item.yielded (item ∷ []));
     }
 
 pub returns-clause-ok : goal.returns-clause-ok

@@ -1,4 +1,4 @@
-use Rattle.std.proofs.Common.{◌≡◌, ◌++◌, ◌+◌, ◌≤◌, false, List, length}
+use Rattle.std.proofs.Common.{◌≡◌, ◌++◌, false, List, length}
 use Rattle.std.specs.Vec.Iter.{into_iter_items, into_iter_len}
 use Rattle.geo_session.specs.Closings.{has_quit}
 use Rattle.geo_session.specs.Exchanges.{Exchange, items_in, Runs}
@@ -14,5 +14,4 @@ invariant-loop-item g l = record {
   goes_on : has_quit l.yielded ≡ false;
   run : Runs g.B.Backend.answers l.fn.backend done l.backend;
   adds : Adds l.fn.self l.self done;
-  few : l.self.calls ≤ l.fn.self.calls + length l.yielded;
 }

@@ -1,0 +1,65 @@
+-- A connection between two reads, and what one piece of its input does.
+use Rattle.std.specs.Prelude.{◌≡◌, ℕ, ◌≤◌, Bool, true, false, List, [], ◌∷◌, ◌++◌, length, Option, Some, None}
+use Rattle.geo_grammar.specs.Protocol.{items_of}
+use Rattle.geo_grammar.specs.declared.item.Item.{Item}
+use Rattle.geo_grammar.specs.declared.item.Item.TheVariants as item
+use Rattle.geo_grammar.specs.declared.reply.Reply.{Reply}
+use Rattle.geo_grammar.specs.declared.request.Request.{Request}
+use Rattle.geo_session.specs.Closings.{until_quit, StaysOpen, end_by}
+use Rattle.geo_session.specs.Exchanges.{Exchange, items_in, text_of, count_after, Runs}
+use Rattle.geo_session.specs.declared.end.SessionEnd.{SessionEnd}
+use Rattle.geo_session.specs.declared.fault.SessionFault.{SessionFault}
+use Rattle.geo_session.specs.declared.fault.SessionFault.TheVariants.{Read, Write, Memory, TooManyReads, Spent}
+
+-- all that came, the answers that are not written yet, how often the backend answered, and whether more is taken
+pub record Connection : Type 0 where
+  pub read : List ℕ
+  pub owed : List ℕ
+  pub answered : ℕ
+  pub goes_on : Bool
+
+abbrev pub new_connection : Connection
+new_connection = record { read = []; owed = []; answered = 0; goes_on = true }
+
+-- the backend did not answer the first of the items that are left
+pub record IsRefused {S : Type 0} (refuses : S → Request → S → Type 0) (left : List Item) (old new : S) : Type 0 where
+  pub request : Request
+  pub more : List Item
+  pub next : left ≡ item.Request request ∷ more
+  pub refused : refuses old request new
+
+-- a piece is answered: the items that it brings, up to a quit, by one run of the backend, and their text is owed behind what was
+pub record Answered {S : Type 0} (answers : S → Request → Reply → S → Type 0) (piece : List ℕ) (old new : Connection) (before after : S) : Type 0 where
+  pub exchanges : List Exchange
+  pub read : new.read ≡ old.read ++ piece
+  pub came : until_quit (items_of (old.read ++ piece)) ≡ items_of old.read ++ items_in exchanges
+  pub run : Runs answers before exchanges after
+  pub owed : new.owed ≡ old.owed ++ text_of exchanges
+  pub answered : new.answered ≡ count_after old.answered exchanges
+
+-- the end is that which these items bring
+abbrev pub IsEnd : List Item → Option SessionEnd → Type 0
+IsEnd items (Some end) = end_by items ≡ Some end
+IsEnd items None = StaysOpen items
+
+-- why a piece could not be answered whole: memory was wanted, for the text of the last answer or before it; or the backend gave none
+abbrev pub BreaksFor : {S : Type 0} → (S → Request → S → Type 0) → SessionFault → List Exchange → List Item → S → S → Type 0
+BreaksFor refuses Read lost left mid new = ⊥
+BreaksFor refuses Write lost left mid new = ⊥
+BreaksFor refuses Memory lost left mid new = (length lost ≤ 1) × (new ≡ mid)
+BreaksFor refuses TooManyReads lost left mid new = ⊥
+BreaksFor refuses Spent lost left mid new = (lost ≡ []) × IsRefused refuses left mid new
+
+-- a fault within a piece: the text of all that was answered is owed, but for an answer for which there was no memory, and no more
+-- is taken
+pub record Broken {S : Type 0} (answers : S → Request → Reply → S → Type 0) (refuses : S → Request → S → Type 0) (fault : SessionFault) (piece : List ℕ) (old new : Connection) (before after : S) : Type 0 where
+  pub done : List Exchange
+  pub lost : List Exchange
+  pub left : List Item
+  pub mid : S
+  pub came : until_quit (items_of (old.read ++ piece)) ≡ items_of old.read ++ (items_in (done ++ lost) ++ left)
+  pub run : Runs answers before (done ++ lost) mid
+  pub owed : new.owed ≡ old.owed ++ text_of done
+  pub answered : new.answered ≡ count_after old.answered (done ++ lost)
+  pub closed : new.goes_on ≡ false
+  pub why : BreaksFor refuses fault lost left mid after
