@@ -59,7 +59,10 @@ impl Kept {
     {
         let own = copied(&setup);
         let site = Site::new(alloc, setup)?;
-        let (Ok(counts), Ok(steps)) = (no_steps(alloc), Chunks::new(alloc)) else {
+        let Ok(counts) = no_steps(alloc) else {
+            return Err(SetupError::Memory);
+        };
+        let Ok(steps) = Chunks::new(alloc) else {
             return Err(SetupError::Memory);
         };
         let opening = Opening {

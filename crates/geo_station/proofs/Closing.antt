@@ -10,10 +10,12 @@ use Rattle.geo_station.specs.Seats.{Seated, FitsIn, IsLawful, DiffersFrom}
 use Rattle.geo_station.specs.Calls.{HasFlushed}
 
 pub lawful_of : (story : Story) (history : History) → IsHistoryOf story history → IsLawful history
-lawful_of story history is = ∥∥₁_map is.kept (λ k. (standing_in story.site,
-    subst (λ steps. Keeps (who_of history.setup) history.opening steps (standing_in story.site)) (sym is.steps)
-    (subst (λ opening. Keeps (who_of history.setup) opening story.steps (standing_in story.site)) (sym is.opening)
-    (subst (λ who. Keeps who story.opening story.steps (standing_in story.site)) (sym is.who) k))))
+lawful_of story history is = ∥∥₁_map is.kept (λ k. (
+  standing_in story.site,
+  subst (λ steps. Keeps (who_of history.setup) history.opening steps (standing_in story.site)) (sym is.steps)
+      (subst (λ opening. Keeps (who_of history.setup) opening story.steps (standing_in story.site)) (sym is.opening)
+      (subst (λ who. Keeps who story.opening story.steps (standing_in story.site)) (sym is.who) k)),
+))
 
 pub differs_of : (story : Story) (seats : List Seated) → ∥ IsKept story ∥₁ → (All (FitsIn story.steps) seats → ⊥) → DiffersFrom seats
 differs_of story seats kept unfit = ∥∥₁_map kept (λ k. (story, k, unfit))

@@ -40,9 +40,10 @@ calls_stay seat (x ∷ steps) s is = ap (λ (l : List Call). if is_call_of seat 
 -- one call more at the end of both
 pub ends_further : (e : Ending) (all kept : List Call) (c : Call) → EndsSo e all kept → EndsSo e (all ++ c ∷ []) (kept ++ c ∷ [])
 ends_further Whole all kept c same = ap (λ l. l ++ c ∷ []) same
-ends_further Tail all kept c ends =
-    ((ends.0.0, ap (λ l. l ++ c ∷ []) ends.0.1 ∙ append_assoc ends.0.0 kept (c ∷ [])),
-    λ same. ends.1 (append_cancel_right all kept (c ∷ []) same))
+ends_further Tail all kept c ends = (
+  (ends.0.0, ap (λ l. l ++ c ∷ []) ends.0.1 ∙ append_assoc ends.0.0 kept (c ∷ [])),
+  λ same. ends.1 (append_cancel_right all kept (c ∷ []) same),
+)
 ends_further Other all kept c differs =
     λ ends. differs (ends.0, append_cancel_right all (ends.0 ++ kept) (c ∷ []) (ends.1 ∙ sym (append_assoc ends.0 kept (c ∷ []))))
 

@@ -271,7 +271,13 @@ fn tied<L: Ledger, R: Wait>(
 #[test]
 fn what_another_site_tells_is_taken(rt: HostRuntime) -> Result<(), Fail> {
     let kept = opened(&rt, 1, 2)?;
-    let (values, refused, history) = tied::<Brand, _>(&rt, rt.alloc(), Blank::new(2), kept, other_site(&rt)?)?;
+    let (values, refused, history) = tied::<Brand, _>(
+        &rt,
+        rt.alloc(),
+        Blank::new(2),
+        kept,
+        other_site(&rt)?,
+    )?;
     assert_eq!(rt; values, [1, 0]);
     assert!(rt; refused);
     assert_eq!(rt; history.steps.len(), 6);

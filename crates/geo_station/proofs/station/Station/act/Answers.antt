@@ -4,7 +4,10 @@ use Rattle.geo_station.proofs.station.Station.act.Goals.{in_default-via-in-Ok+in
 use Rattle.geo_station.proofs.station.Station.act.Goals as goal
 
 pub returns-in_default-clause-acts : goal.returns-in_default-clause-acts
-returns-in_default-clause-acts g c = inr (refl, elim c.in_default.branch [
+returns-in_default-clause-acts g c = inr (
+  refl,
+  elim c.in_default.branch [
     | in_default-via-in-Ok+in_default w ↦ flushed_none c.args.seat.now _ (search rules)
     | in_default-via-in_default w ↦ flushed_none c.args.seat.now _ (search rules)
-  ])
+  ],
+)

@@ -10,9 +10,9 @@ pub returns-then-not-whole-clause-differs : goal.returns-then-not-whole-clause-d
 returns-then-not-whole-clause-differs g c = λ e.
     elim c.if-whole.branch [
       | then-whole w ↦ elim c.then-not-whole.branch [
-          | then-not-whole-via-then-not-whole v ↦ absurd (search rules)
-          | then-not-whole-via-else-not-whole+then-not-all_fit v ↦ (search rules, differs_of (story_in c.into_inner-desk.result.kept) c.args.seats.items c.into_inner-desk.result.kept.kept (subst (λ seats. All (FitsIn (story_in c.into_inner-desk.result.kept).steps) seats → ⊥) v.as_slice.ensures.value v.if-not-all_fit.ensures))
-        ]
+        | then-not-whole-via-then-not-whole v ↦ absurd (search rules)
+        | then-not-whole-via-else-not-whole+then-not-all_fit v ↦ (search rules, differs_of (story_in c.into_inner-desk.result.kept) c.args.seats.items c.into_inner-desk.result.kept.kept (subst (λ seats. All (FitsIn (story_in c.into_inner-desk.result.kept).steps) seats → ⊥) v.as_slice.ensures.value v.if-not-all_fit.ensures))
+      ]
       | else-whole w ↦ absurd (search rules)
     ]
 
