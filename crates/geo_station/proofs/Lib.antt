@@ -1,3 +1,5 @@
 pub mod Covers
 pub mod Endings
 pub mod Closing
+pub mod Lasts
+pub mod Counting

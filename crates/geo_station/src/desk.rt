@@ -128,9 +128,9 @@ impl<L: Ledger> Desk<L> {
         if self.is_spent(number, account) {
             return Err(Unmade::Spent);
         }
-        if self.tick(number, account, now).is_err() {
+        let Ok(_flushed) = self.tick(number, account, now) else {
             return Err(Unmade::Memory);
-        }
+        };
         if self.is_spent(number, account) {
             return Err(Unmade::Spent);
         }
