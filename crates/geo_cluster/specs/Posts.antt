@@ -1,7 +1,10 @@
 -- The sites of a script, each with the reader of its one client's bytes, and what each call of one does.
-use Rattle.std.specs.Prelude.{◌≡◌, ◌⊎◌, ℕ, ◌+◌, ◌||◌, Bool, false, if◌then◌else◌, List, length, slice_get, None, Some, Result}
+use Rattle.std.specs.Prelude.{◌≡◌, ◌⊎◌, ℕ, ◌+◌, ◌||◌, Bool, false, if◌then◌else◌, List, [], ◌++◌, length, slice_get, None, Some, Result}
 use Rattle.std.specs.Map.{lookup}
-use Rattle.geo_grammar.specs.Places.{Place, start_place, items_from, place_after, is_ended}
+use Rattle.std.specs.List.{list_any}
+use Rattle.geo_grammar.specs.Faults.{says_too_long}
+use Rattle.geo_grammar.specs.Protocol.{items_of}
+use Rattle.geo_grammar.specs.declared.item.Item.{Item}
 use Rattle.geo_delta.specs.declared.parcel.Parcel.{Parcel}
 use Rattle.geo_versions.specs.Keys.{same_key}
 use Rattle.geo_versions.specs.Maps.{Rising}
@@ -29,22 +32,24 @@ pub record IsOpened (number sites pages most reap : ℕ) (post : Post) : Type 0 
   pub limits : limits_of post.site ≡ record { max_records = most; reap_after = reap }
   pub counts : counts_in post.site ≡ none_counted
   pub waiting : waiting_in post.site ≡ None
-  pub reader : post.reader ≡ start_place
+  pub reader : post.reader ≡ []
   pub ended : post.ended ≡ false
 
 abbrev pub AreOpened : ℕ → ℕ → ℕ → ℕ → List Post → Type 0
 AreOpened sites pages most reap posts = (k : ℕ) (post : Post) → slice_get posts k ≡ Some post → IsOpened (k + 1) sites pages most reap post
 
--- where the reader stands to which a client's next bytes come: where the last connection has ended they open a new one
-abbrev pub place_in : Post → Place
-place_in post = if post.ended then start_place else post.reader
+-- what came on the connection that a client's next bytes go on with: where the last one has ended they open a new one
+abbrev pub text_in : Post → List ℕ
+text_in post = if post.ended then [] else post.reader
 
--- what comes from a client is read on from there, and the items that end in it are answered, up to a quit; a quit, or a line
--- that is too long, ends the connection
+-- the items that a client's bytes bring behind what came are answered, up to a quit; a quit, or a line that is too long, ends the
+-- connection
 pub record AnswersBytes (old : Post) (now : ℕ) (bytes answer : List ℕ) (new : Post) : Type 0 where
-  pub reader : new.reader ≡ place_after (place_in old) bytes
-  pub items : AnswersItems old.site now (until_quit (items_from (place_in old) bytes)) answer new.site
-  pub ended : new.ended ≡ (has_quit (items_from (place_in old) bytes) || is_ended (place_after (place_in old) bytes))
+  pub brought : List Item
+  pub brings : items_of (text_in old ++ bytes) ≡ items_of (text_in old) ++ brought
+  pub reader : new.reader ≡ text_in old ++ bytes
+  pub items : AnswersItems old.site now (until_quit brought) answer new.site
+  pub ended : new.ended ≡ (has_quit brought || list_any says_too_long (items_of (text_in old ++ bytes)))
 
 -- a parcel is taken, or refused for a cause that holds and changes nothing; neither counts a hit or a miss, nor moves a flush
 -- that waits

@@ -21,14 +21,16 @@ pub record Adds (before after : Answers) (exchanges : List Exchange) : Type 0 wh
   pub count : after.calls ≡ count_after before.calls exchanges
 
 -- an item was answered
-pub record AnswersItem {S : Type 0} (answers : S → Request → Reply → S → Type 0) (item : Item) (old new : S) (before after : Answers) : Type 0 where
+pub record AnswersItem {S : Type 0} (answers : S → Request → Reply → S → Type 0) (item : Item) (old new : S) (before after : Answers) :
+    Type 0 where
   pub exchange : Exchange
   pub came : item_in exchange ≡ item
   pub run : Runs answers old (exchange ∷ []) new
   pub adds : Adds before after (exchange ∷ [])
 
 -- an item was answered, and memory was refused for the text
-pub record LosesAnswer {S : Type 0} (answers : S → Request → Reply → S → Type 0) (item : Item) (old new : S) (before after : Answers) : Type 0 where
+pub record LosesAnswer {S : Type 0} (answers : S → Request → Reply → S → Type 0) (item : Item) (old new : S) (before after : Answers) :
+    Type 0 where
   pub exchange : Exchange
   pub came : item_in exchange ≡ item
   pub run : Runs answers old (exchange ∷ []) new
@@ -49,7 +51,8 @@ IsCourse refuses Quits items left mid new = (has_quit items ≡ true) × (left �
 IsCourse refuses Spent items left mid new = IsRefused refuses left mid new
 
 -- items up to a quit were answered, or a beginning of them where the backend refused the next one
-pub record AnswersItems {S : Type 0} (answers : S → Request → Reply → S → Type 0) (refuses : S → Request → S → Type 0) (course : Course) (items : List Item) (old new : S) (before after : Answers) : Type 0 where
+pub record AnswersItems {S : Type 0} (answers : S → Request → Reply → S → Type 0) (refuses : S → Request → S → Type 0) (course : Course)
+    (items : List Item) (old new : S) (before after : Answers) : Type 0 where
   pub done : List Exchange
   pub left : List Item
   pub mid : S
@@ -59,7 +62,8 @@ pub record AnswersItems {S : Type 0} (answers : S → Request → Reply → S �
   pub course_is : IsCourse refuses course items left mid new
 
 -- a beginning of them was answered, and memory was refused for the text of the last
-pub record LosesAnswers {S : Type 0} (answers : S → Request → Reply → S → Type 0) (items : List Item) (old new : S) (before after : Answers) : Type 0 where
+pub record LosesAnswers {S : Type 0} (answers : S → Request → Reply → S → Type 0) (items : List Item) (old new : S) (before after :
+    Answers) : Type 0 where
   pub done : List Exchange
   pub lost : Exchange
   pub left : List Item
@@ -69,7 +73,8 @@ pub record LosesAnswers {S : Type 0} (answers : S → Request → Reply → S �
   pub count : after.calls ≡ count_after before.calls (done ++ lost ∷ [])
 
 -- a piece behind a text was answered
-pub record AnsweredBy {S : Type 0} (answers : S → Request → Reply → S → Type 0) (piece text next : List ℕ) (old new : Answers) (before after : S) : Type 0 where
+pub record AnsweredBy {S : Type 0} (answers : S → Request → Reply → S → Type 0) (piece text next : List ℕ) (old new : Answers) (before
+    after : S) : Type 0 where
   pub exchanges : List Exchange
   pub read : next ≡ text ++ piece
   pub came : until_quit (items_of (text ++ piece)) ≡ items_of text ++ items_in exchanges
@@ -77,7 +82,8 @@ pub record AnsweredBy {S : Type 0} (answers : S → Request → Reply → S → 
   pub adds : Adds old new exchanges
 
 -- a fault came within it
-pub record BrokenBy {S : Type 0} (answers : S → Request → Reply → S → Type 0) (refuses : S → Request → S → Type 0) (fault : SessionFault) (piece text : List ℕ) (old new : Answers) (before after : S) : Type 0 where
+pub record BrokenBy {S : Type 0} (answers : S → Request → Reply → S → Type 0) (refuses : S → Request → S → Type 0) (fault :
+    SessionFault) (piece text : List ℕ) (old new : Answers) (before after : S) : Type 0 where
   pub done : List Exchange
   pub lost : List Exchange
   pub left : List Item
@@ -89,14 +95,16 @@ pub record BrokenBy {S : Type 0} (answers : S → Request → Reply → S → Ty
   pub why : BreaksFor refuses fault lost left mid after
 
 -- a piece behind a text was answered, and its answers are written
-pub record Served {S : Type 0} (answers : S → Request → Reply → S → Type 0) (piece text : List ℕ) (old new : S) (before after : Option (List ℕ)) : Type 0 where
+pub record Served {S : Type 0} (answers : S → Request → Reply → S → Type 0) (piece text : List ℕ) (old new : S) (before after : Option
+    (List ℕ)) : Type 0 where
   pub exchanges : List Exchange
   pub came : until_quit (items_of (text ++ piece)) ≡ items_of text ++ items_in exchanges
   pub run : Runs answers old exchanges new
   pub written : Appends before after (text_of exchanges)
 
 -- a fault ended the session within it
-pub record ServedPart {S : Type 0} (answers : S → Request → Reply → S → Type 0) (refuses : S → Request → S → Type 0) (fault : SessionFault) (piece text : List ℕ) (old new : S) (before after : Option (List ℕ)) : Type 0 where
+pub record ServedPart {S : Type 0} (answers : S → Request → Reply → S → Type 0) (refuses : S → Request → S → Type 0) (fault :
+    SessionFault) (piece text : List ℕ) (old new : S) (before after : Option (List ℕ)) : Type 0 where
   pub done : List Exchange
   pub lost : List Exchange
   pub left : List Item

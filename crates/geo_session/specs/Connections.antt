@@ -29,7 +29,8 @@ pub record IsRefused {S : Type 0} (refuses : S → Request → S → Type 0) (le
   pub refused : refuses old request new
 
 -- a piece is answered: the items that it brings, up to a quit, by one run of the backend, and their text is owed behind what was
-pub record Answered {S : Type 0} (answers : S → Request → Reply → S → Type 0) (piece : List ℕ) (old new : Connection) (before after : S) : Type 0 where
+pub record Answered {S : Type 0} (answers : S → Request → Reply → S → Type 0) (piece : List ℕ) (old new : Connection) (before after : S)
+    : Type 0 where
   pub exchanges : List Exchange
   pub read : new.read ≡ old.read ++ piece
   pub came : until_quit (items_of (old.read ++ piece)) ≡ items_of old.read ++ items_in exchanges
@@ -52,7 +53,8 @@ BreaksFor refuses Spent lost left mid new = (lost ≡ []) × IsRefused refuses l
 
 -- a fault within a piece: the text of all that was answered is owed, but for an answer for which there was no memory, and no more
 -- is taken
-pub record Broken {S : Type 0} (answers : S → Request → Reply → S → Type 0) (refuses : S → Request → S → Type 0) (fault : SessionFault) (piece : List ℕ) (old new : Connection) (before after : S) : Type 0 where
+pub record Broken {S : Type 0} (answers : S → Request → Reply → S → Type 0) (refuses : S → Request → S → Type 0) (fault : SessionFault)
+    (piece : List ℕ) (old new : Connection) (before after : S) : Type 0 where
   pub done : List Exchange
   pub lost : List Exchange
   pub left : List Item
@@ -63,3 +65,8 @@ pub record Broken {S : Type 0} (answers : S → Request → Reply → S → Type
   pub answered : new.answered ≡ count_after old.answered (done ++ lost)
   pub closed : new.goes_on ≡ false
   pub why : BreaksFor refuses fault lost left mid after
+
+-- what a session keeps: no more was sent than there is, and while it goes on nothing that came has ended it
+pub record IsSession (read : List ℕ) (sent : ℕ) (text : List ℕ) (goes_on : Bool) : Type 0 where
+  pub within : sent ≤ length text
+  pub stays : goes_on ≡ true → StaysOpen (items_of read)

@@ -4,3 +4,4 @@ pub mod Connections
 pub mod Sessions
 pub mod Batches
 pub mod Bares
+pub mod Seats

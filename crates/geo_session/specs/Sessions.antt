@@ -36,7 +36,8 @@ IsDue LineTooLong items left = (has_quit items ≡ false) × (has_long_line item
 
 -- a session that ended: the items up to a quit are answered, the replies are those of one run of the backend, and their text is
 -- written. What was read is what came before the last read, which ended nothing, and what that brought
-pub record Ended {S : Type 0} (answers : S → Request → Reply → S → Type 0) (end : SessionEnd) (old new : S) (had left before after : Option (List ℕ)) : Type 0 where
+pub record Ended {S : Type 0} (answers : S → Request → Reply → S → Type 0) (end : SessionEnd) (old new : S) (had left before after :
+    Option (List ℕ)) : Type 0 where
   pub earlier : List ℕ
   pub piece : List ℕ
   pub exchanges : List Exchange
@@ -57,7 +58,8 @@ pub record AllWritten {S : Type 0} (all : List Item) (lost : List Exchange) (lef
   pub stays : new ≡ mid
 
 -- why a session stopped, by the answer for which there was no memory, the items that were not answered, and what is owed still
-abbrev pub StopsFor : {S : Type 0} → (S → Request → S → Type 0) → SessionFault → List ℕ → List Item → List Exchange → List Item → List ℕ → S → S → Type 0
+abbrev pub StopsFor : {S : Type 0} → (S → Request → S → Type 0) → SessionFault → List ℕ → List Item → List Exchange → List Item → List ℕ
+    → S → S → Type 0
 StopsFor refuses Read bytes all lost left rest mid new = AllWritten all lost left rest mid new
 StopsFor refuses Write bytes all lost left rest mid new = (length lost ≤ 1) × ((new ≡ mid) ⊎ IsRefused refuses left mid new)
 StopsFor refuses Memory bytes all lost left rest mid new = (rest ≡ []) × BreaksFor refuses Memory lost left mid new
@@ -66,7 +68,8 @@ StopsFor refuses Spent bytes all lost left rest mid new = (rest ≡ []) × Break
 
 -- a session that a fault ended. The items before the last read are answered and their text is written; of what that brought, up to a
 -- quit, a beginning is answered, and of that text a beginning is written
-pub record Stopped {S : Type 0} (answers : S → Request → Reply → S → Type 0) (refuses : S → Request → S → Type 0) (fault : SessionFault) (old new : S) (had has before after : Option (List ℕ)) : Type 0 where
+pub record Stopped {S : Type 0} (answers : S → Request → Reply → S → Type 0) (refuses : S → Request → S → Type 0) (fault : SessionFault)
+    (old new : S) (had has before after : Option (List ℕ)) : Type 0 where
   pub earlier : List ℕ
   pub piece : List ℕ
   pub said : List Exchange

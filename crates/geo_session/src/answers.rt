@@ -79,7 +79,8 @@ impl Answers {
         gate: &G,
         request: Request,
     ) -> Result<bool, AllocError>
-        ensures ok { IfOk result (λ done. MatchBool done (AnswersItem B.answers (Item.Request request) backend.old backend.new self.old self.new) (RefusesItem B.refuses (Item.Request request) backend.old backend.new self.old self.new)) }
+        ensures ok { IfOk result (λ done. MatchBool done (AnswersItem B.answers (Item.Request request) backend.old backend.new self.old
+            self.new) (RefusesItem B.refuses (Item.Request request) backend.old backend.new self.old self.new)) }
         ensures err { IfErr result (λ _. LosesAnswer B.answers (Item.Request request) backend.old backend.new self.old self.new) }
     {
         let quiet = request.is_noreply();
@@ -103,7 +104,8 @@ impl Answers {
         gate: &G,
         item: Item,
     ) -> Result<bool, AllocError>
-        ensures ok { IfOk result (λ done. MatchBool done (AnswersItem B.answers item backend.old backend.new self.old self.new) (RefusesItem B.refuses item backend.old backend.new self.old self.new)) }
+        ensures ok { IfOk result (λ done. MatchBool done (AnswersItem B.answers item backend.old backend.new self.old self.new)
+            (RefusesItem B.refuses item backend.old backend.new self.old self.new)) }
         ensures err { IfErr result (λ _. LosesAnswer B.answers item backend.old backend.new self.old self.new) }
     {
         match item {

@@ -1,7 +1,6 @@
 //! A session from its first byte to its end.
 ghost use Rattle.std.specs.Prelude.{◌≡◌, ◌<◌, ◌≤◌, ◌++◌, [], true, false, vec_len, is_none, IfErr, IfOk, OnOk};
 ghost use Rattle.geo_grammar.specs.Protocol.{items_of};
-ghost use Rattle.geo_session.specs.Closings.{StaysOpen};
 ghost use Rattle.geo_session.specs.Connections.{IsEnd};
 ghost use Rattle.geo_session.specs.Sessions.{longest_piece, Ended, Stopped, blames_reader, blames_writer};
 ghost use Rattle.geo_session.specs.Batches.{Served, ServedPart};
@@ -61,14 +60,15 @@ fn serve_piece<R: Wait + Clock, O: Write, B: Backend, G: Gate>(
     piece: &[u8],
 ) -> Result<Option<SessionEnd>, SessionFault>
     requires goes_on { session.old.goes_on ≡ true }
-    requires stays { StaysOpen (items_of session.old.read) }
     requires paid { session.old.owed ≡ [] }
-    ensures ok { IfOk result (λ _. Served B.answers piece.now session.old.read backend.old backend.new (O.contents writer.old.inner) (O.contents writer.new.inner)) }
+    ensures ok { IfOk result (λ _. Served B.answers piece.now session.old.read backend.old backend.new (O.contents writer.old.inner)
+        (O.contents writer.new.inner)) }
     ensures read { OnOk result (session.new.read ≡ session.old.read ++ piece.now) }
     ensures paid { OnOk result (session.new.owed ≡ []) }
     ensures end { IfOk result (λ end. IsEnd (items_of session.new.read) end) }
     ensures goes_on { IfOk result (λ end. session.new.goes_on ≡ is_none end) }
-    ensures err { IfErr result (λ fault. ServedPart B.answers B.refuses fault piece.now session.old.read backend.old backend.new (O.contents writer.old.inner) (O.contents writer.new.inner)) }
+    ensures err { IfErr result (λ fault. ServedPart B.answers B.refuses fault piece.now session.old.read backend.old backend.new
+        (O.contents writer.old.inner) (O.contents writer.new.inner)) }
     ensures unread { blames_reader result ≡ false }
     ensures blames { writer.old.failed ≡ false → writer.new.failed ≡ blames_writer result }
 {
@@ -90,8 +90,10 @@ pub fn serve<R: Wait + Clock, I: Read, O: Write, B: Backend, G: Gate>(
     backend: &mut B,
     gate: &G,
 ) -> Result<SessionEnd, SessionFault>
-    ensures ended { IfOk result (λ end. Ended B.answers end backend.old backend.new (I.remaining reader.old.inner) (I.remaining reader.new.inner) (O.contents writer.old.inner) (O.contents writer.new.inner)) }
-    ensures stopped { IfErr result (λ fault. Stopped B.answers B.refuses fault backend.old backend.new (I.remaining reader.old.inner) (I.remaining reader.new.inner) (O.contents writer.old.inner) (O.contents writer.new.inner)) }
+    ensures ended { IfOk result (λ end. Ended B.answers end backend.old backend.new (I.remaining reader.old.inner) (I.remaining
+        reader.new.inner) (O.contents writer.old.inner) (O.contents writer.new.inner)) }
+    ensures stopped { IfErr result (λ fault. Stopped B.answers B.refuses fault backend.old backend.new (I.remaining reader.old.inner)
+        (I.remaining reader.new.inner) (O.contents writer.old.inner) (O.contents writer.new.inner)) }
     ensures reads { reader.old.failed ≡ false → reader.new.failed ≡ blames_reader result }
     ensures writes { writer.old.failed ≡ false → writer.new.failed ≡ blames_writer result }
 {

@@ -31,14 +31,20 @@ pub struct Session {
 }
 
 impl Model for Session {
-    ghost use Rattle.std.specs.Prelude.{◌≤◌, length, drop};
-    ghost use Rattle.geo_session.specs.Connections.{Connection};
+    ghost use Rattle.std.specs.Prelude.{drop};
+    ghost use Rattle.geo_session.specs.Connections.{Connection, IsSession};
 
     ghost Value = { Connection };
 
-    ghost view = { λ s. record { read = s.requests; owed = drop s.sent s.answers.text.items; answered = s.answers.calls; goes_on = s.goes_on } };
+    ghost view = { λ s. record {
+      read = s.requests;
+      owed = drop s.sent s.answers.text.items;
+      answered = s.answers.calls;
+      goes_on =
+          s.goes_on;
+    } };
 
-    ghost invariant = { λ s. s.sent ≤ length s.answers.text.items };
+    ghost invariant = { λ s. IsSession s.requests s.sent s.answers.text.items s.goes_on };
 }
 
 /// Answers what a piece brings.
@@ -52,9 +58,11 @@ fn answer_piece<R: Wait + Clock, B: Backend, G: Gate>(
     piece: &[u8],
 ) -> Result<Option<SessionEnd>, SessionFault>
     requires { StaysOpen (items_of requests.old) }
-    ensures ok { IfOk result (λ _. AnsweredBy B.answers piece.now requests.old requests.new answers.old answers.new backend.old backend.new) }
+    ensures ok { IfOk result (λ _. AnsweredBy B.answers piece.now requests.old requests.new answers.old answers.new backend.old
+        backend.new) }
     ensures end { IfOk result (λ end. IsEnd (items_of requests.new) end) }
-    ensures err { IfErr result (λ fault. BrokenBy B.answers B.refuses fault piece.now requests.old answers.old answers.new backend.old backend.new) }
+    ensures err { IfErr result (λ fault. BrokenBy B.answers B.refuses fault piece.now requests.old answers.old answers.new backend.old
+        backend.new) }
 {
     items_of_longer();
     let items = requests.feed(piece)?;
@@ -121,8 +129,7 @@ impl Session {
         gate: &G,
         piece: &[u8],
     ) -> Result<Option<SessionEnd>, SessionFault>
-        requires goes_on { self.old.goes_on ≡ true }
-        requires stays { StaysOpen (items_of self.old.read) }
+        requires { self.old.goes_on ≡ true }
         ensures ok { IfOk result (λ _. Answered B.answers piece.now self.old self.new backend.old backend.new) }
         ensures end { IfOk result (λ end. IsEnd (items_of self.new.read) end) }
         ensures goes_on { IfOk result (λ end. self.new.goes_on ≡ is_none end) }

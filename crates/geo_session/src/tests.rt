@@ -1,5 +1,6 @@
 //! What no clause says: that sessions run where there is memory, what clients read, worked out by hand, and what gates see.
 mod devices;
+mod shared;
 mod talks;
 
 use crate::{Backend, Bare, Gate, SessionEnd, SessionFault, serve};

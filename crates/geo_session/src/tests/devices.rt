@@ -1,5 +1,5 @@
 //! Readers and writers that fail, and when is written.
-use super::{Idle, Sink, Source, bare};
+use super::{Idle, Recorder, Sink, Source, bare};
 use crate::{OpenGate, SessionEnd, SessionFault, serve};
 use geo_grammar::Device;
 use std::hash::RandomState;
@@ -13,7 +13,7 @@ const WRITTEN: &[u8] = b"STORED\r\nVALUE a 0 2\r\nhi\r\nEND\r\nERROR\r\n";
 
 #[test]
 fn writes_a_beginning_where_the_reader_fails(rt: HostRuntime) -> Result<(), Fail> {
-    for reads in 0..36 {
+    for reads in 0..51 {
         let mut reader = Device::new(Source {
             left: INPUT,
             size: 1,
@@ -49,7 +49,7 @@ fn writes_a_beginning_where_the_reader_fails(rt: HostRuntime) -> Result<(), Fail
 
 #[test]
 fn writes_a_beginning_where_the_writer_fails(rt: HostRuntime) -> Result<(), Fail> {
-    for writes in 0..39 {
+    for writes in 0..51 {
         let mut reader = Device::new(Source {
             left: INPUT,
             size: 100,
@@ -171,5 +171,53 @@ fn answers_before_it_reads_on(rt: HostRuntime) -> Result<(), Fail> {
     );
     assert!(rt; outcome == Ok(SessionEnd::EndOfInput));
     assert_eq!(rt; backend.left, 6);
+    Ok(())
+}
+
+/// A writer that notes which answers had passed the gate when it was first asked to write.
+#[derive(Drop)]
+struct Late<'a> {
+    passed: &'a AtomicU64,
+    seen: u64,
+}
+
+impl Write for Late<'_> {
+    fn write(&mut self, buf: &[u8]) -> IoResult<usize> {
+        if self.seen == 0 {
+            self.seen = self.passed.load(Ordering::SeqCst);
+        }
+        Ok(buf.len())
+    }
+
+    fn flush(&mut self) -> IoResult<()> {
+        Ok(())
+    }
+}
+
+#[test]
+fn passes_the_gate_before_it_writes(rt: HostRuntime) -> Result<(), Fail> {
+    let gate = Recorder {
+        numbers: AtomicU64::new(0),
+    };
+    let mut reader = Device::new(Source {
+        left: INPUT,
+        size: 100,
+        reads: 100,
+    });
+    let mut writer = Device::new(Late {
+        passed: &gate.numbers,
+        seen: 0,
+    });
+    let mut backend = Idle { left: 9 };
+    let outcome = serve(
+        &rt,
+        rt.alloc(),
+        &mut reader,
+        &mut writer,
+        &mut backend,
+        &gate,
+    );
+    assert!(rt; outcome == Ok(SessionEnd::EndOfInput));
+    assert_eq!(rt; writer.into_inner().seen, 12);
     Ok(())
 }

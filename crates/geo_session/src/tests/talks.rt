@@ -1,6 +1,6 @@
 //! What clients say and read.
 use super::{Idle, Recorder, bare, served};
-use crate::{OpenGate, SessionEnd, SessionFault};
+use crate::{OpenGate, Session, SessionEnd, SessionFault};
 use std::hash::RandomState;
 use std::sync::atomic::{AtomicU64, Ordering};
 use std::test::Fail;
@@ -168,5 +168,20 @@ fn a_bare_site_can_be_looked_at_and_taken_out(rt: HostRuntime) -> Result<(), Fai
     assert!(rt; outcome == Ok(SessionEnd::EndOfInput));
     assert_eq!(rt; backend.site().records(), 1);
     assert_eq!(rt; backend.into_site().items(), 1);
+    Ok(())
+}
+
+#[test]
+fn a_session_can_be_carried_by_hand(rt: HostRuntime) -> Result<(), Fail> {
+    let mut backend = Idle { left: 9 };
+    let mut session = Session::new(rt.alloc());
+    let input = b"version\r\nquit\r\nversion\r\n".as_slice();
+    let end = session.take(&rt, rt.alloc(), &mut backend, &OpenGate, input);
+    assert!(rt; end == Ok(Some(SessionEnd::Quit)));
+    assert!(rt; !session.goes_on());
+    assert_eq!(rt; session.owed(), b"OK\r\nOK\r\n".as_slice());
+    let all = session.owed().len();
+    session.sent(all);
+    assert!(rt; session.owed().is_empty());
     Ok(())
 }

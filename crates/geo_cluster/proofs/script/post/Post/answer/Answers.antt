@@ -15,6 +15,8 @@ loop-item-preserved c =
     let new = c.answer_item.new.site in
     let more : take (i + 1) items ≡ take i items ++ item ∷ [] = take_more items i item c.loop-item-test.true ∙ ap (λ x. take i items ++ x ∷ []) (sym c.item-item.is) in
     record {
+      brought = c.loop-item.invariant.brought;
+      brings = c.loop-item.invariant.brings;
       items = c.loop-item.invariant.items;
       reader = c.loop-item.invariant.reader;
       ended = c.loop-item.invariant.ended;

@@ -1,0 +1,39 @@
+-- A seat at a shared site, with a seat of a tally.
+use Rattle.std.specs.Prelude.{◌≡◌, ◌⊎◌, ◌≤◌, ◌^◌, ℕ, true, [], nat_le, length, if◌then◌else◌, Result, Ok, Err}
+use Rattle.geo_grammar.specs.declared.reply.Reply.{Reply}
+use Rattle.geo_grammar.specs.declared.request.Request.{Request}
+use Rattle.geo_station.specs.Calls.{ActsBy}
+use Rattle.geo_station.specs.Seats.{Seated}
+use Rattle.geo_station.specs.declared.refusal.SeatSpent.{SeatSpent}
+use Rattle.geo_tally.specs.Seats.{SeatView, added, adds_of}
+use Rattle.geo_tally.specs.Words.{most_adds}
+use Rattle.geo_tally.specs.declared.counter.Counter.{Counter}
+use Rattle.geo_tally.specs.declared.counter.Counter.TheVariants.{Requests}
+
+-- a seat that keeps that many calls lets go of them before the next one
+abbrev pub most_kept : ℕ
+most_kept = 1024
+
+abbrev pub trimmed : Seated → Seated
+trimmed seat = if nat_le most_kept (length seat.calls) then record seat { calls = []; forgot = true } else seat
+
+-- the station answers at some moment
+pub record ActsAtSomeMoment (old new : Seated) (request : Request) (outcome : Result Reply SeatSpent) : Type 0 where
+  pub moment : ℕ
+  pub least : 1 ≤ moment
+  pub most : moment ≤ 2 ^ 40
+  pub acts : ActsBy (trimmed old) new moment request outcome
+
+-- one is added to a counter, or nothing where the seat has added 2^40 times
+abbrev pub CountsOne : Counter → SeatView → SeatView → Type 0
+CountsOne counter old new = (new ≡ added counter old) ⊎ ((adds_of old ≡ most_adds) × (new ≡ old))
+
+-- a request is answered, and counted
+pub record AnswersCounted (old new : Seated) (counts counts_after : SeatView) (request : Request) (reply : Reply) : Type 0 where
+  pub acts : ActsAtSomeMoment old new request (Ok reply)
+  pub counted : CountsOne Requests counts counts_after
+
+-- a spent seat answers nothing
+pub record RefusesCounted (old new : Seated) (counts counts_after : SeatView) (request : Request) (spent : SeatSpent) : Type 0 where
+  pub acts : ActsAtSomeMoment old new request (Err spent)
+  pub counted : CountsOne Requests counts counts_after

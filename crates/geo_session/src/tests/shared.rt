@@ -1,0 +1,176 @@
+//! Sessions at one station.
+ghost use Rattle.std.specs.Prelude.{◌≡◌, ℕ, [], IfOk};
+ghost use Rattle.geo_history.specs.Keeping.{opened_with};
+ghost use Rattle.geo_history.specs.Stories.{story_in};
+
+use super::served;
+use crate::clock::Clock;
+use crate::{Counted, Gate, OpenGate, SessionEnd};
+use geo_history::Kept;
+use geo_site::Setup;
+use geo_station::Station;
+use geo_tally::{Counter, Tally, TallySeat};
+use std::alloc::Global;
+use std::hash::RandomState;
+use std::marker::Brand;
+use std::rt;
+use std::sync::Wait;
+use std::sync::atomic::{AtomicU64, Ordering};
+use std::sync::ledger::{Blank, Ledger};
+use std::test::Fail;
+use std::thread::{self, Threads, join};
+use std::time::Duration;
+
+/// A clock that stands still.
+#[derive(Drop)]
+struct Noon;
+
+impl Clock for Noon {
+    fn now<R: rt::Clock>(&self, _rt: &R) -> u64 {
+        100
+    }
+}
+
+/// The first pass waits until a second has come.
+#[derive(Drop)]
+struct Meeting {
+    passes: AtomicU64,
+    missed: AtomicU64,
+}
+
+impl Gate for Meeting {
+    fn pass<R: Wait + rt::Clock>(&self, rt: &R, _call: u64) {
+        if self.passes.fetch_add(1, Ordering::SeqCst) > 0 {
+            return;
+        }
+        for _turn in 0..10_000 {
+            if self.passes.load(Ordering::SeqCst) > 1 {
+                return;
+            }
+            thread::sleep(rt, Duration::from_millis(1));
+        }
+        self.missed.store(1, Ordering::SeqCst);
+    }
+}
+
+/// A site that knows nothing.
+fn opened(rt: &HostRuntime) -> Result<Kept, Fail>
+    ensures steps { IfOk result (λ kept. (story_in kept).steps ≡ []) }
+    ensures opening { IfOk result (λ kept. (seat : ℕ) → opened_with (story_in kept).opening seat ≡ 0) }
+{
+    let setup = Setup {
+        site: 1,
+        sites: 1,
+        pages: 15,
+        max_records: 1000,
+        reap_after: 60,
+        hasher: RandomState::new(rt)?,
+    };
+    match Kept::new(rt.alloc(), setup) {
+        Ok(kept) => Ok(kept),
+        Err(_) => Err("no site".into()),
+    }
+}
+
+/// A tally and two seats of it.
+fn tallied(alloc: Global) -> Result<(Tally, TallySeat, TallySeat), Fail>
+    ensures first { IfOk result (λ r. r.1.tally ≡ r.0.tally) }
+    ensures second { IfOk result (λ r. r.2.tally ≡ r.0.tally) }
+{
+    let (tally, mut seats) = Tally::new(alloc, 2).ok().ok_or("no tally")?;
+    let second = seats.pop().ok_or("no seat")?;
+    let first = seats.pop().ok_or("no seat")?;
+    Ok((tally, first, second))
+}
+
+/// Whether a client that asks for the version and quits is answered so.
+fn talk<L: Ledger, R: Wait + rt::Clock>(
+    rt: &R,
+    alloc: Global,
+    gate: &Meeting,
+    mut backend: Counted<'_, L, Noon>,
+) -> bool {
+    let (written, outcome) = served(rt, alloc, b"version\r\nquit\r\n", 100, &mut backend, gate);
+    outcome == Ok(SessionEnd::Quit) && written.as_slice() == b"VERSION 1.0.0\r\n".as_slice()
+}
+
+/// Whether two clients are, each by a thread of its own.
+fn both<L: Ledger + Send + Sync, R: Threads + Wait + rt::Clock + Sync>(
+    rt: &R,
+    alloc: Global,
+    blank: Blank,
+    kept: Kept,
+    gate: &Meeting,
+) -> Result<(bool, bool), Fail>
+    requires name { blank.name ≡ L.name }
+    requires parts { blank.parts ≡ L.parts }
+    requires two { blank.parts ≡ 2 }
+    requires steps { (story_in kept).steps ≡ [] }
+    requires opening { (seat : ℕ) → opened_with (story_in kept).opening seat ≡ 0 }
+{
+    let station = Station::<L>::new(blank, kept, 2).ok().ok_or("no station")?;
+    let one = station.seat(rt, alloc).ok().ok_or("no seat")?;
+    let two = station.seat(rt, alloc).ok().ok_or("no seat")?;
+    let (tally, first, second) = tallied(alloc)?;
+    let one = Counted::new(&station, one, &Noon, &tally, first);
+    let two = Counted::new(&station, two, &Noon, &tally, second);
+    Ok(join(
+        rt,
+        || -> bool { talk(rt, alloc, gate, one) },
+        || -> bool { talk(rt, alloc, gate, two) },
+    ))
+}
+
+#[test]
+fn two_sessions_run_at_once(rt: HostRuntime) -> Result<(), Fail> {
+    let gate = Meeting {
+        passes: AtomicU64::new(0),
+        missed: AtomicU64::new(0),
+    };
+    let kept = opened(&rt)?;
+    let right = both::<Brand, _>(&rt, rt.alloc(), Blank::new(2), kept, &gate)?;
+    assert_eq!(rt; right, (true, true));
+    assert_eq!(rt; gate.missed.load(Ordering::SeqCst), 0);
+    Ok(())
+}
+
+/// What a client reads, and how many requests and sessions are counted then.
+fn counted<L: Ledger, R: Wait + rt::Clock>(
+    rt: &R,
+    alloc: Global,
+    blank: Blank,
+    kept: Kept,
+) -> Result<(Vec<u8>, u64, u64), Fail>
+    requires name { blank.name ≡ L.name }
+    requires parts { blank.parts ≡ L.parts }
+    requires two { blank.parts ≡ 2 }
+    requires steps { (story_in kept).steps ≡ [] }
+    requires opening { (seat : ℕ) → opened_with (story_in kept).opening seat ≡ 0 }
+{
+    let station = Station::<L>::new(blank, kept, 2).ok().ok_or("no station")?;
+    let seat = station.seat(rt, alloc).ok().ok_or("no seat")?;
+    let (tally, first, mut second) = tallied(alloc)?;
+    let mut backend = Counted::new(&station, seat, &Noon, &tally, first);
+    let input = b"set a 0 0 2 noreply\r\nhi\r\nnonsense\r\nget a\r\nquit\r\nget a\r\n";
+    let (written, _) = served(rt, alloc, input, 7, &mut backend, &OpenGate);
+    backend.count(Counter::Sessions);
+    let requests = tally.read(&mut second, Counter::Requests);
+    Ok((
+        written,
+        requests,
+        tally.read(&mut second, Counter::Sessions),
+    ))
+}
+
+#[test]
+fn requests_are_counted(rt: HostRuntime) -> Result<(), Fail> {
+    let kept = opened(&rt)?;
+    let (written, requests, sessions) = counted::<Brand, _>(&rt, rt.alloc(), Blank::new(2), kept)?;
+    assert_eq!(rt;
+        written.as_slice(),
+        b"ERROR\r\nVALUE a 0 2\r\nhi\r\nEND\r\n".as_slice()
+    );
+    assert_eq!(rt; requests, 3);
+    assert_eq!(rt; sessions, 1);
+    Ok(())
+}
