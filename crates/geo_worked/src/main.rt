@@ -11,20 +11,21 @@ mod table;
 
 use crate::play::{Difference, first_difference};
 use std::alloc::Global;
-use std::fs;
 use std::hash::RandomState;
 use std::process::ExitCode;
 use std::random::RandomSource;
 use std::rt::{Env, Files};
-use std::{env, io};
+use std::{env, fs, io};
 
 /// Prints what came of a file.
 fn tell<R: Print>(rt: &R, name: &str, found: Option<Difference>) -> io::Result<()> {
-    let Some(Difference {
-        place,
-        owed,
-        written,
-    }) = found
+    let Some(
+        Difference {
+            place,
+            owed,
+            written,
+        },
+    ) = found
     else {
         return println!(rt; "as written {name}");
     };
@@ -34,7 +35,11 @@ fn tell<R: Print>(rt: &R, name: &str, found: Option<Difference>) -> io::Result<(
 }
 
 /// Runs a file, and prints what came of it.
-fn check<R: Files + Print + AllocGlobal>(rt: &R, hasher: RandomState, name: &str) -> io::Result<()> {
+fn check<R: Files + Print + AllocGlobal>(
+    rt: &R,
+    hasher: RandomState,
+    name: &str,
+) -> io::Result<()> {
     let bytes = fs::read(rt, name)?;
     let found = if name.ends_with(".table") {
         table::first_difference(rt.alloc(), &hasher, bytes.as_slice())?

@@ -26,7 +26,7 @@ fn shown(alloc: Global, bytes: &[u8]) -> Result<String, AllocError> {
 fn line(text: &[u8], place: usize) -> &[u8] {
     let mut seen = 0;
     for line in text.split(|byte| *byte == b'\n') {
-        seen += 1;
+        seen = usize::wrapping_add(seen, 1);
         if seen == place {
             return line;
         }
@@ -37,11 +37,14 @@ fn line(text: &[u8], place: usize) -> &[u8] {
 /// How many lines are equal in both before the first that differs.
 fn equal_lines(one: &[u8], other: &[u8]) -> usize {
     let mut equal = 0;
-    for (a, b) in one.split(|byte| *byte == b'\n').zip(other.split(|byte| *byte == b'\n')) {
+    for (a, b) in one
+        .split(|byte| *byte == b'\n')
+        .zip(other.split(|byte| *byte == b'\n'))
+    {
         if a != b {
             return equal;
         }
-        equal += 1;
+        equal = usize::wrapping_add(equal, 1);
     }
     equal
 }
@@ -51,7 +54,7 @@ fn of_output(alloc: Global, owed: &[u8], written: &[u8]) -> Result<Option<Differ
     if owed == written {
         return Ok(None);
     }
-    let place = equal_lines(owed, written) + 1;
+    let place = equal_lines(owed, written).wrapping_add(1);
     Ok(Some(Difference {
         place: format!(in alloc; "line {place} of its output")?,
         owed: shown(alloc, line(owed, place))?,
