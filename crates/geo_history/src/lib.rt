@@ -11,8 +11,6 @@ pub mod history;
 pub mod kept;
 pub mod parts;
 pub mod step;
-#[cfg(test)]
-mod tests;
 
 pub use boxed::BoxedParcel;
 pub use history::{History, Opening};

@@ -23,6 +23,3 @@ pub use maintain::Maintained;
 pub use refusal::{CallError, NoSeat, Returned, SeatSpent, StationError};
 pub use seat::Seat;
 pub use station::Station;
-
-#[cfg(test)]
-mod tests;
