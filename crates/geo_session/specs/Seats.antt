@@ -1,21 +1,14 @@
 -- A seat at a shared site, with a seat of a tally.
-use Rattle.std.specs.Prelude.{◌≡◌, ◌⊎◌, ◌≤◌, ◌^◌, ℕ, true, [], nat_le, length, if◌then◌else◌, Result, Ok, Err}
+use Rattle.std.specs.Prelude.{◌≡◌, ◌⊎◌, ◌≤◌, ◌^◌, ℕ, Result, Ok, Err}
 use Rattle.geo_grammar.specs.declared.reply.Reply.{Reply}
 use Rattle.geo_grammar.specs.declared.request.Request.{Request}
 use Rattle.geo_station.specs.Calls.{ActsBy}
-use Rattle.geo_station.specs.Seats.{Seated}
+use Rattle.geo_station.specs.Seats.{Seated, trimmed}
 use Rattle.geo_station.specs.declared.refusal.SeatSpent.{SeatSpent}
 use Rattle.geo_tally.specs.Seats.{SeatView, added, adds_of}
 use Rattle.geo_tally.specs.Words.{most_adds}
 use Rattle.geo_tally.specs.declared.counter.Counter.{Counter}
 use Rattle.geo_tally.specs.declared.counter.Counter.TheVariants.{Requests}
-
--- a seat that keeps that many calls lets go of them before the next one
-abbrev pub most_kept : ℕ
-most_kept = 1024
-
-abbrev pub trimmed : Seated → Seated
-trimmed seat = if nat_le most_kept (length seat.calls) then record seat { calls = []; forgot = true } else seat
 
 -- the station answers at some moment
 pub record ActsAtSomeMoment (old new : Seated) (request : Request) (outcome : Result Reply SeatSpent) : Type 0 where

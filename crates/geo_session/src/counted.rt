@@ -1,6 +1,6 @@
 //! A seat at a shared site, whose requests are counted.
 ghost use Rattle.std.specs.Prelude.{◌≡◌};
-ghost use Rattle.geo_session.specs.Seats.{trimmed, CountsOne};
+ghost use Rattle.geo_session.specs.Seats.{CountsOne};
 
 use crate::backend::Backend;
 use crate::clock::Clock;
@@ -11,18 +11,6 @@ use std::alloc::Global;
 use std::rt;
 use std::sync::Wait;
 use std::sync::ledger::Ledger;
-
-/// A seat that keeps so many calls lets go of them before the next one.
-const MOST_KEPT: usize = 1024;
-
-/// Lets go of the calls that a seat keeps, where they are many.
-fn trim<L: Ledger>(seat: &mut Seat<L>)
-    ensures { seat.new ≡ trimmed seat.old }
-{
-    if seat.calls().len() >= MOST_KEPT {
-        seat.forget();
-    }
-}
 
 /// A backend that asks a station by a seat, at the moment that a clock tells, and counts the requests by a seat of a tally. It waits
 /// for the station's lock. Sessions of one thread use it one after the other.
@@ -91,7 +79,7 @@ impl<L: Ledger, C: Clock> Backend for Counted<'_, L, C> {
         request: Request,
     ) -> Option<Reply> {
         self.count(Counter::Requests);
-        trim(&mut self.seat);
+        self.seat.trim();
         let now = self.clock.now(rt);
         match self.station.act(rt, alloc, &mut self.seat, now, request) {
             Ok(reply) => Some(reply),

@@ -1,4 +1,3 @@
-pub mod Covers
 pub mod Endings
 pub mod Closing
 pub mod Lasts

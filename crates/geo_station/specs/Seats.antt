@@ -1,5 +1,5 @@
 -- What a seat keeps of its calls, and what a history tells of them.
-use Rattle.std.specs.Prelude.{◌≡◌, ℕ, Bool, true, false, ◌==◌, ◌&&◌, if◌then◌else◌, List, [], ◌∷◌, ◌++◌, length}
+use Rattle.std.specs.Prelude.{◌≡◌, ℕ, Bool, true, false, ◌==◌, ◌&&◌, if◌then◌else◌, List, [], ◌∷◌, ◌++◌, length, nat_le}
 use Rattle.std.specs.List.{All}
 use Rattle.geo_history.specs.declared.history.History.{History}
 use Rattle.geo_history.specs.declared.step.Event.{Event}
@@ -17,6 +17,13 @@ pub record Seated : Type 0 where
   pub steps : ℕ
   pub calls : List Call
   pub forgot : Bool
+
+-- a seat that keeps that many calls lets go of them when it is trimmed
+abbrev pub most_kept : ℕ
+most_kept = 1024
+
+abbrev pub trimmed : Seated → Seated
+trimmed seat = if nat_le most_kept (length seat.calls) then record seat { calls = []; forgot = true } else seat
 
 abbrev pub call_of : Event → Answer → Call
 call_of event answer = record { event = event; answer = answer }

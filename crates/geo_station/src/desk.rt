@@ -1,5 +1,6 @@
 //! What lies under a station's lock.
 ghost use Rattle.std.specs.Prelude.{◌≡◌, ◌≢◌, ◌+◌, ◌≤◌, ◌<◌, ◌^◌, ℕ, [], false, cond, length, IfOk, IfErr};
+ghost use Rattle.geo_delta.specs.Ranges.{InRange};
 ghost use Rattle.geo_grammar.specs.declared.reply.Reply.TheVariants.{OutOfMemory};
 ghost use Rattle.geo_history.specs.Keeping.{most_steps, made_by, opened_with, is_flush_due};
 ghost use Rattle.geo_history.specs.Stories.{story_in};
@@ -149,6 +150,8 @@ impl<L: Ledger> Desk<L> {
         to: u8,
     ) -> Result<(Parcel, BoxedParcel), CallError<SendError>>
         ensures made { IfOk result (λ parcels. (account.new.count ≡ account.old.count + 1) × (parcels.1 ≡ parcels.0)) }
+        ensures addressee { IfOk result (λ parcels. parcels.0.to ≡ to) }
+        ensures ranges { IfOk result (λ parcels. InRange parcels.0) }
         ensures unmade { IfErr result (λ why. account.new.count ≡ account.old.count + sends_made why) }
     {
         if self.is_spent(number, account) {

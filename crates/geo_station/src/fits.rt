@@ -4,8 +4,8 @@ ghost use Rattle.geo_station.specs.Seats.{is_call_of, call_of, calls_of};
 ghost use Rattle.geo_station.specs.Endings.{EndsSo};
 
 use crate::call::Call;
-use crate::equal::Equal;
 use geo_chunks::Chunks;
+use geo_equal::Equal;
 use geo_history::{Event, Step};
 
 /// Whether a step is one that its seat keeps, and of this seat.

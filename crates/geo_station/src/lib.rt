@@ -10,7 +10,6 @@ mod account;
 mod call;
 mod close;
 mod desk;
-mod equal;
 mod fits;
 mod maintain;
 mod refusal;

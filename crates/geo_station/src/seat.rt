@@ -1,10 +1,14 @@
 //! What a thread calls a station with.
 ghost use Rattle.std.specs.Prelude.{◌≡◌, [], true};
+ghost use Rattle.geo_station.specs.Seats.{trimmed};
 
 use crate::account::Account;
 use crate::call::Call;
 use std::marker::Model;
 use std::sync::ledger::Ledger;
+
+/// A seat that keeps so many calls lets go of them when it is trimmed.
+const MOST_KEPT: usize = 1024;
 
 /// What a thread calls a station with. It keeps its requests, sends and takes with the answers that it was handed, in order, until
 /// [`Seat::forget`].
@@ -38,5 +42,14 @@ impl<L: Ledger> Seat<L> {
     {
         self.calls.clear();
         self.forgot = true;
+    }
+
+    /// Lets go of the calls that it keeps where they are 1,024 or more, as whoever calls for long does before each call.
+    pub fn trim(&mut self)
+        ensures { self.new ≡ trimmed self.old }
+    {
+        if self.calls.len() >= MOST_KEPT {
+            self.forget();
+        }
     }
 }

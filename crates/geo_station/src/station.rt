@@ -1,6 +1,7 @@
 //! A site for several threads.
 ghost use Rattle.std.specs.Prelude.{◌≡◌, ◌≢◌, ℕ, ◌≤◌, ◌^◌, [], false, vec_len, sum_by, length, IfOk, IfErr, IsErr, Err};
 ghost use Rattle.std.specs.List.{All};
+ghost use Rattle.geo_delta.specs.Ranges.{InRange};
 ghost use Rattle.geo_history.specs.Keeping.{most_steps, opened_with};
 ghost use Rattle.geo_history.specs.Stories.{story_in};
 ghost use Rattle.geo_station.specs.Seats.{FitsIn, IsLawful, DiffersFrom};
@@ -124,7 +125,7 @@ impl<L: Ledger> Station<L> {
         }
     }
 
-    /// Makes a parcel for another site.
+    /// Makes a parcel for another site, which a frame can hold.
     pub fn send(
         &self,
         rt: &impl Wait,
@@ -133,6 +134,8 @@ impl<L: Ledger> Station<L> {
         to: u8,
     ) -> Result<Parcel, CallError<SendError>>
         ensures sends { SendsBy seat.old seat.new to result }
+        ensures addressee { IfOk result (λ parcel. parcel.to ≡ to) }
+        ensures ranges { IfOk result (λ parcel. InRange parcel) }
         ensures limit { seat.old.steps ≡ most_steps → result ≡ Err refused.SeatSpent }
     {
         let Seat {

@@ -1,12 +1,11 @@
 use Rattle.std.proofs.Common.{◌≡◌, Ok, Err, ap, subst, ◌∙◌}
 use Rattle.geo_station.specs.Calls.{ActsBy}
-use Rattle.geo_station.specs.Seats.{Seated}
-use Rattle.geo_session.specs.Seats.{trimmed}
+use Rattle.geo_station.specs.Seats.{Seated, trimmed}
 use Rattle.geo_session.proofs.counted.CountedBackend.act.Goals as goal
 
 pub returns-in-Ok-clause-some : goal.returns-in-Ok-clause-some
 returns-in-Ok-clause-some g c =
-    let seat_is : c.trim.new.seat ≡ trimmed c.args.self.now.seat = c.trim.ensures ∙ ap trimmed c.count.ensures.seat in
+    let seat_is : c.trim.new.self ≡ trimmed c.args.self.now.seat = c.trim.ensures ∙ ap trimmed c.count.ensures.seat in
     record {
       acts = record {
         moment = c.now-now.result;

@@ -1,0 +1,4 @@
+pub mod Openings
+pub mod Runs
+pub mod Merging
+pub mod Verdicts

@@ -1,0 +1,226 @@
+//! A configuration whose values have their types and may lie out of their ranges.
+ghost use Rattle.std.specs.Prelude.{◌≡◌, IfOk, All, is_some, vec_len};
+ghost use Rattle.toml.specs.Data.{Members};
+ghost use Rattle.toml.specs.View.{table_view};
+ghost use Rattle.geo_config.specs.Document.{DraftIsOf, IsOf};
+ghost use Rattle.geo_config.specs.Draft.{DraftIsTied, SiteDraftIsTied, asks_for_tcp, is_tcp};
+ghost use Rattle.geo_config.specs.Lawful.{IsInRange, SiteIsInRange};
+
+use crate::fault::ConfigFault;
+use crate::keys::{NumberKey, link_of, site_rows, text_at};
+use crate::settings::{Config, LinkKind, SiteConfig};
+use std::alloc::Global;
+use toml::{Table, Value};
+
+const PAGES: NumberKey = NumberKey {
+    name: "pages",
+    least: 15,
+    most: 65_536,
+    default: Some(64),
+};
+
+const MAX_RECORDS: NumberKey = NumberKey {
+    name: "max_records",
+    least: 1,
+    most: 1_000_000,
+    default: Some(100_000),
+};
+
+const REAP_AFTER: NumberKey = NumberKey {
+    name: "reap_after",
+    least: 0,
+    most: 2_147_483_647,
+    default: Some(60),
+};
+
+const EVERY: NumberKey = NumberKey {
+    name: "every",
+    least: 1,
+    most: 60_000,
+    default: Some(100),
+};
+
+const SESSIONS: NumberKey = NumberKey {
+    name: "sessions",
+    least: 1,
+    most: 1_048_576,
+    default: None,
+};
+
+const NUMBER: NumberKey = NumberKey {
+    name: "number",
+    least: 1,
+    most: 16,
+    default: None,
+};
+
+const WORKERS: NumberKey = NumberKey {
+    name: "workers",
+    least: 1,
+    most: 128,
+    default: Some(4),
+};
+
+/// The greatest number of sites.
+const MOST_SITES: usize = 16;
+
+/// What a document says, with what stands for the keys that it doesn't have.
+#[derive(Drop)]
+pub struct Draft {
+    pages: i64,
+    max_records: i64,
+    reap_after: i64,
+    /// `None` is a link that there isn't.
+    link: Option<LinkKind>,
+    every: i64,
+    sessions: i64,
+    sites: Vec<SiteDraft>,
+}
+
+/// What a document says of one site.
+#[derive(Drop)]
+pub struct SiteDraft {
+    number: i64,
+    client: String,
+    workers: i64,
+    peer: Option<String>,
+}
+
+impl Draft {
+    /// What a document says, if each key holds a value of its type.
+    pub fn read(alloc: Global, document: &Table) -> Result<Draft, ConfigFault>
+        ensures of { IfOk result (DraftIsOf (table_view document.now)) }
+        ensures tied { IfOk result DraftIsTied }
+    {
+        let pages = PAGES.read(document)?;
+        let max_records = MAX_RECORDS.read(document)?;
+        let reap_after = REAP_AFTER.read(document)?;
+        let link = link_of(document)?;
+        let every = EVERY.read(document)?;
+        let sessions = SESSIONS.read(document)?;
+        let sites = site_drafts(alloc, document, asks_for_tcp(link))?;
+        Ok(Draft {
+            pages,
+            max_records,
+            reap_after,
+            link,
+            every,
+            sessions,
+            sites,
+        })
+    }
+
+    /// The configuration, if each value is in its range.
+    pub fn in_range(self, alloc: Global) -> Result<Config, ConfigFault>
+        requires { DraftIsTied self }
+        ensures in_range { IfOk result IsInRange }
+        ensures of { IfOk result (λ c. (document : Members) → DraftIsOf document self → IsOf document c) }
+    {
+        let pages = PAGES.within(self.pages)? as u32;
+        let max_records = MAX_RECORDS.within(self.max_records)? as u32;
+        let reap_after = REAP_AFTER.within(self.reap_after)? as u32;
+        let link = self.link.ok_or(ConfigFault::OutOfRange("link"))?;
+        let every = EVERY.within(self.every)?;
+        let sessions = SESSIONS.within(self.sessions)?;
+        if self.sites.is_empty() || self.sites.len() > MOST_SITES {
+            return Err(ConfigFault::OutOfRange("site"));
+        }
+        let sites = sites_in_range(alloc, self.sites, link)?;
+        Ok(Config {
+            pages,
+            max_records,
+            reap_after,
+            link,
+            every,
+            sessions,
+            sites,
+        })
+    }
+}
+
+fn asks_for_tcp(link: Option<LinkKind>) -> bool
+    ensures { result ≡ asks_for_tcp link }
+{
+    matches!(link, Some(LinkKind::Tcp))
+}
+
+/// What a document says of its sites, in their order there.
+fn site_drafts(
+    alloc: Global,
+    document: &Table,
+    over_tcp: bool,
+) -> Result<Vec<SiteDraft>, ConfigFault>
+    ensures { IfOk result (λ sites. All (SiteDraftIsTied over_tcp) sites.items) }
+{
+    match document.get("site") {
+        Some(Value::Array(_)) => {}
+        Some(_) => return Err(ConfigFault::WrongType("site")),
+        None => return Err(ConfigFault::Missing("site")),
+    }
+    let mut sites = Vec::new(alloc);
+    for row in site_rows(document) {
+        sites.push(site_draft(alloc, row, over_tcp)?)?;
+    }
+    Ok(sites)
+}
+
+/// What a row says of its site. With links over memory its key `peer` isn't looked at.
+fn site_draft(alloc: Global, row: &Value, over_tcp: bool) -> Result<SiteDraft, ConfigFault>
+    ensures { IfOk result (SiteDraftIsTied over_tcp) }
+{
+    let Value::Table(site) = row else {
+        return Err(ConfigFault::WrongType("site"));
+    };
+    let number = NUMBER.read(site)?;
+    let client = text_at(alloc, site, "client")?;
+    let workers = WORKERS.read(site)?;
+    let peer = peer_of(alloc, site, over_tcp)?;
+    Ok(SiteDraft {
+        number,
+        client,
+        workers,
+        peer,
+    })
+}
+
+fn peer_of(alloc: Global, site: &Table, over_tcp: bool) -> Result<Option<String>, ConfigFault>
+    ensures { IfOk result (λ peer. is_some peer ≡ over_tcp) }
+{
+    if over_tcp {
+        let peer = text_at(alloc, site, "peer")?;
+        Ok(Some(peer))
+    } else {
+        Ok(None)
+    }
+}
+
+/// The sites, if each value of theirs is in its range.
+fn sites_in_range(
+    alloc: Global,
+    drafts: Vec<SiteDraft>,
+    link: LinkKind,
+) -> Result<Vec<SiteConfig>, ConfigFault>
+    requires { All (SiteDraftIsTied (is_tcp link)) drafts.items }
+    ensures each { IfOk result (λ sites. All (SiteIsInRange link) sites.items) }
+    ensures count { IfOk result (λ sites. vec_len sites ≡ vec_len drafts) }
+{
+    let mut sites = Vec::with_capacity(alloc, drafts.len())?;
+    for draft in drafts {
+        sites.push(site_in_range(draft, link)?)?;
+    }
+    Ok(sites)
+}
+
+fn site_in_range(draft: SiteDraft, link: LinkKind) -> Result<SiteConfig, ConfigFault>
+    requires { SiteDraftIsTied (is_tcp link) draft }
+    ensures { IfOk result (SiteIsInRange link) }
+{
+    let number = NUMBER.within(draft.number)? as u8;
+    let workers = WORKERS.within(draft.workers)? as usize;
+    Ok(SiteConfig {
+        number,
+        client: draft.client,
+        workers,
+        peer: draft.peer,
+    })
+}

@@ -1,0 +1,42 @@
+//! What a program is told at its start.
+
+/// Over what the sites exchange parcels.
+#[derive(Clone, Copy, Debug, PartialEq, Eq)]
+pub enum LinkKind {
+    /// Over memory that they share, in one process.
+    Memory,
+    /// Over connections to each other's `peer` addresses.
+    Tcp,
+}
+
+/// What the program is told, its sites in the order of their numbers.
+#[derive(Debug, Drop, PartialEq, Eq)]
+pub struct Config {
+    /// How many pages of a mebibyte each site has for values, 15 to 65,536; 64 where nothing is said.
+    pub pages: u32,
+    /// How many records each site's map may have, 1 to 1,000,000; 100,000 where nothing is said.
+    pub max_records: u32,
+    /// How many seconds after its end a site keeps a write of its own, 0 to 2,147,483,647; 60 where nothing is said.
+    pub reap_after: u32,
+    /// Over what the sites exchange parcels; memory where nothing is said.
+    pub link: LinkKind,
+    /// How many milliseconds lie between two rounds of gossip, and of maintenance, 1 to 60,000; 100 where nothing is said.
+    pub every: u64,
+    /// How many connections each site accepts before it stops, 1 to 1,048,576.
+    pub sessions: u64,
+    /// The sites, 1 to 16. Site `k` stands at index `k - 1`.
+    pub sites: Vec<SiteConfig>,
+}
+
+/// What one site is told.
+#[derive(Debug, Drop, PartialEq, Eq)]
+pub struct SiteConfig {
+    /// Its number, from 1 to the number of sites.
+    pub number: u8,
+    /// The address on which it listens for clients, as it was written.
+    pub client: String,
+    /// How many threads serve its connections, 1 to 128; 4 where nothing is said.
+    pub workers: usize,
+    /// The address on which it listens for other sites, as it was written. It is there exactly where the link is `Tcp`.
+    pub peer: Option<String>,
+}

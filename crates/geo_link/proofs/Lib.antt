@@ -1,0 +1,5 @@
+pub mod Orders
+pub mod Arrivals
+pub mod Heads
+pub mod Coming
+pub mod Counting

@@ -1,0 +1,4 @@
+pub mod Channels
+pub mod Memory
+pub mod Streams
+pub mod Tallies

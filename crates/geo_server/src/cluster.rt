@@ -1,0 +1,301 @@
+//! All sites of a configuration, from their first thread to what is told of them.
+ghost use Rattle.std.specs.Prelude.{◌≡◌, ◌≤◌, true};
+ghost use Rattle.geo_audit.specs.Verdicts.{AreInOrder};
+ghost use Rattle.geo_config.specs.Lawful.{IsLawful};
+
+use crate::fault::{ClusterFault, add};
+use crate::report::{report, verdict_word};
+use crate::site::{Crew, Ended, Fresh, Job, Shared, run_site};
+use crate::wires::{Memory, Tcp, Wires};
+use geo_audit::audit;
+use geo_config::{Config, LinkKind, SiteConfig};
+use geo_gossip::Peer;
+use geo_grammar::Device;
+use geo_history::{History, Kept};
+use geo_session::Gate;
+use geo_site::Setup;
+use std::alloc::{AllocError, Global};
+use std::hash::RandomState;
+use std::io::Write;
+use std::net::{Net, TcpListener, TcpStream};
+use std::random::RandomSource;
+use std::rt::Clock;
+use std::sync::Wait;
+use std::sync::atomic::AtomicU64;
+use std::thread::{Threads, map_vec};
+use std::time::Duration;
+
+/// Listens at an address.
+fn listen<R: Net<Stream = TcpStream, Listener = TcpListener>>(
+    rt: &R,
+    alloc: Global,
+    address: &str,
+) -> Result<TcpListener, ClusterFault> {
+    match TcpListener::bind(rt, address) {
+        Ok(listener) => Ok(listener),
+        Err(_) => match format!(in alloc; "{address}") {
+            Ok(address) => Err(ClusterFault::Listen(address)),
+            Err(_) => Err(ClusterFault::Memory),
+        },
+    }
+}
+
+/// A site that knows nothing.
+fn opened<R: RandomSource>(
+    rt: &R,
+    alloc: Global,
+    config: &Config,
+    site: &SiteConfig,
+) -> Result<Fresh, ClusterFault>
+    requires { IsLawful config.now }
+{
+    let Ok(hasher) = RandomState::new(rt) else {
+        return Err(ClusterFault::Socket);
+    };
+    let setup = Setup {
+        site: site.number,
+        sites: config.sites.len() as u8,
+        pages: config.pages,
+        max_records: config.max_records,
+        reap_after: config.reap_after,
+        hasher,
+    };
+    match Kept::new(alloc, setup) {
+        Ok(kept) => Ok(Fresh { kept }),
+        Err(_) => Err(ClusterFault::Memory),
+    }
+}
+
+/// The links of one site.
+#[derive(Drop)]
+struct Ends<P, Q> {
+    peers: Vec<Peer<P>>,
+    froms: Vec<Q>,
+}
+
+/// A link from each site to each other one, in the order of their numbers.
+fn wired<R, W: Wires<R>>(
+    rt: &R,
+    alloc: Global,
+    sites: usize,
+    wires: &W,
+) -> Result<Vec<Ends<W::Put, W::Get>>, ClusterFault>
+    requires { sites ≤ 16 }
+{
+    let mut all = Vec::new(alloc);
+    for _site in 0..sites {
+        let none = Ends {
+            peers: Vec::new(alloc),
+            froms: Vec::new(alloc),
+        };
+        add(&mut all, none)?;
+    }
+    for from in 0..sites {
+        for to in 0..sites {
+            if from != to {
+                let (put, get) = wires.link(rt, alloc, to)?;
+                let peer = Peer {
+                    site: to as u8 + 1,
+                    link: put,
+                };
+                if let Some(ends) = all.get_mut(from) {
+                    add(&mut ends.peers, peer)?;
+                }
+                if let Some(ends) = all.get_mut(to) {
+                    add(&mut ends.froms, get)?;
+                }
+            }
+        }
+    }
+    Ok(all)
+}
+
+/// What each site is run with.
+fn jobs<R: RandomSource, P: Drop, Q: Drop>(
+    rt: &R,
+    alloc: Global,
+    config: &Config,
+    listeners: Vec<TcpListener>,
+    ends: Vec<Ends<P, Q>>,
+) -> Result<Vec<Job<P, Q>>, ClusterFault>
+    requires { IsLawful config.now }
+{
+    let mut all = Vec::new(alloc);
+    for ((site, listener), ends) in config.sites.iter().zip(listeners).zip(ends) {
+        let job = Job {
+            fresh: opened(rt, alloc, config, site)?,
+            crew: Crew {
+                workers: site.workers,
+                peers: ends.peers,
+                froms: ends.froms,
+            },
+            sessions: config.sessions,
+            listener,
+        };
+        add(&mut all, job)?;
+    }
+    Ok(all)
+}
+
+/// How many workers all sites have.
+fn workers_of(config: &Config) -> u64 {
+    let mut all = 0u64;
+    for site in config.sites.iter() {
+        all = all.saturating_add(site.workers as u64);
+    }
+    all
+}
+
+/// Runs all sites, each by threads of its own, until each has served all its clients.
+fn run_sites<
+    R: Net<Stream = TcpStream, Listener = TcpListener>
+        + Threads
+        + Wait
+        + Clock
+        + RandomSource
+        + Sync,
+    G: Gate,
+    W: Wires<R>,
+>(
+    rt: &R,
+    alloc: Global,
+    config: &Config,
+    shared: &Shared<'_, G>,
+    listeners: Vec<TcpListener>,
+    wires: &W,
+) -> Result<Vec<Ended>, ClusterFault>
+where
+    W::Put: Send,
+    W::Get: Send,
+    requires { IsLawful config.now }
+{
+    let ends = wired(rt, alloc, config.sites.len(), wires)?;
+    let jobs = jobs(rt, alloc, config, listeners, ends)?;
+    let ended = map_vec(
+        rt,
+        jobs,
+        &|job: Job<W::Put, W::Get>| -> Result<Ended, ClusterFault> {
+            run_site(rt, alloc, shared, job)
+        },
+    )?;
+    let mut all = Vec::new(alloc);
+    for one in ended {
+        add(&mut all, one?)?;
+    }
+    Ok(all)
+}
+
+/// Listens for clients at all sites, and for sites too where they are joined by sockets, and runs the sites.
+fn run<
+    R: Net<Stream = TcpStream, Listener = TcpListener>
+        + Threads
+        + Wait
+        + Clock
+        + RandomSource
+        + Sync,
+    G: Gate,
+>(rt: &R, alloc: Global, config: &Config, gate: &G) -> Result<Vec<Ended>, ClusterFault>
+    requires { IsLawful config.now }
+{
+    let stop = AtomicU64::new(0);
+    let shared = Shared {
+        gate,
+        working: AtomicU64::new(workers_of(config)),
+        stop: &stop,
+        every: Duration::from_millis(config.every),
+    };
+    let mut clients = Vec::new(alloc);
+    let mut ports = Vec::new(alloc);
+    for site in config.sites.iter() {
+        add(&mut clients, listen(rt, alloc, site.client.as_str())?)?;
+        if let Some(peer) = &site.peer {
+            add(&mut ports, listen(rt, alloc, peer.as_str())?)?;
+        }
+    }
+    match config.link {
+        LinkKind::Memory => run_sites(rt, alloc, config, &shared, clients, &Memory),
+        LinkKind::Tcp => {
+            let wires = Tcp {
+                ports: ports.as_slice(),
+                stop: &stop,
+            };
+            run_sites(rt, alloc, config, &shared, clients, &wires)
+        }
+    }
+}
+
+/// The sums over all sites, in the counters' order.
+fn total(ended: &[Ended]) -> [u64; 5] {
+    let mut all = [0u64; 5];
+    for site in ended {
+        for (sum, more) in all.iter_mut().zip(site.sums) {
+            *sum = sum.saturating_add(more);
+        }
+    }
+    all
+}
+
+/// The histories of all sites, or none where one site's seats tell another story.
+fn histories(alloc: Global, ended: Vec<Ended>) -> Result<Option<Vec<History>>, AllocError> {
+    let mut all = Vec::new(alloc);
+    for site in ended {
+        let Some(history) = site.history else {
+            return Ok(None);
+        };
+        all.push(history)?;
+    }
+    Ok(Some(all))
+}
+
+/// Whether they are those of the sites from 1 on, in order.
+fn are_in_order(histories: &[History]) -> bool
+    ensures { result ≡ true → AreInOrder histories.now }
+{
+    for at in 0..histories.len() {
+        if histories[at].setup.site as usize != at + 1 {
+            return false;
+        }
+    }
+    true
+}
+
+/// The word for the audit of what was done at all sites.
+fn audited(alloc: Global, ended: Vec<Ended>) -> Result<&'static str, ClusterFault> {
+    let Some(all) = histories(alloc, ended)? else {
+        return Ok(verdict_word(None));
+    };
+    if !are_in_order(all.as_slice()) {
+        return Ok(verdict_word(None));
+    }
+    let verdict = audit(alloc, all.as_slice())?;
+    Ok(verdict_word(Some(&verdict)))
+}
+
+/// Runs the sites of a configuration in one process: it listens for clients at each site (memcached's protocol.txt), joins each
+/// two sites by links, and has each site tell the others what was written, at every so many milliseconds. It ends once each site
+/// has accepted as many connections as the configuration says and all of them have ended; then it writes the sums of what was
+/// counted at all sites, and whether the sites' histories are one lawful schedule: `audit sound`, `audit refused`, or `audit
+/// skipped` where a history does not begin at the start. All sessions pass the gate.
+pub fn run_cluster<
+    R: Net<Stream = TcpStream, Listener = TcpListener>
+        + Threads
+        + Wait
+        + Clock
+        + RandomSource
+        + Sync,
+    G: Gate,
+    W: Write,
+>(
+    rt: &R,
+    alloc: Global,
+    config: &Config,
+    gate: &G,
+    writer: &mut Device<W>,
+) -> Result<(), ClusterFault>
+    requires { IsLawful config.now }
+{
+    let ended = run(rt, alloc, config, gate)?;
+    let sums = total(ended.as_slice());
+    let word = audited(alloc, ended)?;
+    report(alloc, writer, sums, word)
+}

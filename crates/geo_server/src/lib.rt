@@ -1,0 +1,21 @@
+//! The server: sites that clients and other sites reach over sockets, all in one process.
+//!
+//! [`run_cluster`] opens the sites of a configuration, has threads serve their clients, and has them tell each other what was
+//! written, until every site has served as many connections as it was told. Then it writes how much was done, and whether the
+//! sites' histories are one lawful schedule. The crate is a thin layer of threads and sockets: what a session, a station, a
+//! link, a round and an audit do is proved in the crates that it stands on.
+#![tactic(auto)]
+
+mod accept;
+mod clock;
+mod cluster;
+mod duty;
+mod fault;
+mod report;
+mod site;
+mod tcp;
+mod wires;
+
+pub use clock::SystemClock;
+pub use cluster::run_cluster;
+pub use fault::ClusterFault;

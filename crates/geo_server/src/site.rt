@@ -1,0 +1,358 @@
+//! One site with its threads.
+ghost use Rattle.std.specs.Prelude.{◌≡◌, ℕ, [], IfOk, IfSome};
+ghost use Rattle.std.specs.List.{All};
+ghost use Rattle.geo_history.specs.Keeping.{opened_with};
+ghost use Rattle.geo_history.specs.Stories.{story_in};
+
+use crate::accept::accept;
+use crate::clock::SystemClock;
+use crate::duty::{Counting, Duty};
+use crate::fault::{ClusterFault, add};
+use crossbeam_channel::{Receiver, Sender, bounded};
+use geo_gossip::Peer;
+use geo_history::{History, Kept};
+use geo_link::{Link, Tallied};
+use geo_session::{Counted, Gate};
+use geo_station::{Seat, Station};
+use geo_tally::{Counter, Tally, TallySeat};
+use std::alloc::{AllocError, Global};
+use std::marker::Brand;
+use std::net::{TcpListener, TcpStream};
+use std::rt;
+use std::sync::Wait;
+use std::sync::atomic::{AtomicU64, Ordering};
+use std::sync::ledger::{Blank, Ledger};
+use std::thread::{Threads, join, map_vec};
+use std::time::Duration;
+
+/// How many clients may wait for a worker beside those that wait in the system.
+const WAITING: usize = 64;
+
+/// What the threads of all sites share.
+#[derive(Drop)]
+pub(crate) struct Shared<'a, G> {
+    /// What all sessions pass.
+    pub(crate) gate: &'a G,
+    /// How many workers there are, of all sites, for whom clients may still come.
+    pub(crate) working: AtomicU64,
+    /// 1 once the cluster stops.
+    pub(crate) stop: &'a AtomicU64,
+    /// Between two rounds, and between two maintenances.
+    pub(crate) every: Duration,
+}
+
+impl<G> Shared<'_, G> {
+    /// No client comes to a worker any more. After the last worker the cluster stops.
+    pub(crate) fn worker_ends(&self) {
+        if self.working.fetch_sub(1, Ordering::SeqCst) == 1 {
+            self.stop.store(1, Ordering::SeqCst);
+            self.stop.wake_all();
+        }
+    }
+
+    /// Whether the cluster stops before the next round is due.
+    pub(crate) fn stops_within<R: Wait>(&self, rt: &R) -> bool {
+        if self.stop.load(Ordering::SeqCst) == 0 {
+            self.stop.park_timeout(rt, 0, self.every);
+        }
+        self.stop.load(Ordering::SeqCst) != 0
+    }
+}
+
+/// A site that knows nothing and has made no step.
+#[derive(Drop)]
+pub(crate) struct Fresh {
+    pub(crate) kept: Kept,
+    ghost steps: { (story_in kept).steps ≡ [] },
+    ghost opening: { (seat : ℕ) → opened_with (story_in kept).opening seat ≡ 0 },
+}
+
+/// What a site is run with: P is the kind of the links that it puts on, Q of those from which it gets.
+#[derive(Drop)]
+pub(crate) struct Job<P, Q> {
+    pub(crate) fresh: Fresh,
+    pub(crate) crew: Crew<P, Q>,
+    /// How many connections it accepts.
+    pub(crate) sessions: u64,
+    pub(crate) listener: TcpListener,
+}
+
+/// The threads of a site beside the one that lets clients in.
+#[derive(Drop)]
+pub(crate) struct Crew<P, Q> {
+    pub(crate) workers: usize,
+    /// To the other sites.
+    pub(crate) peers: Vec<Peer<P>>,
+    /// From the other sites.
+    pub(crate) froms: Vec<Q>,
+}
+
+/// What is known of a site once its threads have ended.
+#[derive(Drop)]
+pub(crate) struct Ended {
+    /// What was done at it; none where the seats tell another story.
+    pub(crate) history: Option<History>,
+    /// The sums of its tally, in the counters' order.
+    pub(crate) sums: [u64; 5],
+}
+
+/// The next seat of a tally that wasn't used yet.
+fn next_counting<'a>(tally: &'a Tally, seats: &mut Vec<TallySeat>) -> Option<Counting<'a>>
+    requires given { All (λ s. s.tally ≡ tally.now.tally) seats.old.items }
+    ensures given { All (λ s. s.tally ≡ tally.now.tally) seats.new.items }
+{
+    let seat = seats.pop()?;
+    Some(Counting { tally, seat })
+}
+
+/// What the threads of a site are given, while it is put together.
+#[derive(Drop)]
+struct Duties<'a, L: Ledger, P: Link + Drop, Q: Link + Drop> {
+    station: &'a Station<L>,
+    tally: &'a Tally,
+    counts: Vec<TallySeat>,
+    all: Vec<Duty<'a, L, P, Q>>,
+    ghost given: { All (λ s. s.tally ≡ tally.now.tally) counts.items },
+}
+
+impl<'a, L: Ledger, P: Link + Drop, Q: Link + Drop> Duties<'a, L, P, Q> {
+    /// A seat of the station and one of the tally. There are as many of both as threads that need them.
+    fn seats<R: Wait>(
+        &mut self,
+        rt: &R,
+        alloc: Global,
+    ) -> Result<(Seat<L>, Counting<'a>), ClusterFault> {
+        let Ok(seat) = self.station.seat(rt, alloc) else {
+            return Err(ClusterFault::Memory);
+        };
+        match next_counting(self.tally, &mut self.counts) {
+            Some(counting) => Ok((seat, counting)),
+            None => Err(ClusterFault::Memory),
+        }
+    }
+
+    fn add(&mut self, duty: Duty<'a, L, P, Q>) -> Result<(), ClusterFault> {
+        add(&mut self.all, duty)
+    }
+}
+
+impl<'a, L: Ledger, P: Link + Drop, Q: Link + Drop> Duties<'a, L, P, Q> {
+    /// A worker for clients.
+    fn serve<R: Wait>(
+        &mut self,
+        rt: &R,
+        alloc: Global,
+        clients: &Receiver<TcpStream>,
+    ) -> Result<(), ClusterFault> {
+        let (
+            seat,
+            Counting {
+                tally,
+                seat: counts,
+            },
+        ) = self.seats(rt, alloc)?;
+        let backend = Counted::new(self.station, seat, &SystemClock, tally, counts);
+        match clients.clone() {
+            Ok(clients) => self.add(Duty::Serve(backend, clients)),
+            Err(_) => Err(ClusterFault::Memory),
+        }
+    }
+
+    /// The thread that tells other sites, and the one that maintains the site.
+    fn keep_up<R: Wait>(
+        &mut self,
+        rt: &R,
+        alloc: Global,
+        peers: Vec<Peer<P>>,
+    ) -> Result<(), ClusterFault> {
+        let (seat, counting) = self.seats(rt, alloc)?;
+        self.add(Duty::Gossip(seat, counting, peers))?;
+        let Ok(seat) = self.station.seat(rt, alloc) else {
+            return Err(ClusterFault::Memory);
+        };
+        self.add(Duty::Maintain(seat))
+    }
+
+    /// A thread that takes what another site tells.
+    fn receive<R: Wait>(&mut self, rt: &R, alloc: Global, from: Q) -> Result<(), ClusterFault> {
+        let (
+            seat,
+            Counting {
+                tally,
+                seat: counts,
+            },
+        ) = self.seats(rt, alloc)?;
+        self.add(Duty::Receive(seat, Tallied::new(from, tally, counts)))
+    }
+}
+
+/// The sums of a tally, read by a seat of it once the others rest.
+fn sums_of(counting: Counting<'_>) -> [u64; 5] {
+    let Counting { tally, mut seat } = counting;
+    [
+        tally.read(&mut seat, Counter::Sessions),
+        tally.read(&mut seat, Counter::Requests),
+        tally.read(&mut seat, Counter::Faults),
+        tally.read(&mut seat, Counter::Rounds),
+        tally.read(&mut seat, Counter::FramesRefused),
+    ]
+}
+
+/// Where clients come in.
+#[derive(Drop)]
+struct Door {
+    listener: TcpListener,
+    /// How many are let in.
+    sessions: u64,
+    /// To the workers.
+    clients: Sender<TcpStream>,
+}
+
+/// The duties of a site's threads, and what reads the tally in the end.
+#[derive(Drop)]
+struct Roster<'a, L: Ledger, P: Link + Drop, Q: Link + Drop> {
+    duties: Vec<Duty<'a, L, P, Q>>,
+    reading: Option<Counting<'a>>,
+}
+
+/// Gives each thread its duty, in the order of workers, gossip, maintenance and links.
+fn assigned<'a, R: Wait, L: Ledger, P: Link + Drop, Q: Link + Drop>(
+    rt: &R,
+    alloc: Global,
+    mut given: Duties<'a, L, P, Q>,
+    crew: Crew<P, Q>,
+    clients: &Receiver<TcpStream>,
+) -> Result<Roster<'a, L, P, Q>, ClusterFault> {
+    let Crew {
+        workers,
+        peers,
+        froms,
+    } = crew;
+    for _worker in 0..workers {
+        given.serve(rt, alloc, clients)?;
+    }
+    given.keep_up(rt, alloc, peers)?;
+    for from in froms {
+        given.receive(rt, alloc, from)?;
+    }
+    let Duties {
+        tally,
+        mut counts,
+        all,
+        ..
+    } = given;
+    let reading = next_counting(tally, &mut counts);
+    Ok(Roster {
+        duties: all,
+        reading,
+    })
+}
+
+/// Lets clients in while the threads do their duties, and gives the station's seats back once all have ended.
+fn work<
+    R: Threads + Wait + rt::Clock + Sync,
+    L: Ledger + Send + Sync,
+    P: Link + Send + Drop,
+    Q: Link + Send + Drop,
+    G: Gate,
+>(
+    rt: &R,
+    alloc: Global,
+    shared: &Shared<'_, G>,
+    station: &Station<L>,
+    duties: Vec<Duty<'_, L, P, Q>>,
+    door: Door,
+) -> Result<Vec<Seat<L>>, ClusterFault> {
+    let Door {
+        listener,
+        sessions,
+        clients,
+    } = door;
+    let ((), seats) = join(
+        rt,
+        || { accept(rt, listener, sessions, clients) },
+        || -> Result<Vec<Seat<L>>, AllocError> {
+            map_vec(
+                rt,
+                duties,
+                &|duty: Duty<'_, L, P, Q>| -> Seat<L> { duty.run(rt, alloc, shared, station) },
+            )
+        },
+    );
+    match seats {
+        Ok(seats) => Ok(seats),
+        Err(_) => Err(ClusterFault::Memory),
+    }
+}
+
+/// How many seats a site needs: one for each worker and each link from another site, one for gossip and one for maintenance.
+fn seats_of<P, Q>(job: &Job<P, Q>) -> usize {
+    let crew = &job.crew;
+    crew.workers
+        .saturating_add(crew.froms.len())
+        .saturating_add(2)
+}
+
+/// Runs a site whose ledger is named.
+fn run_named<
+    R: Threads + Wait + rt::Clock + Sync,
+    L: Ledger + Send + Sync,
+    P: Link + Send + Drop,
+    Q: Link + Send + Drop,
+    G: Gate,
+>(
+    rt: &R,
+    alloc: Global,
+    shared: &Shared<'_, G>,
+    blank: Blank,
+    seats: usize,
+    job: Job<P, Q>,
+) -> Result<Ended, ClusterFault>
+    requires name { blank.name ≡ L.name }
+    requires parts { blank.parts ≡ L.parts }
+    requires seats { blank.parts ≡ seats }
+{
+    let Job {
+        fresh,
+        crew,
+        sessions,
+        listener,
+    } = job;
+    let Fresh { kept } = fresh;
+    let Ok(station) = Station::<L>::new(blank, kept, seats as u64) else {
+        return Err(ClusterFault::Memory);
+    };
+    let (Ok((tally, counts)), Ok((clients, taken))) = (
+        Tally::new(alloc, seats),
+        bounded(alloc, WAITING),
+    ) else {
+        return Err(ClusterFault::Memory);
+    };
+    let given = Duties {
+        station: &station,
+        tally: &tally,
+        counts,
+        all: Vec::new(alloc),
+    };
+    let Roster { duties, reading } = assigned(rt, alloc, given, crew, &taken)?;
+    let door = Door {
+        listener,
+        sessions,
+        clients,
+    };
+    let seats = work(rt, alloc, shared, &station, duties, door)?;
+    let sums = reading.map_or([0; 5], sums_of);
+    let history = station.close(seats).ok();
+    Ok(Ended { history, sums })
+}
+
+/// Runs a site from its first client until the cluster stops.
+pub(crate) fn run_site<
+    R: Threads + Wait + rt::Clock + Sync,
+    P: Link + Send + Drop,
+    Q: Link + Send + Drop,
+    G: Gate,
+>(rt: &R, alloc: Global, shared: &Shared<'_, G>, job: Job<P, Q>) -> Result<Ended, ClusterFault> {
+    let seats = seats_of(&job);
+    run_named::<R, Brand, P, Q, G>(rt, alloc, shared, Blank::new(seats as u64), seats, job)
+}
