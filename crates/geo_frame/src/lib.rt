@@ -19,8 +19,6 @@ mod push;
 mod ranges;
 mod reading;
 mod record;
-#[cfg(test)]
-mod tests;
 mod vector;
 mod writing;
 

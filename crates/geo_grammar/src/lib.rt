@@ -43,6 +43,3 @@ pub use stats::Stats;
 pub use texts::{push_answer, push_reply, render};
 pub use value::ValueBytes;
 pub use words::number;
-
-#[cfg(test)]
-mod tests;

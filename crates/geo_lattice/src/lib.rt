@@ -13,8 +13,6 @@ pub mod lww;
 pub mod map_of;
 pub mod max;
 pub mod pair;
-#[cfg(test)]
-mod tests;
 pub mod twin;
 
 pub use change::{Change, Show, Test};

@@ -18,6 +18,3 @@ pub use decision::{Answer, Decision, Effect};
 pub use entry::Entry;
 pub use expiry::{expiry_of, live};
 pub use table::decide;
-
-#[cfg(test)]
-mod tests;

@@ -28,6 +28,3 @@ pub use fault::SessionFault;
 pub use gate::{Gate, OpenGate};
 pub use serving::serve;
 pub use session::Session;
-
-#[cfg(test)]
-mod tests;

@@ -7,8 +7,6 @@
 
 pub mod acks;
 pub mod stamp;
-#[cfg(test)]
-mod tests;
 pub mod vector;
 
 pub use acks::Acks;

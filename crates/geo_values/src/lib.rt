@@ -6,8 +6,6 @@
 
 pub mod blob;
 pub mod parts;
-#[cfg(test)]
-mod tests;
 pub mod values;
 
 pub use blob::Blob;

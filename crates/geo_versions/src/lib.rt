@@ -13,8 +13,6 @@ pub mod length;
 mod removal;
 mod rising;
 mod shown;
-#[cfg(test)]
-mod tests;
 pub mod version;
 pub mod versions;
 

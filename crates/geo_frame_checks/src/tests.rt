@@ -1,8 +1,8 @@
 //! The worked example against bytes from outside, and the smallest change of it that each fault tells.
 ghost use Rattle.std.specs.Prelude.{◌<◌};
 
-use crate::{FrameFault, decode, encode, fits, wanted};
 use geo_delta::Parcel;
+use geo_frame::{FrameFault, decode, encode, fits, wanted};
 use geo_lattice::{Items, Lww, Pair};
 use geo_stamp::{Stamp, Vector};
 use geo_versions::{Body, Digest, Key, Length, Rec};

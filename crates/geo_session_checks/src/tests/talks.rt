@@ -1,6 +1,6 @@
 //! What clients say and read.
 use super::{Idle, Recorder, bare, served};
-use crate::{OpenGate, Session, SessionEnd, SessionFault};
+use geo_session::{OpenGate, Session, SessionEnd, SessionFault};
 use std::hash::RandomState;
 use std::sync::atomic::{AtomicU64, Ordering};
 use std::test::Fail;

@@ -3,8 +3,8 @@ mod devices;
 mod shared;
 mod talks;
 
-use crate::{Backend, Bare, Gate, SessionEnd, SessionFault, serve};
 use geo_grammar::{Device, Reply, Request};
+use geo_session::{Backend, Bare, Gate, SessionEnd, SessionFault, serve};
 use geo_site::{Setup, Site};
 use std::alloc::Global;
 use std::hash::RandomState;

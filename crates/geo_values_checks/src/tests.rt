@@ -1,8 +1,8 @@
 //! Each public call with ample memory, against answers worked out by hand.
 ghost use Rattle.std.specs.Prelude.{◌≤◌, length, IfOk};
 
-use crate::{Blob, Values};
 use geo_slabs::Slabs;
+use geo_values::{Blob, Values};
 use geo_versions::{Digest, Key};
 use std::alloc::Global;
 use std::hash::RandomState;

@@ -3,7 +3,7 @@ ghost use Rattle.std.specs.Prelude.{◌≡◌, Option, None, Some, refl, false, 
 ghost use Rattle.geo_lattice.specs.Maps.{meaning_or};
 ghost use Rattle.geo_lattice.specs.declared.lww.Lww.{Lww};
 
-use crate::{Bottom, Change, Items, Lattice, Lww, MapOf, Max, Pair, Show, Test, Twin};
+use geo_lattice::{Bottom, Change, Items, Lattice, Lww, MapOf, Max, Pair, Show, Test, Twin};
 use std::alloc::{AllocError, Global};
 use std::hash::RandomState;
 use std::test::Fail;

@@ -1,6 +1,6 @@
 //! Each public call once.
-use crate::{Acks, LAST_TIME, Stamp, Vector};
 use geo_lattice::{Lattice, Twin};
+use geo_stamp::{Acks, LAST_TIME, Stamp, Vector};
 use std::test::Fail;
 
 #[test]

@@ -1,6 +1,9 @@
 ghost use Rattle.std.specs.Prelude.{◌<◌, ◌≤◌, IfOk};
 
-use super::*;
+use geo_grammar::{
+    Device, Fault, Found, Item, Reader, Reply, Request, Stats, ValueBytes, Verb, fault_text,
+    push_answer, push_reply, read_all, render,
+};
 use geo_lattice::{Items, Twin};
 use geo_versions::Key;
 use std::alloc::{AllocError, Global};

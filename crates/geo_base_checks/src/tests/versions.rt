@@ -1,7 +1,7 @@
 //! Each public call once, with ample memory. What several tests do stands in functions of its own: short bodies are proved faster.
-use crate::{Body, Digest, Key, Length, Rec, Version, Versions, are_rising, sift};
 use geo_lattice::{Lattice, Lww, Pair, Twin};
 use geo_stamp::{Stamp, Vector};
+use geo_versions::{Body, Digest, Key, Length, Rec, Version, Versions, are_rising, sift};
 use std::alloc::Global;
 use std::hash::RandomState;
 use std::test::Fail;

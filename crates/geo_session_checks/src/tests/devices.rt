@@ -1,7 +1,7 @@
 //! Readers and writers that fail, and when is written.
 use super::{Idle, Recorder, Sink, Source, bare};
-use crate::{OpenGate, SessionEnd, SessionFault, serve};
 use geo_grammar::Device;
+use geo_session::{OpenGate, SessionEnd, SessionFault, serve};
 use std::hash::RandomState;
 use std::io::{Error, ErrorKind, Read, Result as IoResult, Write};
 use std::sync::atomic::{AtomicU64, Ordering};

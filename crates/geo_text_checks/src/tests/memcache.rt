@@ -1,7 +1,7 @@
 //! What is decided of one entry, worked out by hand from memcached's protocol.txt.
-use crate::{Answer, Ask, Decision, Effect, Entry, ask_of, decide, expiry_of, live};
 use geo_grammar::{LONGEST_VALUE, Reply, Request, ValueBytes, Verb};
 use geo_lattice::Items;
+use geo_memcache::{Answer, Ask, Decision, Effect, Entry, ask_of, decide, expiry_of, live};
 use geo_versions::Key;
 use std::alloc::{AllocError, Global};
 use std::process::Abort;

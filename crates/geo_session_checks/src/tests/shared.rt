@@ -4,9 +4,9 @@ ghost use Rattle.geo_history.specs.Keeping.{opened_with};
 ghost use Rattle.geo_history.specs.Stories.{story_in};
 
 use super::served;
-use crate::clock::Clock;
-use crate::{Counted, Gate, OpenGate, SessionEnd};
 use geo_history::Kept;
+use geo_session::clock::Clock;
+use geo_session::{Counted, Gate, OpenGate, SessionEnd};
 use geo_site::Setup;
 use geo_station::Station;
 use geo_tally::{Counter, Tally, TallySeat};

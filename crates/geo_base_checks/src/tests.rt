@@ -1,0 +1,3 @@
+mod lattice;
+mod stamp;
+mod versions;

@@ -1,0 +1,5 @@
+//! Checks of frames against bytes from outside.
+#![tactic(auto)]
+
+#[cfg(test)]
+mod tests;
