@@ -1,0 +1,189 @@
+//! Rounds of gossip between two stations.
+ghost use Rattle.std.specs.Prelude.{◌≡◌, ℕ, [], IfOk};
+ghost use Rattle.geo_history.specs.Keeping.{opened_with};
+ghost use Rattle.geo_history.specs.Stories.{story_in};
+
+use geo_gossip::{Peer, receive, round};
+use geo_grammar::{Reply, Request, ValueBytes, Verb};
+use geo_history::Kept;
+use geo_link::{MemoryLink, memory_link};
+use geo_site::Setup;
+use geo_station::{Seat, Station};
+use geo_versions::Key;
+use std::alloc::Global;
+use std::hash::RandomState;
+use std::marker::Brand;
+use std::sync::Wait;
+use std::sync::ledger::{Blank, Ledger};
+use std::test::Fail;
+
+/// A site of three that knows nothing.
+fn opened(rt: &HostRuntime, site: u8) -> Result<Kept, Fail>
+    ensures steps { IfOk result (λ kept. (story_in kept).steps ≡ []) }
+    ensures opening { IfOk result (λ kept. (seat : ℕ) → opened_with (story_in kept).opening seat ≡ 0) }
+{
+    let setup = Setup {
+        site,
+        sites: 3,
+        pages: 15,
+        max_records: 1000,
+        reap_after: 60,
+        hasher: RandomState::new(rt)?,
+    };
+    match Kept::new(rt.alloc(), setup) {
+        Ok(kept) => Ok(kept),
+        Err(_) => Err("no site".into()),
+    }
+}
+
+/// A station and a seat at it.
+fn station_of<L: Ledger>(
+    rt: &impl Wait,
+    alloc: Global,
+    blank: Blank,
+    kept: Kept,
+) -> Result<(Station<L>, Seat<L>), Fail>
+    requires name { blank.name ≡ L.name }
+    requires parts { blank.parts ≡ L.parts }
+    requires two { blank.parts ≡ 2 }
+    requires steps { (story_in kept).steps ≡ [] }
+    requires opening { (seat : ℕ) → opened_with (story_in kept).opening seat ≡ 0 }
+{
+    let station = Station::<L>::new(blank, kept, 2).ok().ok_or("no station")?;
+    let seat = station.seat(rt, alloc).ok().ok_or("no seat")?;
+    Ok((station, seat))
+}
+
+fn set<L: Ledger>(
+    rt: &impl Wait,
+    alloc: Global,
+    station: &Station<L>,
+    seat: &mut Seat<L>,
+    bytes: &[u8],
+) -> Result<(), Fail> {
+    let request = Request::Store {
+        verb: Verb::Set,
+        key: Key::new(alloc, b"a")?.ok_or("no key")?,
+        flags: 0,
+        exptime: 0,
+        unique: None,
+        bytes: ValueBytes::of(Vec::from_slice(alloc, bytes)?),
+        noreply: false,
+    };
+    match station.act(rt, alloc, seat, 100, request) {
+        Ok(Reply::Stored) => Ok(()),
+        _ => Err("not stored".into()),
+    }
+}
+
+/// A round to one peer, whose link is then dropped: how many parcels were put.
+fn tell<L: Ledger>(
+    rt: &impl Wait,
+    alloc: Global,
+    station: &Station<L>,
+    seat: &mut Seat<L>,
+    site: u8,
+    link: MemoryLink,
+) -> Result<usize, Fail> {
+    let mut peers = Vec::new(alloc);
+    peers.push(Peer { site, link })?;
+    Ok(
+        round(rt, alloc, station, seat, peers.as_mut_slice())
+            .ok()
+            .ok_or("no round")?,
+    )
+}
+
+/// The number of what a site names for the one key that it tells a third site of.
+fn named<L: Ledger>(
+    rt: &impl Wait,
+    alloc: Global,
+    station: &Station<L>,
+    seat: &mut Seat<L>,
+) -> Result<u64, Fail> {
+    let parcel = station.send(rt, alloc, seat, 3).ok().ok_or("no parcel")?;
+    match parcel.records.as_slice() {
+        [(_key, record)] => {
+            let (stamp, _body) = record.left.get().ok_or("no version")?;
+            Ok(stamp.cas())
+        }
+        _ => Err("not one record".into()),
+    }
+}
+
+/// What a site and its station's seat have of one exchange: how many parcels were put, how many were taken, what is named then.
+type Seen = (usize, usize, u64);
+
+/// The two ends of what leads from one site to the other, and back.
+fn two_links(alloc: Global) -> Result<[(MemoryLink, MemoryLink); 2], Fail> {
+    let forth = memory_link(alloc, 16).ok().ok_or("no link")?;
+    let back = memory_link(alloc, 16).ok().ok_or("no link")?;
+    Ok([forth, back])
+}
+
+/// Both tell each other, and then both take what came.
+fn exchange<L: Ledger, M: Ledger>(
+    rt: &impl Wait,
+    alloc: Global,
+    one: (&Station<L>, &mut Seat<L>),
+    two: (&Station<M>, &mut Seat<M>),
+) -> Result<[Seen; 2], Fail> {
+    let [(forth, mut at_two), (back, mut at_one)] = two_links(alloc)?;
+    let first = tell(rt, alloc, one.0, one.1, 2, forth)?;
+    let second = tell(rt, alloc, two.0, two.1, 1, back)?;
+    let by_one = receive(rt, alloc, one.0, one.1, &mut at_one);
+    let by_two = receive(rt, alloc, two.0, two.1, &mut at_two);
+    let names_one = named(rt, alloc, one.0, one.1)?;
+    let names_two = named(rt, alloc, two.0, two.1)?;
+    Ok([(first, by_one, names_one), (second, by_two, names_two)])
+}
+
+/// A second site beside the first.
+fn beside<L: Ledger, M: Ledger, R: Wait>(
+    rt: &R,
+    alloc: Global,
+    station: &Station<L>,
+    seat: &mut Seat<L>,
+    blank: Blank,
+    kept: Kept,
+) -> Result<[Seen; 2], Fail>
+    requires name { blank.name ≡ M.name }
+    requires parts { blank.parts ≡ M.parts }
+    requires two { blank.parts ≡ 2 }
+    requires steps { (story_in kept).steps ≡ [] }
+    requires opening { (seat : ℕ) → opened_with (story_in kept).opening seat ≡ 0 }
+{
+    let (other, mut second) = station_of::<M>(rt, alloc, blank, kept)?;
+    set(rt, alloc, &other, &mut second, b"yo")?;
+    exchange(rt, alloc, (station, seat), (&other, &mut second))
+}
+
+/// Two sites that set one key, and tell each other in one round each.
+fn both<L: Ledger, R: Wait>(
+    rt: &R,
+    alloc: Global,
+    blank: Blank,
+    one: Kept,
+    two: Kept,
+) -> Result<[Seen; 2], Fail>
+    requires name { blank.name ≡ L.name }
+    requires parts { blank.parts ≡ L.parts }
+    requires two { blank.parts ≡ 2 }
+    requires steps_of_one { (story_in one).steps ≡ [] }
+    requires opening_of_one { (seat : ℕ) → opened_with (story_in one).opening seat ≡ 0 }
+    requires steps_of_two { (story_in two).steps ≡ [] }
+    requires opening_of_two { (seat : ℕ) → opened_with (story_in two).opening seat ≡ 0 }
+{
+    let (station, mut seat) = station_of::<L>(rt, alloc, blank, one)?;
+    set(rt, alloc, &station, &mut seat, b"hi")?;
+    beside::<L, Brand, R>(rt, alloc, &station, &mut seat, Blank::new(2), two)
+}
+
+#[test]
+fn a_round_each_makes_two_sites_name_the_same(rt: HostRuntime) -> Result<(), Fail> {
+    let one = opened(&rt, 1)?;
+    let two = opened(&rt, 2)?;
+    let seen = both::<Brand, _>(&rt, rt.alloc(), Blank::new(2), one, two)?;
+    assert_eq!(rt; seen, [(1, 1, 258), (1, 1, 258)]);
+    Ok(())
+}

@@ -1,0 +1,232 @@
+//! What clients of a cluster read, over sockets of the loopback, and what is told at its end.
+use geo_config::config;
+use geo_grammar::Device;
+use geo_server::{ClusterFault, run_cluster};
+use geo_session::{Gate, OpenGate};
+use std::alloc::Global;
+use std::io::{Read, Write};
+use std::net::{Net, OpenListener, TcpListener, TcpStream};
+use std::random::RandomSource;
+use std::rt::Clock;
+use std::sync::Wait;
+use std::sync::atomic::{AtomicU64, Ordering};
+use std::test::Fail;
+use std::thread::{self, Threads, join};
+use std::time::Duration;
+
+/// A port of the loopback at which nobody listens.
+fn free_port<R: Net<Stream = TcpStream, Listener = TcpListener>>(rt: &R) -> Option<u16> {
+    let listener = TcpListener::bind(rt, "127.0.0.1:0").ok()?;
+    Some(listener.local_addr().ok()?.port())
+}
+
+/// A cluster of one site.
+fn one_site(alloc: Global, port: u16, workers: usize, sessions: usize) -> Option<String> {
+    format!(in alloc;
+        "sessions = {sessions}\npages = 15\n[[site]]\nnumber = 1\nworkers = {workers}\nclient = \"127.0.0.1:{port}\"\n"
+    ).ok()
+}
+
+/// What a cluster tells at its end.
+fn run<
+    R: Net<Stream = TcpStream, Listener = TcpListener>
+        + Threads
+        + Wait
+        + Clock
+        + RandomSource
+        + Sync,
+    G: Gate,
+>(rt: &R, alloc: Global, text: &str, gate: &G) -> Option<Vec<u8>> {
+    let config = config(alloc, text).ok()?;
+    let mut writer = Device::new(Vec::new(alloc));
+    run_cluster(rt, alloc, &config, gate, &mut writer).ok()?;
+    Some(writer.into_inner())
+}
+
+/// A connection to a port, once somebody listens there.
+fn connected<R: Net<Stream = TcpStream, Listener = TcpListener> + Clock + Wait>(
+    rt: &R,
+    address: &str,
+) -> Option<TcpStream> {
+    for _turn in 0..1_000 {
+        if let Ok(stream) = TcpStream::connect(rt, address) {
+            return Some(stream);
+        }
+        thread::sleep(rt, Duration::from_millis(10));
+    }
+    None
+}
+
+/// What a client reads to the end of its connection.
+fn talk<R: Net<Stream = TcpStream, Listener = TcpListener> + Clock + Wait>(
+    rt: &R,
+    alloc: Global,
+    port: u16,
+    input: &[u8],
+) -> Option<Vec<u8>> {
+    let address = format!(in alloc; "127.0.0.1:{port}").ok()?;
+    let mut stream = connected(rt, address.as_str())?;
+    stream.write_all(input).ok()?;
+    let mut all = Vec::new(alloc);
+    let mut piece = [0u8; 256];
+    for _read in 0..u64::MAX {
+        let count = stream.read(&mut piece).ok()?;
+        let came = piece.get(..count)?;
+        if came.is_empty() {
+            return Some(all);
+        }
+        all.extend_from_slice(came).ok()?;
+    }
+    None
+}
+
+/// Whether this is what is told at the end, for any number of rounds.
+fn tells(told: &[u8], sums: &[u8]) -> bool {
+    told.starts_with(sums) && told.ends_with(b"\nframes_refused 0\naudit sound\n")
+}
+
+/// What a client reads that sets and gets, and what is told then.
+fn one_client<
+    R: Net<Stream = TcpStream, Listener = TcpListener>
+        + Threads
+        + Wait
+        + Clock
+        + RandomSource
+        + Sync,
+>(rt: &R, alloc: Global) -> Option<(Vec<u8>, Vec<u8>)> {
+    let port = free_port(rt)?;
+    let text = one_site(alloc, port, 4, 1)?;
+    let input = b"set a 0 0 2\r\nhi\r\nget a\r\nquit\r\n";
+    let (told, read) = join(
+        rt,
+        || -> Option<Vec<u8>> { run(rt, alloc, text.as_str(), &OpenGate) },
+        || -> Option<Vec<u8>> { talk(rt, alloc, port, input) },
+    );
+    Some((read?, told?))
+}
+
+#[test]
+fn a_client_is_answered_and_counted(rt: HostRuntime) -> Result<(), Fail> {
+    let (read, told) = one_client(&rt, rt.alloc()).ok_or("no end")?;
+    assert_eq!(rt;
+        read.as_slice(),
+        b"STORED\r\nVALUE a 0 2\r\nhi\r\nEND\r\n".as_slice()
+    );
+    assert!(rt;
+        tells(
+            told.as_slice(),
+            b"sessions 1\nrequests 3\nfaults 0\nrounds "
+        )
+    );
+    Ok(())
+}
+
+/// The first pass waits until a second has come.
+#[derive(Drop)]
+struct Meeting {
+    passes: AtomicU64,
+    missed: AtomicU64,
+}
+
+impl Gate for Meeting {
+    fn pass<R: Wait + Clock>(&self, rt: &R, _call: u64) {
+        if self.passes.fetch_add(1, Ordering::SeqCst) > 0 {
+            return;
+        }
+        for _turn in 0..10_000 {
+            if self.passes.load(Ordering::SeqCst) > 1 {
+                return;
+            }
+            thread::sleep(rt, Duration::from_millis(1));
+        }
+        self.missed.store(1, Ordering::SeqCst);
+    }
+}
+
+/// Whether a client that asks for the version reads it.
+fn reads_version<R: Net<Stream = TcpStream, Listener = TcpListener> + Clock + Wait>(
+    rt: &R,
+    alloc: Global,
+    port: u16,
+) -> bool {
+    match talk(rt, alloc, port, b"version\r\nquit\r\n") {
+        Some(read) => read.as_slice() == b"VERSION 1.0.0\r\n".as_slice(),
+        None => false,
+    }
+}
+
+/// Whether each of two clients at once does.
+fn two_read_version<
+    R: Net<Stream = TcpStream, Listener = TcpListener>
+        + Threads
+        + Wait
+        + Clock
+        + RandomSource
+        + Sync,
+>(rt: &R, alloc: Global, port: u16) -> (bool, bool) {
+    join(
+        rt,
+        || -> bool { reads_version(rt, alloc, port) },
+        || -> bool { reads_version(rt, alloc, port) },
+    )
+}
+
+/// Whether two clients of two workers are answered while neither waits for the other to leave, and what is told then.
+fn two_clients<
+    R: Net<Stream = TcpStream, Listener = TcpListener>
+        + Threads
+        + Wait
+        + Clock
+        + RandomSource
+        + Sync,
+>(rt: &R, alloc: Global, gate: &Meeting) -> Option<((bool, bool), Vec<u8>)> {
+    let port = free_port(rt)?;
+    let text = one_site(alloc, port, 2, 2)?;
+    let (told, are_answered) = join(
+        rt,
+        || -> Option<Vec<u8>> { run(rt, alloc, text.as_str(), gate) },
+        || -> (bool, bool) { two_read_version(rt, alloc, port) },
+    );
+    Some((are_answered, told?))
+}
+
+#[test]
+fn two_workers_serve_two_clients_at_once(rt: HostRuntime) -> Result<(), Fail> {
+    let gate = Meeting {
+        passes: AtomicU64::new(0),
+        missed: AtomicU64::new(0),
+    };
+    let (are_answered, told) = two_clients(&rt, rt.alloc(), &gate).ok_or("no end")?;
+    assert_eq!(rt; are_answered, (true, true));
+    assert!(rt;
+        tells(
+            told.as_slice(),
+            b"sessions 2\nrequests 4\nfaults 0\nrounds "
+        )
+    );
+    assert_eq!(rt; gate.missed.load(Ordering::SeqCst), 0);
+    Ok(())
+}
+
+/// Why a cluster does not start at an address that is taken.
+fn fault_at_taken<
+    R: Net<Stream = TcpStream, Listener = TcpListener>
+        + Threads
+        + Wait
+        + Clock
+        + RandomSource
+        + Sync,
+>(rt: &R, alloc: Global) -> Option<ClusterFault> {
+    let listener = TcpListener::bind(rt, "127.0.0.1:0").ok()?;
+    let text = one_site(alloc, listener.local_addr().ok()?.port(), 1, 1)?;
+    let config = config(alloc, text.as_str()).ok()?;
+    let mut writer = Device::new(Vec::new(alloc));
+    run_cluster(rt, alloc, &config, &OpenGate, &mut writer).err()
+}
+
+#[test]
+fn an_address_that_is_taken_is_told(rt: HostRuntime) -> Result<(), Fail> {
+    let fault = fault_at_taken(&rt, rt.alloc());
+    assert!(rt; matches!(fault, Some(ClusterFault::Listen(_))));
+    Ok(())
+}
