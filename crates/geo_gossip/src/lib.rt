@@ -12,4 +12,3 @@ mod rounds;
 pub use fault::GossipFault;
 pub use receiving::receive;
 pub use rounds::{Peer, round};
-

@@ -6,6 +6,7 @@ ghost use Rattle.geo_history.specs.Stories.{story_in};
 use geo_gossip::{Peer, receive, round};
 use geo_grammar::{Reply, Request, ValueBytes, Verb};
 use geo_history::Kept;
+use geo_lattice::Items;
 use geo_link::{MemoryLink, memory_link};
 use geo_site::Setup;
 use geo_station::{Seat, Station};
@@ -111,8 +112,27 @@ fn named<L: Ledger>(
     }
 }
 
-/// What a site and its station's seat have of one exchange: how many parcels were put, how many were taken, what is named then.
-type Seen = (usize, usize, u64);
+/// How many values a get finds.
+fn found<L: Ledger>(
+    rt: &impl Wait,
+    alloc: Global,
+    station: &Station<L>,
+    seat: &mut Seat<L>,
+) -> Result<usize, Fail> {
+    let mut keys = Vec::new(alloc);
+    keys.push(Key::new(alloc, b"a")?.ok_or("no key")?)?;
+    let request = Request::Fetch {
+        keys: Items::of(keys),
+        numbers: false,
+    };
+    match station.act(rt, alloc, seat, 100, request) {
+        Ok(Reply::Values(values)) => Ok(values.as_slice().len()),
+        _ => Err("no values".into()),
+    }
+}
+
+/// What a site has of one exchange: how many parcels were put, how many were taken, what is named then, and how many values are found.
+type Seen = (usize, usize, u64, usize);
 
 /// The two ends of what leads from one site to the other, and back.
 fn two_links(alloc: Global) -> Result<[(MemoryLink, MemoryLink); 2], Fail> {
@@ -133,9 +153,20 @@ fn exchange<L: Ledger, M: Ledger>(
     let second = tell(rt, alloc, two.0, two.1, 1, back)?;
     let by_one = receive(rt, alloc, one.0, one.1, &mut at_one);
     let by_two = receive(rt, alloc, two.0, two.1, &mut at_two);
-    let names_one = named(rt, alloc, one.0, one.1)?;
-    let names_two = named(rt, alloc, two.0, two.1)?;
-    Ok([(first, by_one, names_one), (second, by_two, names_two)])
+    Ok([
+        (
+            first,
+            by_one,
+            named(rt, alloc, one.0, one.1)?,
+            found(rt, alloc, one.0, one.1)?,
+        ),
+        (
+            second,
+            by_two,
+            named(rt, alloc, two.0, two.1)?,
+            found(rt, alloc, two.0, two.1)?,
+        ),
+    ])
 }
 
 /// A second site beside the first.
@@ -184,6 +215,6 @@ fn a_round_each_makes_two_sites_name_the_same(rt: HostRuntime) -> Result<(), Fai
     let one = opened(&rt, 1)?;
     let two = opened(&rt, 2)?;
     let seen = both::<Brand, _>(&rt, rt.alloc(), Blank::new(2), one, two)?;
-    assert_eq!(rt; seen, [(1, 1, 258), (1, 1, 258)]);
+    assert_eq!(rt; seen, [(1, 1, 258, 0), (1, 1, 258, 1)]);
     Ok(())
 }
