@@ -1,5 +1,5 @@
 //! Letting clients in.
-use crossbeam_channel::Sender;
+use crate::mailbox::Mailbox;
 use std::net::{OpenListener, TcpListener, TcpStream};
 use std::rt::Clock;
 use std::sync::Wait;
@@ -20,19 +20,34 @@ fn next_connection<R: Wait + Clock>(rt: &R, listener: &TcpListener) -> TcpStream
     unreachable!()
 }
 
-/// Lets so many clients in, and hands each to whichever worker is free. Then it listens no more.
+/// The mailbox of the worker that has the fewest clients, the first of several.
+fn least(mailboxes: &[Mailbox]) -> Option<&Mailbox> {
+    let mut found: Option<&Mailbox> = None;
+    for mailbox in mailboxes {
+        match found {
+            Some(other) if other.load() <= mailbox.load() => {}
+            _ => found = Some(mailbox),
+        }
+    }
+    found
+}
+
+/// Lets so many clients in, and hands each to the worker that has the fewest. Then it listens no more.
 pub(crate) fn accept<R: Wait + Clock>(
     rt: &R,
     listener: TcpListener,
     sessions: u64,
-    workers: Sender<TcpStream>,
+    mailboxes: &[Mailbox],
 ) {
     for _session in 0..sessions {
         let stream = next_connection(rt, &listener);
         // a small reply is not to wait for a larger one
         let _ = stream.set_nodelay(true);
-        if workers.send(rt, stream).is_err() {
-            return;
+        if let Some(mailbox) = least(mailboxes) {
+            mailbox.hand_in(rt, stream);
         }
+    }
+    for mailbox in mailboxes {
+        mailbox.close(rt);
     }
 }

@@ -3,16 +3,15 @@ ghost use Rattle.std.specs.Prelude.{◌≡◌};
 
 use crate::clock::SystemClock;
 use crate::site::Shared;
-use crossbeam_channel::Receiver;
+use crate::worker::Worker;
+use geo_crowd::Passed;
 use geo_gossip::{Peer, receive, round};
-use geo_grammar::Device;
 use geo_link::{Link, Tallied};
 use geo_session::clock::Clock;
-use geo_session::{Counted, Gate, SessionFault, serve};
+use geo_session::{Counted, Gate};
 use geo_station::{Seat, Station};
 use geo_tally::{Counter, Tally, TallySeat};
 use std::alloc::Global;
-use std::net::{OpenStream, TcpStream};
 use std::rt;
 use std::sync::Wait;
 use std::sync::ledger::Ledger;
@@ -35,8 +34,8 @@ impl Counting<'_> {
 /// What a thread of a site does until the cluster is told to stop.
 #[derive(Drop)]
 pub(crate) enum Duty<'a, L: Ledger, P: Link + Drop, Q: Link + Drop> {
-    /// Serves clients, one after the other.
-    Serve(Counted<'a, L, SystemClock>, Receiver<TcpStream>),
+    /// Carries clients' connections.
+    Serve(Counted<'a, L, SystemClock>, Worker<'a>),
     /// Tells the other sites what was written here.
     Gossip(Seat<L>, Counting<'a>, Vec<Peer<P>>),
     /// Does what a site needs from time to time.
@@ -45,43 +44,33 @@ pub(crate) enum Duty<'a, L: Ledger, P: Link + Drop, Q: Link + Drop> {
     Receive(Seat<L>, Tallied<'a, Q>),
 }
 
-/// Serves one client, and counts the session.
-fn serve_client<R: Wait + rt::Clock, L: Ledger, G: Gate>(
-    rt: &R,
-    alloc: Global,
-    backend: &mut Counted<'_, L, SystemClock>,
-    gate: &G,
-    stream: &TcpStream,
-) {
-    let mut reader = Device::new(stream);
-    let mut writer = Device::new(stream);
-    let outcome: Result<_, SessionFault> = serve(
-        rt,
-        alloc,
-        &mut reader,
-        &mut writer,
-        backend,
-        gate,
-    );
-    backend.count(Counter::Sessions);
-    if outcome.is_err() {
+/// Counts sessions that ended.
+fn count_sessions<L: Ledger>(backend: &mut Counted<'_, L, SystemClock>, passed: Passed) {
+    for _session in 0..passed.ended {
+        backend.count(Counter::Sessions);
+    }
+    for _fault in 0..passed.faults {
         backend.count(Counter::Faults);
     }
 }
 
-/// Serves clients until no more come, and gives the station's seat back.
+/// Carries clients' connections until no more come and all have ended, and gives the station's seat back.
 fn serve_clients<R: Wait + rt::Clock, L: Ledger, G: Gate>(
     rt: &R,
     alloc: Global,
     shared: &Shared<'_, G>,
     mut backend: Counted<'_, L, SystemClock>,
-    clients: Receiver<TcpStream>,
+    mut worker: Worker<'_>,
 ) -> Seat<L> {
-    for stream in clients.iter(rt) {
-        serve_client(rt, alloc, &mut backend, shared.gate, &stream);
+    for _ in rt.forever() {
+        let passed = worker.turn(rt, alloc, &mut backend, shared.gate);
+        count_sessions(&mut backend, passed);
+        if worker.is_done() {
+            shared.worker_ends();
+            return backend.into_seats().0;
+        }
     }
-    shared.worker_ends();
-    backend.into_seats().0
+    unreachable!()
 }
 
 /// Sends rounds until the cluster stops, and then lets go of the links, by which those who receive at their ends learn of it.
@@ -131,7 +120,7 @@ impl<L: Ledger, P: Link + Drop, Q: Link + Drop> Duty<'_, L, P, Q> {
         station: &Station<L>,
     ) -> Seat<L> {
         match self {
-            Duty::Serve(backend, clients) => serve_clients(rt, alloc, shared, backend, clients),
+            Duty::Serve(backend, worker) => serve_clients(rt, alloc, shared, backend, worker),
             Duty::Gossip(seat, counting, peers) => gossip(
                 rt, alloc, shared, station, seat, counting, peers,
             ),

@@ -11,10 +11,13 @@ mod clock;
 mod cluster;
 mod duty;
 mod fault;
+mod mailbox;
 mod report;
 mod site;
+mod socket;
 mod tcp;
 mod wires;
+mod worker;
 
 pub use clock::SystemClock;
 pub use cluster::run_cluster;

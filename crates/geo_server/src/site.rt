@@ -8,25 +8,24 @@ use crate::accept::accept;
 use crate::clock::SystemClock;
 use crate::duty::{Counting, Duty};
 use crate::fault::{ClusterFault, add};
-use crossbeam_channel::{Receiver, Sender, bounded};
+use crate::mailbox::Mailbox;
+use crate::worker::{HANDED_IN, Worker};
 use geo_gossip::Peer;
 use geo_history::{History, Kept};
 use geo_link::{Link, Tallied};
 use geo_session::{Counted, Gate};
 use geo_station::{Seat, Station};
 use geo_tally::{Counter, Tally, TallySeat};
+use mio::{Poll, Waker};
 use std::alloc::{AllocError, Global};
 use std::marker::Brand;
-use std::net::{TcpListener, TcpStream};
+use std::net::{Net, TcpListener, TcpStream};
 use std::rt;
 use std::sync::Wait;
 use std::sync::atomic::{AtomicU64, Ordering};
 use std::sync::ledger::{Blank, Ledger};
 use std::thread::{Threads, join, map_vec};
 use std::time::Duration;
-
-/// How many clients may wait for a worker beside those that wait in the system.
-const WAITING: usize = 64;
 
 /// What the threads of all sites share.
 #[derive(Drop)]
@@ -142,7 +141,7 @@ impl<'a, L: Ledger, P: Link + Drop, Q: Link + Drop> Duties<'a, L, P, Q> {
         &mut self,
         rt: &R,
         alloc: Global,
-        clients: &Receiver<TcpStream>,
+        worker: Worker<'a>,
     ) -> Result<(), ClusterFault> {
         let (
             seat,
@@ -152,10 +151,7 @@ impl<'a, L: Ledger, P: Link + Drop, Q: Link + Drop> Duties<'a, L, P, Q> {
             },
         ) = self.seats(rt, alloc)?;
         let backend = Counted::new(self.station, seat, &SystemClock, tally, counts);
-        match clients.clone() {
-            Ok(clients) => self.add(Duty::Serve(backend, clients)),
-            Err(_) => Err(ClusterFault::Memory),
-        }
+        self.add(Duty::Serve(backend, worker))
     }
 
     /// The thread that tells other sites, and the one that maintains the site.
@@ -204,8 +200,6 @@ struct Door {
     listener: TcpListener,
     /// How many are let in.
     sessions: u64,
-    /// To the workers.
-    clients: Sender<TcpStream>,
 }
 
 /// The duties of a site's threads, and what reads the tally in the end.
@@ -220,16 +214,12 @@ fn assigned<'a, R: Wait, L: Ledger, P: Link + Drop, Q: Link + Drop>(
     rt: &R,
     alloc: Global,
     mut given: Duties<'a, L, P, Q>,
-    crew: Crew<P, Q>,
-    clients: &Receiver<TcpStream>,
+    peers: Vec<Peer<P>>,
+    froms: Vec<Q>,
+    workers: Vec<Worker<'a>>,
 ) -> Result<Roster<'a, L, P, Q>, ClusterFault> {
-    let Crew {
-        workers,
-        peers,
-        froms,
-    } = crew;
-    for _worker in 0..workers {
-        given.serve(rt, alloc, clients)?;
+    for worker in workers {
+        given.serve(rt, alloc, worker)?;
     }
     given.keep_up(rt, alloc, peers)?;
     for from in froms {
@@ -262,15 +252,12 @@ fn work<
     station: &Station<L>,
     duties: Vec<Duty<'_, L, P, Q>>,
     door: Door,
+    mailboxes: &[Mailbox],
 ) -> Result<Vec<Seat<L>>, ClusterFault> {
-    let Door {
-        listener,
-        sessions,
-        clients,
-    } = door;
+    let Door { listener, sessions } = door;
     let ((), seats) = join(
         rt,
-        || { accept(rt, listener, sessions, clients) },
+        || { accept(rt, listener, sessions, mailboxes) },
         || -> Result<Vec<Seat<L>>, AllocError> {
             map_vec(
                 rt,
@@ -285,6 +272,40 @@ fn work<
     }
 }
 
+/// What waits for so many workers' sockets, and where each gets its clients.
+fn posts<R: Net>(
+    rt: &R,
+    alloc: Global,
+    workers: usize,
+) -> Result<(Vec<Poll>, Vec<Mailbox>), ClusterFault> {
+    let mut polls = Vec::new(alloc);
+    let mut mailboxes = Vec::new(alloc);
+    for _worker in 0..workers {
+        let Ok(poll) = Poll::new(rt) else {
+            return Err(ClusterFault::Socket);
+        };
+        let Ok(waker) = Waker::new(poll.registry(), HANDED_IN) else {
+            return Err(ClusterFault::Socket);
+        };
+        add(&mut polls, poll)?;
+        add(&mut mailboxes, Mailbox::new(alloc, waker))?;
+    }
+    Ok((polls, mailboxes))
+}
+
+/// A worker for each mailbox.
+fn workers_of<'a>(
+    alloc: Global,
+    polls: Vec<Poll>,
+    mailboxes: &'a [Mailbox],
+) -> Result<Vec<Worker<'a>>, ClusterFault> {
+    let mut all = Vec::new(alloc);
+    for (poll, mailbox) in polls.into_iter().zip(mailboxes) {
+        add(&mut all, Worker::new(alloc, poll, mailbox)?)?;
+    }
+    Ok(all)
+}
+
 /// How many seats a site needs: one for each worker and each link from another site, one for gossip and one for maintenance.
 fn seats_of<P, Q>(job: &Job<P, Q>) -> usize {
     let crew = &job.crew;
@@ -295,7 +316,7 @@ fn seats_of<P, Q>(job: &Job<P, Q>) -> usize {
 
 /// Runs a site whose ledger is named.
 fn run_named<
-    R: Threads + Wait + rt::Clock + Sync,
+    R: Net + Threads + Wait + rt::Clock + Sync,
     L: Ledger + Send + Sync,
     P: Link + Send + Drop,
     Q: Link + Send + Drop,
@@ -322,25 +343,33 @@ fn run_named<
     let Ok(station) = Station::<L>::new(blank, kept, seats as u64) else {
         return Err(ClusterFault::Memory);
     };
-    let (Ok((tally, counts)), Ok((clients, taken))) = (
-        Tally::new(alloc, seats),
-        bounded(alloc, WAITING),
-    ) else {
+    let Ok((tally, counts)) = Tally::new(alloc, seats) else {
         return Err(ClusterFault::Memory);
     };
+    let Crew {
+        workers,
+        peers,
+        froms,
+    } = crew;
+    let (polls, mailboxes) = posts(rt, alloc, workers)?;
+    let workers = workers_of(alloc, polls, mailboxes.as_slice())?;
     let given = Duties {
         station: &station,
         tally: &tally,
         counts,
         all: Vec::new(alloc),
     };
-    let Roster { duties, reading } = assigned(rt, alloc, given, crew, &taken)?;
-    let door = Door {
-        listener,
-        sessions,
-        clients,
-    };
-    let seats = work(rt, alloc, shared, &station, duties, door)?;
+    let Roster { duties, reading } = assigned(rt, alloc, given, peers, froms, workers)?;
+    let door = Door { listener, sessions };
+    let seats = work(
+        rt,
+        alloc,
+        shared,
+        &station,
+        duties,
+        door,
+        mailboxes.as_slice(),
+    )?;
     let sums = reading.map_or([0; 5], sums_of);
     let history = station.close(seats).ok();
     Ok(Ended { history, sums })
@@ -348,7 +377,7 @@ fn run_named<
 
 /// Runs a site from its first client until the cluster stops.
 pub(crate) fn run_site<
-    R: Threads + Wait + rt::Clock + Sync,
+    R: Net + Threads + Wait + rt::Clock + Sync,
     P: Link + Send + Drop,
     Q: Link + Send + Drop,
     G: Gate,

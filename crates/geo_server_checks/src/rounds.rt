@@ -145,27 +145,24 @@ fn two_links(alloc: Global) -> Result<[(MemoryLink, MemoryLink); 2], Fail> {
 fn exchange<L: Ledger, M: Ledger>(
     rt: &impl Wait,
     alloc: Global,
-    one: (&Station<L>, &mut Seat<L>),
-    two: (&Station<M>, &mut Seat<M>),
+    one: &Station<L>,
+    first: &mut Seat<L>,
+    two: &Station<M>,
+    second: &mut Seat<M>,
 ) -> Result<[Seen; 2], Fail> {
     let [(forth, mut at_two), (back, mut at_one)] = two_links(alloc)?;
-    let first = tell(rt, alloc, one.0, one.1, 2, forth)?;
-    let second = tell(rt, alloc, two.0, two.1, 1, back)?;
-    let by_one = receive(rt, alloc, one.0, one.1, &mut at_one);
-    let by_two = receive(rt, alloc, two.0, two.1, &mut at_two);
+    let put_by_one = tell(rt, alloc, one, first, 2, forth)?;
+    let put_by_two = tell(rt, alloc, two, second, 1, back)?;
+    let by_one = receive(rt, alloc, one, first, &mut at_one);
+    let by_two = receive(rt, alloc, two, second, &mut at_two);
+    let at_first = (named(rt, alloc, one, first)?, found(rt, alloc, one, first)?);
+    let at_second = (
+        named(rt, alloc, two, second)?,
+        found(rt, alloc, two, second)?,
+    );
     Ok([
-        (
-            first,
-            by_one,
-            named(rt, alloc, one.0, one.1)?,
-            found(rt, alloc, one.0, one.1)?,
-        ),
-        (
-            second,
-            by_two,
-            named(rt, alloc, two.0, two.1)?,
-            found(rt, alloc, two.0, two.1)?,
-        ),
+        (put_by_one, by_one, at_first.0, at_first.1),
+        (put_by_two, by_two, at_second.0, at_second.1),
     ])
 }
 
@@ -186,7 +183,7 @@ fn beside<L: Ledger, M: Ledger, R: Wait>(
 {
     let (other, mut second) = station_of::<M>(rt, alloc, blank, kept)?;
     set(rt, alloc, &other, &mut second, b"yo")?;
-    exchange(rt, alloc, (station, seat), (&other, &mut second))
+    exchange(rt, alloc, station, seat, &other, &mut second)
 }
 
 /// Two sites that set one key, and tell each other in one round each.

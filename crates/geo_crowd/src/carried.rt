@@ -1,0 +1,236 @@
+//! A connection with its session.
+ghost use Rattle.std.specs.Prelude.{◌≡◌, true};
+ghost use Rattle.geo_session.specs.Sessions.{Sends};
+ghost use Rattle.geo_crowd.specs.Carrying.{Reads};
+
+use crate::standing::Standing;
+use crate::stream::{Accepted, Given, Stream};
+use geo_session::{Backend, Gate, Session, SessionEnd, SessionFault};
+use std::alloc::Global;
+use std::marker::Model;
+use std::rt::Clock;
+use std::sync::Wait;
+
+/// A client that is owed more bytes than that is read no further.
+const MOST_OWED: usize = 1 << 20;
+
+/// What came of a read.
+#[derive(Clone, Copy, Debug, PartialEq, Eq)]
+pub enum Came {
+    /// Bytes, which are answered, the end that they bring, and whether more may be there: they filled the buffer.
+    Answered(Option<SessionEnd>, bool),
+    /// Bytes, and a fault within them.
+    Broken(SessionFault),
+    /// Nothing yet.
+    Later,
+    /// The end of all.
+    End,
+    /// The connection has failed.
+    Failed,
+}
+
+/// What came of writing.
+#[derive(Clone, Copy, Debug, PartialEq, Eq)]
+enum Sent {
+    /// All that was owed is written.
+    All,
+    /// There is no room for the rest yet.
+    Part,
+    /// The connection has failed.
+    Failed,
+}
+
+/// Writes what a session owes, as far as there is room.
+fn send<S: Stream>(stream: &mut S, session: &mut Session) -> Sent
+    ensures sends { Sends session.old session.new (S.contents stream.old) (S.contents stream.new) }
+    ensures stays { S.remaining stream.new ≡ S.remaining stream.old }
+{
+    while !session.owed().is_empty() {
+        match stream.write(session.owed()) {
+            Accepted::Bytes(count) => session.sent(count),
+            Accepted::Later => return Sent::Part,
+            Accepted::Failed => return Sent::Failed,
+        }
+    }
+    Sent::All
+}
+
+/// Reads once, and has what comes answered.
+fn take<S: Stream, R: Wait + Clock, B: Backend, G: Gate>(
+    rt: &R,
+    alloc: Global,
+    stream: &mut S,
+    session: &mut Session,
+    backend: &mut B,
+    gate: &G,
+    buffer: &mut [u8],
+) -> Came
+    requires { session.old.goes_on ≡ true }
+    ensures reads { Reads B.answers B.refuses result (S.remaining stream.old) (S.remaining stream.new) session.old session.new backend.old
+        backend.new }
+    ensures stays { S.contents stream.new ≡ S.contents stream.old }
+{
+    match stream.read(buffer) {
+        Given::Bytes(count) => {
+            let is_full = count == buffer.len();
+            let (piece, _) = buffer.split_at(count);
+            match session.take(rt, alloc, backend, gate, piece) {
+                Ok(end) => Came::Answered(end, is_full),
+                Err(fault) => Came::Broken(fault),
+            }
+        }
+        Given::Later => Came::Later,
+        Given::End => Came::End,
+        Given::Failed => Came::Failed,
+    }
+}
+
+/// One client's connection, which a thread carries beside others. What is written to the client, and what it is owed, is the text of
+/// the answers to what came from it, or to a beginning of that.
+#[derive(Drop)]
+pub struct Carried<S: Stream> {
+    stream: S,
+    session: Session,
+    // It may be read, as far as is known.
+    is_readable: bool,
+    is_writable: bool,
+    outcome: Option<Result<SessionEnd, SessionFault>>,
+}
+
+impl<S: Stream> Model for Carried<S> {
+    ghost use Rattle.geo_crowd.specs.Carrying.{Carriage, Carries};
+
+    ghost Value = { Carriage };
+
+    ghost view = { λ s. record { left = S.remaining s.stream; written = S.contents s.stream; session = s.session } };
+
+    ghost invariant = { λ s. Carries (S.contents s.stream) s.session };
+}
+
+impl<S: Stream> Carried<S> {
+    ghost use Rattle.std.specs.Prelude.{◌≡◌};
+    ghost use Rattle.geo_session.specs.Connections.{new_connection};
+    ghost use Rattle.geo_crowd.specs.Carrying.{Serves, Turns, Writes};
+
+    /// A connection on which nothing came and nothing was written, and of which it is not known whether it is ready.
+    pub fn new(alloc: Global, stream: S) -> Carried<S>
+        ensures { result ≡ record { left = S.remaining stream; written = S.contents stream; session = new_connection } }
+    {
+        Carried {
+            stream,
+            session: Session::new(alloc),
+            is_readable: true,
+            is_writable: true,
+            outcome: None,
+        }
+    }
+
+    /// It can be read, or written, or both, from now on.
+    pub fn is_ready(&mut self, readable: bool, writable: bool)
+        ensures { self.new ≡ self.old }
+    {
+        self.is_readable = self.is_readable || readable;
+        self.is_writable = self.is_writable || writable;
+    }
+
+    /// Whether it is to be read.
+    fn may_read(&self) -> bool {
+        self.outcome.is_none()
+            && self.is_readable
+            && self.session.goes_on()
+            && self.session.owed().len() <= MOST_OWED
+    }
+
+    /// Writes what is owed, as far as there is room.
+    fn write(&mut self)
+        ensures { Writes self.old self.new }
+    {
+        if !self.is_writable {
+            return;
+        }
+        match send(&mut self.stream, &mut self.session) {
+            Sent::All => {}
+            Sent::Part => self.is_writable = false,
+            Sent::Failed => {
+                self.is_writable = false;
+                self.outcome = Some(Err(SessionFault::Write));
+            }
+        }
+    }
+
+    /// Reads once where it may, and has what comes answered.
+    fn read<R: Wait + Clock, B: Backend, G: Gate>(
+        &mut self,
+        rt: &R,
+        alloc: Global,
+        backend: &mut B,
+        gate: &G,
+        buffer: &mut [u8],
+    )
+        ensures { Turns B.answers B.refuses self.old self.new backend.old backend.new }
+    {
+        if !self.may_read() {
+            return;
+        }
+        if !self.session.goes_on() {
+            return;
+        }
+        match take(
+            rt,
+            alloc,
+            &mut self.stream,
+            &mut self.session,
+            backend,
+            gate,
+            buffer,
+        ) {
+            // a socket that gave less than there was room for has no more, and tells when it has
+            Came::Answered(None, is_full) => self.is_readable = is_full,
+            Came::Answered(Some(end), _) => self.outcome = Some(Ok(end)),
+            Came::Broken(fault) => self.outcome = Some(Err(fault)),
+            Came::Later => self.is_readable = false,
+            Came::End => self.outcome = Some(Ok(SessionEnd::EndOfInput)),
+            Came::Failed => self.outcome = Some(Err(SessionFault::Read)),
+        }
+    }
+
+    /// The stream. What was not written is lost.
+    pub fn into_stream(self) -> S
+        ensures left { S.remaining result ≡ self.left }
+        ensures written { S.contents result ≡ self.written }
+    {
+        let Carried { stream, .. } = self;
+        stream
+    }
+
+    /// How it stands.
+    fn standing(&self) -> Standing
+        ensures serves { Serves self.now.written self.now.session.owed }
+    {
+        let owes = !self.session.owed().is_empty();
+        match self.outcome {
+            Some(Err(SessionFault::Write)) => Standing::Over(Err(SessionFault::Write)),
+            Some(outcome) if !owes => Standing::Over(outcome),
+            _ if owes && self.is_writable || self.may_read() => Standing::Again,
+            _ => Standing::Waits,
+        }
+    }
+
+    /// One turn: writes what is owed, reads once where not too much is owed, has what comes answered, and writes again.
+    pub fn turn<R: Wait + Clock, B: Backend, G: Gate>(
+        &mut self,
+        rt: &R,
+        alloc: Global,
+        backend: &mut B,
+        gate: &G,
+        buffer: &mut [u8],
+    ) -> Standing
+        ensures turns { Turns B.answers B.refuses self.old self.new backend.old backend.new }
+        ensures serves { Serves self.new.written self.new.session.owed }
+    {
+        self.write();
+        self.read(rt, alloc, backend, gate, buffer);
+        self.write();
+        self.standing()
+    }
+}

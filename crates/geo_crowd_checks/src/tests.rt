@@ -1,0 +1,192 @@
+//! What no clause says: that turns succeed where there is memory, how a connection stands after them, and that each gets its own.
+use geo_crowd::{Accepted, Carried, Crowd, Given, Passed, Standing, Stream};
+use geo_grammar::{Reply, Request};
+use geo_session::{Backend, OpenGate, SessionEnd, SessionFault};
+use std::alloc::Global;
+use std::rt::Clock;
+use std::sync::Wait;
+use std::test::Fail;
+
+/// A connection that gives so many bytes a read and takes so many a write, and is not ready at every second call of either.
+#[derive(Drop)]
+struct Fake {
+    input: &'static [u8],
+    size: usize,
+    written: Vec<u8>,
+    // How many more bytes are taken before a write fails.
+    room: usize,
+    reads: bool,
+    writes: bool,
+}
+
+fn stream_of(alloc: Global, input: &'static [u8], size: usize, room: usize) -> Fake {
+    Fake {
+        input,
+        size,
+        written: Vec::new(alloc),
+        room,
+        reads: true,
+        writes: true,
+    }
+}
+
+impl Stream for Fake {
+    ghost use Rattle.std.specs.Prelude.{Some};
+
+    ghost remaining = { λ s. Some s.input.now };
+
+    ghost contents = { λ s. Some s.written.items };
+
+    fn read(&mut self, buffer: &mut [u8]) -> Given {
+        self.reads = !self.reads;
+        if self.reads {
+            return Given::Later;
+        }
+        let count = self.size.min(self.input.len()).min(buffer.len());
+        if count == 0 {
+            return Given::End;
+        }
+        let (piece, rest) = self.input.split_at(count);
+        let (front, _) = buffer.split_at_mut(count);
+        front.copy_from_slice(piece);
+        self.input = rest;
+        Given::Bytes(count)
+    }
+
+    fn write(&mut self, bytes: &[u8]) -> Accepted {
+        self.writes = !self.writes;
+        if self.writes {
+            return Accepted::Later;
+        }
+        let count = self.size.min(bytes.len()).min(self.room);
+        if count == 0 {
+            return Accepted::Failed;
+        }
+        let (piece, _) = bytes.split_at(count);
+        if self.written.extend_from_slice(piece).is_err() {
+            return Accepted::Failed;
+        }
+        self.room -= count;
+        Accepted::Bytes(count)
+    }
+}
+
+/// A backend that answers each request so.
+#[derive(Drop)]
+struct Idle;
+
+impl Backend for Idle {
+    ghost answers = { λ old request reply new. Unit {0} };
+
+    ghost refuses = { λ old request new. Unit {0} };
+
+    fn act<R: Wait + Clock>(
+        &mut self,
+        _rt: &R,
+        _alloc: Global,
+        _request: Request,
+    ) -> Option<Reply> {
+        Some(Reply::Stored)
+    }
+}
+
+/// Passes until none can go on, with all ready again after each: how many ended, and how many by a fault.
+fn ended<R: Wait + Clock>(rt: &R, crowd: &mut Crowd<Fake>, numbers: &[usize]) -> (usize, usize) {
+    let mut all = (0usize, 0usize);
+    for _pass in 0..1_000 {
+        let Passed { ended, faults, .. } = crowd.pass(rt, &mut Idle, &OpenGate);
+        all = (all.0.saturating_add(ended), all.1.saturating_add(faults));
+        for number in numbers.iter() {
+            crowd.is_ready(*number, true, true);
+        }
+    }
+    all
+}
+
+const INPUT: &[u8] = b"set a 0 0 2\r\nhi\r\nnonsense\r\nget a\r\n";
+
+#[test]
+fn connections_that_are_ready_by_fits_and_starts_end(rt: HostRuntime) -> Result<(), Fail> {
+    let alloc = rt.alloc();
+    let mut crowd = Crowd::new(alloc)?;
+    let mut numbers = Vec::new(alloc);
+    for size in 1..8 {
+        let stream = stream_of(alloc, INPUT, size, 1_000);
+        numbers.push(crowd.add(Carried::new(alloc, stream))?)?;
+    }
+    assert_eq!(rt; ended(&rt, &mut crowd, numbers.as_slice()), (7, 0));
+    assert!(rt; crowd.is_empty());
+    Ok(())
+}
+
+#[test]
+fn a_connection_that_fails_ends_alone(rt: HostRuntime) -> Result<(), Fail> {
+    let alloc = rt.alloc();
+    let mut crowd = Crowd::new(alloc)?;
+    let failing = crowd.add(Carried::new(alloc, stream_of(alloc, INPUT, 3, 5)))?;
+    let other = crowd.add(Carried::new(alloc, stream_of(alloc, INPUT, 3, 1_000)))?;
+    assert_eq!(rt; ended(&rt, &mut crowd, &[failing, other]), (2, 1));
+    Ok(())
+}
+
+/// What is written to one client, and how its connection ends, whose turns come until it is over.
+fn carried<R: Wait + Clock>(
+    rt: &R,
+    alloc: Global,
+    stream: Fake,
+    buffer: &mut [u8],
+) -> Option<(Vec<u8>, Result<SessionEnd, SessionFault>)> {
+    let mut carried = Carried::new(alloc, stream);
+    for _turn in 0..1_000 {
+        let standing = carried.turn(rt, alloc, &mut Idle, &OpenGate, buffer);
+        if let Standing::Over(outcome) = standing {
+            let Fake { written, .. } = carried.into_stream();
+            return Some((written, outcome));
+        }
+        carried.is_ready(true, true);
+    }
+    None
+}
+
+const OUTPUT: &[u8] = b"STORED\r\nERROR\r\nSTORED\r\n";
+
+#[test]
+fn what_is_written_is_the_same_in_any_pieces(rt: HostRuntime) -> Result<(), Fail> {
+    let alloc = rt.alloc();
+    let mut buffer = vec![in alloc; 0u8; 5]?;
+    for size in 1..8 {
+        let stream = stream_of(alloc, INPUT, size, 1_000);
+        let (written, outcome) = carried(&rt, alloc, stream, buffer.as_mut_slice()).ok_or(
+            "no end",
+        )?;
+        assert_eq!(rt; written.as_slice(), OUTPUT);
+        assert_eq!(rt; outcome, Ok(SessionEnd::EndOfInput));
+    }
+    Ok(())
+}
+
+#[test]
+fn a_write_that_fails_leaves_a_beginning(rt: HostRuntime) -> Result<(), Fail> {
+    let alloc = rt.alloc();
+    let mut buffer = vec![in alloc; 0u8; 64]?;
+    for room in 0..OUTPUT.len() {
+        let stream = stream_of(alloc, INPUT, 4, room);
+        let (written, outcome) = carried(&rt, alloc, stream, buffer.as_mut_slice()).ok_or(
+            "no end",
+        )?;
+        assert_eq!(rt; Some(written.as_slice()), OUTPUT.get(..room));
+        assert_eq!(rt; outcome, Err(SessionFault::Write));
+    }
+    Ok(())
+}
+
+#[test]
+fn a_quit_is_the_end(rt: HostRuntime) -> Result<(), Fail> {
+    let alloc = rt.alloc();
+    let mut buffer = vec![in alloc; 0u8; 64]?;
+    let stream = stream_of(alloc, b"version\r\nquit\r\nversion\r\n", 64, 1_000);
+    let (written, outcome) = carried(&rt, alloc, stream, buffer.as_mut_slice()).ok_or("no end")?;
+    assert_eq!(rt; written.as_slice(), b"STORED\r\nSTORED\r\n".as_slice());
+    assert_eq!(rt; outcome, Ok(SessionEnd::Quit));
+    Ok(())
+}
