@@ -22,7 +22,7 @@ fn work<L: Ledger>(
     mut seat: Seat<L>,
     name: &[u8],
 ) -> (Seat<L>, usize) {
-    let mut right = 0;
+    let mut right = 0usize;
     for _turn in 0..100 {
         let (Some(set), Some(get)) = (set(alloc, name, 0, b"hi"), get(alloc, name)) else {
             return (seat, right);
@@ -31,11 +31,11 @@ fn work<L: Ledger>(
             station.act(rt, alloc, &mut seat, 100, set),
             Ok(Reply::Stored)
         ) {
-            right += 1;
+            right = right.saturating_add(1);
         }
         if matches!(station.act(rt, alloc, &mut seat, 100, get), Ok(Reply::Values(found)) if found.as_slice().len() == 1)
         {
-            right += 1;
+            right = right.saturating_add(1);
         }
     }
     (seat, right)
