@@ -1,10 +1,5 @@
-//! Checks of the server and of what it is made of, worked by hand: what an audit finds of histories, what rounds of gossip tell, and
-//! what clients of a cluster read.
+//! Checks of the server, worked by hand: what clients of a cluster read, and what is told at its end.
 #![tactic(auto)]
 
-#[cfg(test)]
-mod audits;
-#[cfg(test)]
-mod rounds;
 #[cfg(test)]
 mod servers;

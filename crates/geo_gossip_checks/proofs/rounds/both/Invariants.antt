@@ -1,4 +1,4 @@
-use Rattle.geo_server_checks.proofs.rounds.both.Given as goal
+use Rattle.geo_gossip_checks.proofs.rounds.both.Given as goal
 
 abbrev pub ghosts-beside : goal.ghosts-beside
 ghosts-beside g a = record { name = a.blank.name; parts = a.blank.parts }

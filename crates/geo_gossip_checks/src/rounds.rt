@@ -134,13 +134,6 @@ fn found<L: Ledger>(
 /// What a site has of one exchange: how many parcels were put, how many were taken, what is named then, and how many values are found.
 type Seen = (usize, usize, u64, usize);
 
-/// The two ends of what leads from one site to the other, and back.
-fn two_links(alloc: Global) -> Result<[(MemoryLink, MemoryLink); 2], Fail> {
-    let forth = memory_link(alloc, 16).ok().ok_or("no link")?;
-    let back = memory_link(alloc, 16).ok().ok_or("no link")?;
-    Ok([forth, back])
-}
-
 /// Both tell each other, and then both take what came.
 fn exchange<L: Ledger, M: Ledger>(
     rt: &impl Wait,
@@ -150,7 +143,8 @@ fn exchange<L: Ledger, M: Ledger>(
     two: &Station<M>,
     second: &mut Seat<M>,
 ) -> Result<[Seen; 2], Fail> {
-    let [(forth, mut at_two), (back, mut at_one)] = two_links(alloc)?;
+    let (forth, mut at_two) = memory_link(alloc, 16).ok().ok_or("no link")?;
+    let (back, mut at_one) = memory_link(alloc, 16).ok().ok_or("no link")?;
     let put_by_one = tell(rt, alloc, one, first, 2, forth)?;
     let put_by_two = tell(rt, alloc, two, second, 1, back)?;
     let by_one = receive(rt, alloc, one, first, &mut at_one);

@@ -1,0 +1,5 @@
+//! Checks of rounds of gossip, worked by hand.
+#![tactic(auto)]
+
+#[cfg(test)]
+mod rounds;
