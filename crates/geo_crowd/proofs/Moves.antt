@@ -12,7 +12,7 @@ use Rattle.geo_session.specs.Exchanges.{Exchange, items_in, text_of, Runs}
 use Rattle.geo_session.specs.Sessions.{Sends}
 use Rattle.geo_session.proofs.Pieces.{no_items, none_stays}
 use Rattle.geo_session.proofs.Talks.{items_in-append, text_of-append, until_quit-none}
-use Rattle.geo_crowd.specs.Carrying.{Carriage, Carries, Turns, Comes, Reads, Writes}
+use Rattle.geo_crowd.specs.Carrying.{Carriage, Carries, Brings, Turns, Comes, Reads, Writes}
 use Rattle.geo_crowd.specs.declared.carried.Came.{Came}
 use Rattle.geo_crowd.specs.declared.carried.Came.TheVariants as came
 
@@ -123,8 +123,8 @@ module _ {S : Type 0} (answers : S → Request → Reply → S → Type 0) (refu
   carries_read result had has h = carries_piece result h.piece h.comes
 
 module _ {S : Type 0} (answers : S → Request → Reply → S → Type 0) (refuses : S → Request → S → Type 0) (old new : Carriage) (before after : S) (wrote : new.written ≡ old.written) where
-  turns_none : (piece : List ℕ) → Consumes old.left new.left piece → new.session ≡ old.session → after ≡ before → Turns answers refuses old new before after
-  turns_none piece came same stood = record {
+  turns_none : (piece : List ℕ) → Consumes old.left new.left piece → piece ≡ [] → new.session ≡ old.session → after ≡ before → Turns answers refuses old new before after
+  turns_none piece came none same stood = record {
     piece = piece;
     part = [];
     done = [];
@@ -132,6 +132,8 @@ module _ {S : Type 0} (answers : S → Request → Reply → S → Type 0) (refu
     rest = [];
     mid = before;
     came = came;
+    brings = inl (none, refl, refl);
+    read = λ _. ap (λ (x : Connection). x.read) same ∙ sym (ap (λ (t : List ℕ). old.session.read ++ t) none ∙ append-nil old.session.read);
     wrote = subst (λ (w : Option (List ℕ)). Appends old.written w []) (sym wrote) (Appends-nil old.written);
     run = refl;
     said = ap (λ (x : Connection). x.owed) same ∙ sym (append-nil old.session.owed);
@@ -149,6 +151,8 @@ module _ {S : Type 0} (answers : S → Request → Reply → S → Type 0) (refu
         rest = [];
         mid = after;
         came = came;
+        brings = inr (a.came ∙ ap (λ (t : List Item). items_of old.session.read ++ t) (sym (append-nil (items_in (a.exchanges ++ [])) ∙ ap items_in (append-nil a.exchanges))));
+        read = λ _. a.read;
         wrote = subst (λ (w : Option (List ℕ)). Appends old.written w []) (sym wrote) (Appends-nil old.written);
         run = subst (λ (t : List Exchange). Runs answers before t after) (sym (append-nil a.exchanges)) a.run;
         said = a.owed;
@@ -162,14 +166,16 @@ module _ {S : Type 0} (answers : S → Request → Reply → S → Type 0) (refu
     rest = h.left;
     mid = h.mid;
     came = came;
+    brings = inr h.came;
+    read = λ on. let none : false ≡ true = sym h.closed ∙ on in cc;
     wrote = subst (λ (w : Option (List ℕ)). Appends old.written w []) (sym wrote) (Appends-nil old.written);
     run = h.run;
     said = h.owed;
     ends = inr (fault, h.why);
   }
-  turns_piece came.Later piece came h = turns_none piece came h.1 h.2
-  turns_piece came.End piece came h = turns_none piece came h.1 h.2
-  turns_piece came.Failed piece came h = turns_none piece came h.1 h.2
+  turns_piece came.Later piece came h = turns_none piece came h.0 h.1 h.2
+  turns_piece came.End piece came h = turns_none piece came h.0 h.1 h.2
+  turns_piece came.Failed piece came h = turns_none piece came h.0 h.1 h.2
 
   pub turns_read : (result : Came) → Reads answers refuses result old.left new.left old.session new.session before after → Turns answers refuses old new before after
   turns_read result h = turns_piece result h.piece h.came h.comes
@@ -184,6 +190,8 @@ turns_still answers refuses v s = record {
   rest = [];
   mid = s;
   came = Consumes-nil v.left;
+  brings = inl (refl, refl, refl);
+  read = λ _. sym (append-nil v.session.read);
   wrote = Appends-nil v.written;
   run = refl;
   said = sym (append-nil v.session.owed);
@@ -205,6 +213,8 @@ turns_between answers refuses a b c d before after first h last =
       lost = h.lost;
       rest = h.rest;
       mid = h.mid;
+      brings = subst (λ (t : List ℕ). Brings t h.piece (h.done ++ h.lost) h.rest) (ap (λ (x : Connection). x.read) one.stays) h.brings;
+      read = λ on. ap (λ (x : Connection). x.read) two.stays ∙ h.read (sym (ap (λ (x : Connection). x.goes_on) two.stays) ∙ on) ∙ ap (λ (x : Connection). x.read ++ h.piece) one.stays;
       came = subst (λ (l : Option (List ℕ)). Consumes l d.left h.piece) first.left (subst (λ (l : Option (List ℕ)). Consumes b.left l h.piece) (sym last.left) h.came);
       wrote = Appends-trans a.written b.written d.written one.part three one.written (Appends-trans b.written c.written d.written h.part two.part h.wrote two.written);
       run = h.run;

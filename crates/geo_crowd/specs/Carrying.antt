@@ -48,6 +48,10 @@ pub record Carries (written : Option (List ℕ)) (c : Connection) : Type 0 where
 abbrev pub EndsSo : {S : Type 0} → (S → Request → S → Type 0) → List Exchange → List Item → S → S → Type 0
 EndsSo refuses lost rest mid new = ((lost ≡ []) × (rest ≡ []) × (new ≡ mid)) ⊎ ((fault : SessionFault) × BreaksFor refuses fault lost rest mid new)
 
+-- the items that a piece brings, up to a quit, are those that were acted on and those that were not
+abbrev pub Brings : List ℕ → List ℕ → List Exchange → List Item → Type 0
+Brings read piece acted rest = ((piece ≡ []) × (acted ≡ []) × (rest ≡ [])) ⊎ (until_quit (items_of (read ++ piece)) ≡ items_of read ++ (items_in acted ++ rest))
+
 -- in a turn a piece comes, the items that it brings are answered by one run of the backend, and their text is owed behind what was; of
 -- all that, a beginning is written
 pub record Turns {S : Type 0} (answers : S → Request → Reply → S → Type 0) (refuses : S → Request → S → Type 0) (old new : Carriage)
@@ -59,6 +63,8 @@ pub record Turns {S : Type 0} (answers : S → Request → Reply → S → Type 
   pub rest : List Item
   pub mid : S
   pub came : Consumes old.left new.left piece
+  pub brings : Brings old.session.read piece (done ++ lost) rest
+  pub read : new.session.goes_on ≡ true → new.session.read ≡ old.session.read ++ piece
   pub wrote : Appends old.written new.written part
   pub run : Runs answers before (done ++ lost) mid
   pub said : part ++ new.session.owed ≡ old.session.owed ++ text_of done

@@ -110,7 +110,7 @@ impl<S: Stream> Model for Carried<S> {
 impl<S: Stream> Carried<S> {
     ghost use Rattle.std.specs.Prelude.{◌≡◌};
     ghost use Rattle.geo_session.specs.Connections.{new_connection};
-    ghost use Rattle.geo_crowd.specs.Carrying.{Serves, Turns, Writes};
+    ghost use Rattle.geo_crowd.specs.Carrying.{Carries, Turns, Writes};
 
     /// A connection on which nothing came and nothing was written, and of which it is not known whether it is ready.
     pub fn new(alloc: Global, stream: S) -> Carried<S>
@@ -134,7 +134,9 @@ impl<S: Stream> Carried<S> {
     }
 
     /// Whether it is to be read.
-    fn may_read(&self) -> bool {
+    fn may_read(&self) -> bool
+        ensures { result ≡ true → self.now.session.goes_on ≡ true }
+    {
         self.outcome.is_none()
             && self.is_readable
             && self.session.goes_on()
@@ -172,9 +174,6 @@ impl<S: Stream> Carried<S> {
         if !self.may_read() {
             return;
         }
-        if !self.session.goes_on() {
-            return;
-        }
         match take(
             rt,
             alloc,
@@ -205,7 +204,7 @@ impl<S: Stream> Carried<S> {
 
     /// How it stands.
     fn standing(&self) -> Standing
-        ensures serves { Serves self.now.written self.now.session.owed }
+        ensures { Carries self.now.written self.now.session }
     {
         let owes = !self.session.owed().is_empty();
         match self.outcome {
@@ -226,7 +225,7 @@ impl<S: Stream> Carried<S> {
         buffer: &mut [u8],
     ) -> Standing
         ensures turns { Turns B.answers B.refuses self.old self.new backend.old backend.new }
-        ensures serves { Serves self.new.written self.new.session.owed }
+        ensures carries { Carries self.new.written self.new.session }
     {
         self.write();
         self.read(rt, alloc, backend, gate, buffer);

@@ -87,14 +87,6 @@ impl<S: Stream + Drop> Crowd<S> {
         Ok(number)
     }
 
-    /// The connection under a number, if there is one: by it a system is told of what to wait for.
-    pub fn get_mut(&mut self, number: usize) -> Option<&mut Carried<S>> {
-        match self.members.get_mut(number) {
-            Some(member) => Some(&mut member.carried),
-            None => None,
-        }
-    }
-
     /// A connection can be read, or written, or both: it is given a turn in the next pass.
     pub fn is_ready(&mut self, number: usize, readable: bool, writable: bool) {
         let Some(member) = self.members.get_mut(number) else {
