@@ -1,3 +1,4 @@
 mod lattice;
 mod stamp;
+mod text;
 mod versions;

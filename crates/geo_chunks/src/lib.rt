@@ -7,6 +7,3 @@
 mod chunks;
 
 pub use chunks::Chunks;
-
-#[cfg(test)]
-mod tests;

@@ -16,6 +16,3 @@ pub mod settings;
 pub use fault::ConfigFault;
 pub use reading::config;
 pub use settings::{Config, LinkKind, SiteConfig};
-
-#[cfg(test)]
-mod tests;

@@ -13,6 +13,3 @@ pub use changes::{Changes, MOST_CHANGES};
 pub use cutting::cut;
 pub use parcel::Parcel;
 pub use ranges::stays_in_range;
-
-#[cfg(test)]
-mod tests;

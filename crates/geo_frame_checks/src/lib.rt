@@ -1,4 +1,4 @@
-//! Checks of frames against bytes from outside.
+//! Checks of parcels as the newest changes give them, and of their frames against bytes from outside.
 #![tactic(auto)]
 
 #[cfg(test)]

@@ -1,5 +1,7 @@
-//! Checks of rounds of gossip, worked by hand.
+//! Checks of links and of rounds of gossip over them, worked by hand.
 #![tactic(auto)]
 
+#[cfg(test)]
+mod links;
 #[cfg(test)]
 mod rounds;

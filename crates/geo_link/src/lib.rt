@@ -19,6 +19,3 @@ pub use link::Link;
 pub use memory::{MOST_WAITING, MemoryLink, memory_link};
 pub use stream::StreamLink;
 pub use tallied::Tallied;
-
-#[cfg(test)]
-mod tests;

@@ -8,8 +8,6 @@ pub mod access;
 mod juggle;
 mod list;
 pub mod segments;
-#[cfg(test)]
-mod tests;
 
 pub use access::Access;
 pub use segments::Segments;

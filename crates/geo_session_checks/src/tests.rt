@@ -1,4 +1,6 @@
 //! What no clause says: that sessions run where there is memory, what clients read, worked out by hand, and what gates see.
+ghost use Rattle.std.specs.Prelude.{◌≤◌, IfOk};
+
 mod devices;
 mod shared;
 mod talks;
@@ -14,21 +16,43 @@ use std::sync::Wait;
 use std::sync::atomic::{AtomicU64, Ordering};
 use std::test::Fail;
 
-/// A reader that gives so many bytes a read, and fails after so many reads.
+/// How many bytes a device moves a call, and how many calls it answers before it fails.
+#[derive(Clone, Copy)]
+struct Limits {
+    size: usize,
+    calls: u64,
+}
+
+/// Devices that move so many bytes a call, and never fail.
+fn each(size: usize) -> Limits {
+    Limits {
+        size,
+        calls: u64::MAX,
+    }
+}
+
+impl Limits {
+    /// How many of so many bytes the next call moves.
+    fn call(&mut self, count: usize) -> IoResult<usize>
+        ensures { IfOk result (λ n. n ≤ count) }
+    {
+        if self.calls == 0 {
+            return Err(Error::from(ErrorKind::Other));
+        }
+        self.calls -= 1;
+        Ok(count.min(self.size))
+    }
+}
+
 #[derive(Drop)]
 struct Source<'a> {
     left: &'a [u8],
-    size: usize,
-    reads: u64,
+    limits: Limits,
 }
 
 impl Read for Source<'_> {
     fn read(&mut self, buf: &mut [u8]) -> IoResult<usize> {
-        if self.reads == 0 {
-            return Err(Error::from(ErrorKind::Other));
-        }
-        self.reads -= 1;
-        let count = self.size.min(self.left.len()).min(buf.len());
+        let count = self.limits.call(self.left.len())?.min(buf.len());
         let (piece, left) = self.left.split_at(count);
         let (front, _) = buf.split_at_mut(count);
         front.copy_from_slice(piece);
@@ -37,21 +61,15 @@ impl Read for Source<'_> {
     }
 }
 
-/// A writer that takes so many bytes a write, and fails after so many writes.
 #[derive(Drop)]
 struct Sink {
     taken: Vec<u8>,
-    size: usize,
-    writes: u64,
+    limits: Limits,
 }
 
 impl Write for Sink {
     fn write(&mut self, buf: &[u8]) -> IoResult<usize> {
-        if self.writes == 0 {
-            return Err(Error::from(ErrorKind::Other));
-        }
-        self.writes -= 1;
-        let (front, _) = buf.split_at(self.size.min(buf.len()));
+        let (front, _) = buf.split_at(self.limits.call(buf.len())?);
         self.taken.extend_from_slice(front)?;
         Ok(front.len())
     }
@@ -113,26 +131,46 @@ fn bare(alloc: Global, hasher: RandomState) -> Result<Bare, Fail> {
     Ok(Bare::new(site, 100))
 }
 
-/// What a session writes and how it ends, where it reads and writes so many bytes a call.
-fn served<R: Wait + Clock, B: Backend, G: Gate>(
+type Outcome = Result<SessionEnd, SessionFault>;
+
+/// What a session wrote, how it ended, and whether its reader and its writer failed.
+#[derive(Drop)]
+struct Ran {
+    written: Vec<u8>,
+    outcome: Outcome,
+    failed: (bool, bool),
+}
+
+impl Ran {
+    /// Whether this was written to the end.
+    fn ends(&self, written: &[u8], outcome: Outcome) -> bool {
+        self.outcome == outcome && self.written.as_slice() == written
+    }
+}
+
+/// Serves what a reader gives by such devices.
+fn run_by<R: Wait + Clock, B: Backend, G: Gate>(
     rt: &R,
     alloc: Global,
     input: &[u8],
-    size: usize,
+    reads: Limits,
+    writes: Limits,
     backend: &mut B,
     gate: &G,
-) -> (Vec<u8>, Result<SessionEnd, SessionFault>) {
+) -> Ran {
     let mut reader = Device::new(Source {
         left: input,
-        size,
-        reads: u64::MAX,
+        limits: reads,
     });
     let mut writer = Device::new(Sink {
         taken: Vec::new(alloc),
-        size,
-        writes: u64::MAX,
+        limits: writes,
     });
     let outcome = serve(rt, alloc, &mut reader, &mut writer, backend, gate);
-    let Sink { taken, .. } = writer.into_inner();
-    (taken, outcome)
+    let failed = (reader.failed(), writer.failed());
+    Ran {
+        written: writer.into_inner().taken,
+        outcome,
+        failed,
+    }
 }

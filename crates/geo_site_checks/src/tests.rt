@@ -1,149 +1,141 @@
-//! What the checks are made of.
-mod acted;
-mod clock;
-mod deltas;
-mod evictions;
-mod open;
-mod outdated;
-mod parcels;
-mod reaping;
-mod stores;
-mod takes;
+//! Tables of lines that sites carry out, each with what it is to append.
+mod lines;
+mod shown;
+mod table;
+mod told;
 
+use crate::tests::lines::{cut, number, small, step};
 use geo_delta::Parcel;
-use geo_grammar::{Item, Reader, Reply, Request, ValueBytes, Verb, fault_text, push_answer};
-use geo_site::{Setup, Site, Taken};
-use geo_versions::{Key, Version};
-use std::alloc::{AllocError, Global};
+use geo_site::{Setup, SetupError, Site};
+use std::alloc::Global;
 use std::hash::RandomState;
 use std::process::Abort;
+use std::random::RandomSource;
 use std::test::Fail;
 
-/// The moment of every request that has no other.
-const NOW: u64 = 100;
+/// A line, and what it appends.
+pub type Row = (&'static str, &'static str);
 
-/// The greatest moment that a site takes.
-const LAST_MOMENT: u64 = 1 << 40;
-
-/// What a client says, and what it reads.
-type Row = (&'static str, &'static str);
-
-/// At which moment a client says what, and what it reads.
-type Moment = (u64, &'static str, &'static str);
-
-fn key(alloc: Global, bytes: &[u8]) -> Result<Key, Fail> {
-    Ok(Key::new(alloc, bytes)?.ok_or("no key")?)
+/// The sites that a scene opens, and its rows.
+#[derive(Drop)]
+pub struct Scene {
+    pub sites: u8,
+    pub pages: u32,
+    pub records: u32,
+    pub rows: &'static [Row],
 }
 
-/// What a site is told at its start; it keeps its writes for sixty seconds.
-fn setup_of(site: u8, sites: u8, pages: u32, max_records: u32, hasher: RandomState) -> Setup {
-    Setup {
-        site,
-        sites,
-        pages,
-        max_records,
-        reap_after: 60,
-        hasher,
+/// Sites of a scene that keep what ended for sixty seconds.
+fn opened(alloc: Global, scene: &Scene, hasher: &RandomState) -> Result<Vec<Site>, Fail> {
+    let mut sites = Vec::new(alloc);
+    for index in 0..scene.sites {
+        let setup = Setup {
+            site: index.wrapping_add(1),
+            sites: scene.sites,
+            pages: scene.pages,
+            max_records: scene.records,
+            reap_after: 60,
+            hasher: hasher.clone()?,
+        };
+        sites.push(Site::new(alloc, setup).ok().ok_or("no site")?)?;
     }
+    Ok(sites)
 }
 
-/// A site with a page for each slab class, and room for so many records.
-fn opened(
-    alloc: Global,
-    site: u8,
-    sites: u8,
-    max_records: u32,
-    hasher: RandomState,
-) -> Result<Site, Fail> {
-    let setup = setup_of(site, sites, 15, max_records, hasher);
-    Ok(Site::new(alloc, setup).ok().ok_or("no site")?)
-}
-
-/// What a site answers to a storage command with so many zeros.
-fn store(
-    alloc: Global,
-    site: &mut Site,
-    name: &[u8],
-    verb: Verb,
-    exptime: i64,
-    count: usize,
-) -> Result<Reply, Fail> {
-    let request = Request::Store {
-        verb,
-        key: key(alloc, name)?,
-        flags: 0,
-        exptime,
-        unique: None,
-        bytes: ValueBytes::of(vec![in alloc; 0u8; count]?),
-        noreply: false,
-    };
-    Ok(site.act(alloc, NOW, &request))
-}
-
-/// What a site answers to one item of a text.
-fn answer(
-    alloc: Global,
-    site: &mut Site,
-    now: u64,
-    item: &Item,
-    out: &mut Vec<u8>,
-) -> Result<(), AllocError> {
-    match item {
-        Item::Request(request) => {
-            let reply = site.act(alloc, now.min(LAST_MOMENT), request);
-            push_answer(out, request, &reply)
-        }
-        Item::Fault(fault) => out.extend_from_slice(fault_text(*fault)),
-    }
-}
-
-/// What a client of a site reads, who says this at a moment.
-fn read(alloc: Global, site: &mut Site, now: u64, text: &[u8]) -> Result<Vec<u8>, AllocError> {
-    let items = Reader::new(alloc).feed(text)?;
-    let mut out = Vec::new(alloc);
-    for item in &items {
-        answer(alloc, site, now, item, &mut out)?;
-    }
-    Ok(out)
-}
-
-/// A client of a site says one text after the other, and reads what stands beside each.
-fn says(rt: &impl Abort, alloc: Global, site: &mut Site, rows: &[Row]) -> Result<(), AllocError> {
-    for (text, want) in rows {
-        let got = read(alloc, site, NOW, text.as_bytes())?;
-        assert_eq!(rt; got.as_slice(), want.as_bytes(), "{text:?}");
-    }
-    Ok(())
-}
-
-/// A client of a site says texts at their moments, and reads what stands beside each.
-fn says_at(
+/// What a line appends is what stands beside it.
+fn plays_row(
     rt: &impl Abort,
     alloc: Global,
-    site: &mut Site,
-    rows: &[Moment],
-) -> Result<(), AllocError> {
-    for (now, text, want) in rows {
-        let got = read(alloc, site, *now, text.as_bytes())?;
-        assert_eq!(rt; got.as_slice(), want.as_bytes(), "{text:?} at {now}");
+    sites: &mut Vec<Site>,
+    parcels: &mut Vec<Parcel>,
+    line: &str,
+    want: &str,
+) -> Result<(), Fail> {
+    let mut out = Vec::new(alloc);
+    step(alloc, sites, parcels, line, &mut out)?;
+    let got = str::from_utf8(out.as_slice()).unwrap_or("no text");
+    assert_eq!(rt; got, want, "{line:?}");
+    Ok(())
+}
+
+fn plays_rows(
+    rt: &impl Abort,
+    alloc: Global,
+    sites: &mut Vec<Site>,
+    parcels: &mut Vec<Parcel>,
+    rows: &[Row],
+) -> Result<(), Fail> {
+    for (line, want) in rows {
+        plays_row(rt, alloc, sites, parcels, line, want)?;
     }
     Ok(())
 }
 
-fn holds(alloc: Global, site: &Site, name: &[u8]) -> Result<bool, Fail> {
-    let name = key(alloc, name)?;
-    Ok(site.holds(&name))
+fn plays_scene(
+    rt: &impl Abort,
+    alloc: Global,
+    hasher: &RandomState,
+    scene: &Scene,
+) -> Result<(), Fail> {
+    let mut sites = opened(alloc, scene, hasher)?;
+    let mut parcels = Vec::new(alloc);
+    plays_rows(rt, alloc, &mut sites, &mut parcels, scene.rows)
 }
 
-fn version(alloc: Global, site: &Site, name: &[u8]) -> Result<Option<Version>, Fail> {
-    let name = key(alloc, name)?;
-    Ok(site.version_of(&name))
+fn plays(rt: &(impl Abort + RandomSource + AllocGlobal), scenes: &[Scene]) -> Result<(), Fail> {
+    let hasher = RandomState::new(rt)?;
+    for scene in scenes {
+        plays_scene(rt, rt.alloc(), &hasher, scene)?;
+    }
+    Ok(())
 }
 
-fn sent(alloc: Global, site: &Site, to: u8) -> Result<Parcel, Fail> {
-    Ok(site.send(alloc, to).ok().ok_or("no parcel")?)
+#[test]
+fn what_a_site_tells_beside_a_reply(rt: HostRuntime) -> Result<(), Fail> {
+    plays(&rt, table::REPLIES)
 }
 
-fn taken(alloc: Global, site: &mut Site, parcel: Parcel) -> Result<Taken, Fail> {
-    Ok(site.take(alloc, parcel).ok().ok_or("refused")?)
+#[test]
+fn what_ended_is_deleted_after_its_time(rt: HostRuntime) -> Result<(), Fail> {
+    plays(&rt, table::ENDS)
+}
+
+#[test]
+fn what_a_take_refuses_and_what_it_drops(rt: HostRuntime) -> Result<(), Fail> {
+    plays(&rt, table::TAKES)
+}
+
+#[test]
+fn what_a_parcel_tells_and_leaves_out(rt: HostRuntime) -> Result<(), Fail> {
+    plays(&rt, table::PARCELS)
+}
+
+#[test]
+fn what_is_answered_after_the_last_stamp(rt: HostRuntime) -> Result<(), Fail> {
+    plays(&rt, table::CLOCKS)
+}
+
+/// What comes of a setup: its site, the number of sites, pages and records are the words of a line.
+fn refusal(alloc: Global, line: &str, hasher: RandomState) -> Option<SetupError> {
+    let (site, rest) = cut(line);
+    let (sites, rest) = cut(rest);
+    let (pages, records) = cut(rest);
+    let setup = Setup {
+        site: small(site),
+        sites: small(sites),
+        pages: number(pages).min(1 << 31) as u32,
+        max_records: number(records).min(1 << 31) as u32,
+        reap_after: 60,
+        hasher,
+    };
+    Site::new(alloc, setup).err()
+}
+
+#[test]
+fn refuses_setups_in_their_order(rt: HostRuntime) -> Result<(), Fail> {
+    for (line, refused) in table::SETUPS {
+        let hasher = RandomState::new(&rt)?;
+        assert_eq!(rt; refusal(rt.alloc(), line, hasher), *refused, "{line}");
+    }
+    Ok(())
 }

@@ -7,7 +7,5 @@
 
 mod class;
 pub mod slabs;
-#[cfg(test)]
-mod tests;
 
 pub use slabs::{CLASSES, Chunk, MOST_PAGES, Slabs, SlabsError, class_of};

@@ -11,8 +11,6 @@ mod parts;
 mod rule;
 pub mod seat;
 pub mod tally;
-#[cfg(test)]
-mod tests;
 
 pub use counter::Counter;
 pub use seat::{MOST_ADDS, Spent, TallySeat};

@@ -1,2 +1,5 @@
+mod answers;
+mod devices;
 mod grammar;
 mod memcache;
+mod show;

@@ -1,15 +1,21 @@
-//! Each public call once, with ample memory.
+//! Values that join, and maps of them.
 ghost use Rattle.std.specs.Prelude.{◌≡◌, Option, None, Some, refl, false, nat_lt};
 ghost use Rattle.geo_lattice.specs.Maps.{meaning_or};
 ghost use Rattle.geo_lattice.specs.declared.lww.Lww.{Lww};
 
+use crate::tests::text::{Row, check, join, numbers, show_number, show_numbers};
 use geo_lattice::{Bottom, Change, Items, Lattice, Lww, MapOf, Max, Pair, Show, Test, Twin};
 use std::alloc::{AllocError, Global};
 use std::hash::RandomState;
+use std::process::Abort;
 use std::test::Fail;
 
+mod table;
+
+use table::{MAPS, MapRow, NUMBERS, PAIRS, REGISTERS, Step, TWINS};
+
 #[derive(Clone, Copy, Debug, PartialEq, Eq, PartialOrd, Ord, Hash)]
-struct Name(u32);
+struct Name(u64);
 
 impl Twin for Name {
     fn twin(&self, _alloc: Global) -> Result<Self, AllocError> {
@@ -18,6 +24,8 @@ impl Twin for Name {
 }
 
 type Register = Lww<u64, u64>;
+
+type Map = MapOf<Name, Register>;
 
 /// Empties each register.
 struct Emptied;
@@ -50,6 +58,7 @@ impl Show<Register> for AsItIs {
 }
 
 /// Registers with a later stamp.
+#[derive(Clone, Copy)]
 struct After {
     stamp: u64,
 }
@@ -65,202 +74,273 @@ impl Test<Register> for After {
     }
 }
 
-fn content(register: Option<&Register>) -> Option<(u64, u64)> {
-    register.and_then(|register| register.get().copied())
+/// A value that is read from a text and shown as one.
+trait Told: Bottom {
+    fn read(text: &str) -> Self;
+
+    fn tell(&self, out: &mut String) -> Result<(), AllocError>;
 }
 
-#[test]
-fn greatest_number_stays(rt: HostRuntime) -> Result<(), Fail> {
-    let mut most = Max(3);
-    most.ready(rt.alloc(), &Max(5))?;
-    assert!(rt; most.has_room(&Max(5)));
-    assert!(rt; !most.covers(&Max(5)));
-    most.join(Max(5));
-    assert_eq!(rt; most, Max(5));
-    most.join(Max(4));
-    assert_eq!(rt; most, Max(5));
-    assert!(rt; most.covers(&Max(4)));
-    assert!(rt; Max::bottom().is_bottom());
-    assert!(rt; !most.is_bottom());
+impl Told for Max {
+    fn read(text: &str) -> Self {
+        let [number, ..] = numbers(text);
+        Max(number)
+    }
+
+    fn tell(&self, out: &mut String) -> Result<(), AllocError> {
+        show_number(out, self.0)
+    }
+}
+
+/// A register with this content, an empty one where the stamp is 0.
+fn register(stamp: u64, content: u64) -> Register {
+    if stamp == 0 {
+        return Lww::none();
+    }
+    Lww::of(stamp, content)
+}
+
+impl Told for Register {
+    fn read(text: &str) -> Self {
+        let [stamp, content, _] = numbers(text);
+        register(stamp, content)
+    }
+
+    fn tell(&self, out: &mut String) -> Result<(), AllocError> {
+        match self.get() {
+            None => out.push_str(" -"),
+            Some((stamp, content)) => show_numbers(out, &[*stamp, *content]),
+        }
+    }
+}
+
+impl<A: Told, B: Told> Told for Pair<A, B> {
+    fn read(text: &str) -> Self {
+        match text.split_once('/') {
+            None => Pair::bottom(),
+            Some((left, right)) => Pair {
+                left: A::read(left),
+                right: B::read(right),
+            },
+        }
+    }
+
+    fn tell(&self, out: &mut String) -> Result<(), AllocError> {
+        self.left.tell(out)?;
+        self.right.tell(out)
+    }
+}
+
+/// Joins what a text says, and shows whether it was known and what is there then.
+fn joined<L: Told>(out: &mut String, mine: &mut L, text: &str) -> Result<(), AllocError> {
+    join(out, mine, L::read(text))?;
+    mine.tell(out)?;
+    if mine.is_bottom() {
+        return out.push_str(" empty");
+    }
     Ok(())
 }
 
-#[test]
-fn greater_stamp_wins_and_then_the_greater_content(rt: HostRuntime) -> Result<(), Fail> {
-    let mut register: Register = Lww::of(2, 7);
-    let later = Lww::of(3, 1);
-    register.ready(rt.alloc(), &later)?;
-    assert!(rt; register.has_room(&later));
-    assert!(rt; !register.covers(&later));
-    register.join(later);
-    assert_eq!(rt; register.get().copied(), Some((3, 1)));
-    register.join(Lww::of(2, 9));
-    assert_eq!(rt; register.get().copied(), Some((3, 1)));
-    register.join(Lww::of(3, 4));
-    assert_eq!(rt; register.get().copied(), Some((3, 4)));
-    register.join(Lww::of(3, 2));
-    assert_eq!(rt; register.get().copied(), Some((3, 4)));
-    assert!(rt; register.covers(&Lww::none()));
-    assert_eq!(rt; register.copied().get().copied(), Some((3, 4)));
-    assert_eq!(rt; register.twin(rt.alloc())?.get().copied(), Some((3, 4)));
-    assert!(rt; Register::bottom().is_bottom());
-    assert!(rt; !register.is_bottom());
+/// Joins one row after another, beginning with the empty value.
+fn join_rows<L: Told>(rt: &impl Abort, out: &mut String, rows: &[Row]) -> Result<(), AllocError> {
+    let mut mine = L::bottom();
+    for (text, want) in rows {
+        out.clear();
+        joined(out, &mut mine, text)?;
+        check(rt, out.as_str(), want);
+    }
     Ok(())
 }
 
-#[test]
-fn pairs_join_part_by_part(rt: HostRuntime) -> Result<(), Fail> {
-    let mut pair = Pair {
-        left: Max(1),
-        right: Register::of(5, 5),
-    };
-    let other = Pair {
-        left: Max(4),
-        right: Register::of(2, 8),
-    };
-    pair.ready(rt.alloc(), &other)?;
-    assert!(rt; pair.has_room(&other));
-    assert!(rt; !pair.covers(&other));
-    pair.join(other);
-    assert_eq!(rt; pair.left, Max(4));
-    assert_eq!(rt; pair.right.get().copied(), Some((5, 5)));
-    assert!(rt; Pair::<Max, Register>::bottom().is_bottom());
-    let registers = Pair {
-        left: Register::of(1, 2),
-        right: Register::none(),
-    };
-    let twin = registers.twin(rt.alloc())?;
-    assert!(rt; twin.covers(&registers));
-    assert!(rt; !twin.is_bottom());
+/// Shows a register, by a copy and by a twin.
+fn show_registers(out: &mut String, register: &Register) -> Result<(), AllocError> {
+    register.copied().tell(out)?;
+    register.twin(*out.allocator())?.tell(out)
+}
+
+/// Shows the twin of a pair, and whether it covers the pair.
+fn show_pair(out: &mut String, pair: &Pair<Register, Register>) -> Result<(), AllocError> {
+    let twin = pair.twin(*out.allocator())?;
+    twin.tell(out)?;
+    if twin.covers(pair) && !twin.is_bottom() {
+        return out.push_str(" covers");
+    }
     Ok(())
 }
 
-#[test]
-fn maps_join_key_by_key(rt: HostRuntime) -> Result<(), Fail> {
-    let alloc = rt.alloc();
-    let mut mine = MapOf::with_hasher(alloc, RandomState::new(&rt)?);
-    let mut other = MapOf::with_hasher(alloc, RandomState::new(&rt)?);
-    mine.put(alloc, &Name(1), Register::of(4, 40))?;
-    mine.put(alloc, &Name(9), Register::none())?;
-    assert_eq!(rt; mine.len(), 1);
-    other.put(alloc, &Name(1), Register::of(3, 30))?;
-    other.put(alloc, &Name(2), Register::of(1, 10))?;
-    assert!(rt; !mine.covers(&other));
-    mine.ready(alloc, &other)?;
-    assert_eq!(rt; mine.len(), 1);
-    assert!(rt; mine.has_room(&other));
-    mine.join(other);
-    assert_eq!(rt; mine.len(), 2);
-    assert_eq!(rt; content(mine.get(&Name(1))), Some((4, 40)));
-    assert_eq!(rt; content(mine.get(&Name(2))), Some((1, 10)));
-    assert_eq!(rt; content(mine.get(&Name(3))), None);
+fn show_names(out: &mut String, names: &[Name]) -> Result<(), AllocError> {
+    for name in names {
+        show_number(out, name.0)?;
+    }
     Ok(())
 }
 
-#[test]
-fn what_is_shown_of_a_map_is_covered_and_joined(rt: HostRuntime) -> Result<(), Fail> {
-    let alloc = rt.alloc();
-    let mut mine = MapOf::with_hasher(alloc, RandomState::new(&rt)?);
-    let mut part = MapOf::with_hasher(alloc, RandomState::new(&rt)?);
-    part.put(alloc, &Name(2), Register::of(1, 9))?;
-    assert!(rt; !mine.covers_shown(&part, &AsItIs));
-    mine.ready(alloc, &part)?;
-    mine.join_changed(part, &AsItIs);
-    assert_eq!(rt; content(mine.get(&Name(2))), Some((1, 9)));
-    Ok(())
+/// Shows a list, and what its twin gives back.
+fn show_items(out: &mut String, items: &Items<Name>) -> Result<(), AllocError> {
+    show_names(out, items.as_slice())?;
+    let twin = items.twin(*out.allocator())?;
+    show_names(out, twin.into_vec().as_slice())
 }
 
-#[test]
-fn lists_join_and_are_listed_by_rising_key(rt: HostRuntime) -> Result<(), Fail> {
-    let alloc = rt.alloc();
-    let mut map = MapOf::with_hasher(alloc, RandomState::new(&rt)?);
-    let mut values = Vec::new(alloc);
-    values.push((Name(7), Register::of(1, 1)))?;
-    values.push((Name(3), Register::of(2, 2)))?;
-    values.push((Name(7), Register::of(5, 5)))?;
-    values.push((Name(4), Register::none()))?;
-    map.ready_list(values.as_slice())?;
-    assert_eq!(rt; map.len(), 0);
-    map.join_list(values, &AsItIs);
-    assert_eq!(rt; map.len(), 2);
-    map.join_at(&Name(3), Register::of(3, 3));
-    let mut listed = map.listed(alloc, &AsItIs)?;
-    let last = listed.pop().ok_or("none")?;
-    assert_eq!(rt; last.0, Name(7));
-    assert_eq!(rt; last.1.get().copied(), Some((5, 5)));
-    let first = listed.pop().ok_or("one")?;
-    assert_eq!(rt; first.0, Name(3));
-    assert_eq!(rt; first.1.get().copied(), Some((3, 3)));
-    assert_eq!(rt; listed.len(), 0);
-    map.change_all(&Emptied);
-    assert_eq!(rt; map.len(), 0);
-    Ok(())
-}
-
-/// Registers at the keys from 1 to 5, with a stamp for each.
-fn five(alloc: Global, stamps: [u64; 5]) -> Result<Vec<(Name, Register)>, AllocError> {
-    let [first, second, third, fourth, fifth] = stamps;
-    let mut values = Vec::new(alloc);
-    values.push((Name(1), Register::of(first, first)))?;
-    values.push((Name(2), Register::of(second, second)))?;
-    values.push((Name(3), Register::of(third, third)))?;
-    values.push((Name(4), Register::of(fourth, fourth)))?;
-    values.push((Name(5), Register::of(fifth, fifth)))?;
-    Ok(values)
-}
-
-/// The stamps at the keys from 1 to 3.
-fn first_three(map: &MapOf<Name, Register>) -> [Option<u64>; 3] {
-    let stamp = |name: u32| content(map.get(&Name(name))).map(|(stamp, _)| stamp);
-    [stamp(1), stamp(2), stamp(3)]
-}
-
-#[test]
-fn a_list_that_comes_again_changes_what_is_newer_alone(rt: HostRuntime) -> Result<(), Fail> {
-    let alloc = rt.alloc();
-    let mut map = MapOf::with_hasher(alloc, RandomState::new(&rt)?);
-    map.put(alloc, &Name(9), Register::of(1, 1))?;
-    let rows = [
-        ([4, 4, 4, 4, 4], [Some(4), Some(4), Some(4)]),
-        ([4, 4, 4, 4, 4], [Some(4), Some(4), Some(4)]),
-        ([4, 6, 4, 4, 4], [Some(4), Some(6), Some(4)]),
-        ([5, 5, 5, 4, 4], [Some(5), Some(6), Some(5)]),
-    ];
-    for (stamps, want) in rows {
-        let values = five(alloc, stamps)?;
-        map.ready_list(values.as_slice())?;
-        map.join_list(values, &AsItIs);
-        assert_eq!(rt; first_three(&map), want);
-        assert_eq!(rt; map.len(), 6);
+fn show_twins(out: &mut String) -> Result<(), AllocError> {
+    let alloc = *out.allocator();
+    show_registers(out, &Lww::of(3, 4))?;
+    out.push_str(";")?;
+    show_pair(out, &Pair::read("1.2/-"))?;
+    out.push_str(";")?;
+    show_items(out, &Items::of([Name(1), Name(2)].to_vec(alloc)?))?;
+    out.push_str(";")?;
+    if let Some((first, second)) = Some((Name(1), Name(2))).twin(alloc)? {
+        show_names(out, &[first, second])?;
     }
     Ok(())
 }
 
 #[test]
-fn a_key_is_found_whose_value_passes(rt: HostRuntime) -> Result<(), Fail> {
-    let alloc = rt.alloc();
-    let mut map = MapOf::with_hasher(alloc, RandomState::new(&rt)?);
-    assert_eq!(rt; map.found(&After { stamp: 0 }), None);
-    map.put(alloc, &Name(1), Register::of(4, 40))?;
-    map.put(alloc, &Name(2), Register::of(2, 20))?;
-    map.put(alloc, &Name(3), Register::of(7, 70))?;
-    assert_eq!(rt; map.found(&After { stamp: 6 }), Some(&Name(3)));
-    assert_eq!(rt; map.found(&After { stamp: 7 }), None);
-    map.put(alloc, &Name(2), Register::of(9, 90))?;
-    assert_eq!(rt; map.found(&After { stamp: 7 }), Some(&Name(2)));
+fn values_join_and_twins_are_equal(rt: HostRuntime) -> Result<(), Fail> {
+    let mut out = String::new(rt.alloc());
+    join_rows::<Max>(&rt, &mut out, NUMBERS)?;
+    join_rows::<Register>(&rt, &mut out, REGISTERS)?;
+    join_rows::<Pair<Max, Register>>(&rt, &mut out, PAIRS)?;
+    out.clear();
+    show_twins(&mut out)?;
+    check(&rt, out.as_str(), TWINS);
+    Ok(())
+}
+
+/// Puts each value that a text has for a name.
+fn put_all(alloc: Global, map: &mut Map, text: &str) -> Result<(), AllocError> {
+    for entry in text.split(' ') {
+        let [name, stamp, content] = numbers(entry);
+        map.put(alloc, &Name(name), register(stamp, content))?;
+    }
+    Ok(())
+}
+
+/// A map of the values that a text has.
+fn map_of(alloc: Global, hasher: RandomState, text: &str) -> Result<Map, AllocError> {
+    let mut map = MapOf::with_hasher(alloc, hasher);
+    put_all(alloc, &mut map, text)?;
+    Ok(map)
+}
+
+/// A list of the values that a text has.
+fn list_of(alloc: Global, text: &str) -> Result<Vec<(Name, Register)>, AllocError> {
+    let mut list = Vec::new(alloc);
+    for entry in text.split(' ') {
+        let [name, stamp, content] = numbers(entry);
+        list.push((Name(name), register(stamp, content)))?;
+    }
+    Ok(list)
+}
+
+/// Joins what is shown of another map.
+fn join_shown(out: &mut String, map: &mut Map, part: Map) -> Result<(), AllocError> {
+    let is_known = map.covers_shown(&part, &AsItIs);
+    map.ready(*out.allocator(), &part)?;
+    map.join_changed(part, &AsItIs);
+    out.push_str(if is_known { "known" } else { "news" })
+}
+
+fn join_list(map: &mut Map, list: Vec<(Name, Register)>) -> Result<(), AllocError> {
+    map.ready_list(list.as_slice())?;
+    map.join_list(list, &AsItIs);
+    Ok(())
+}
+
+/// Joins one value where there is one already.
+fn join_at(out: &mut String, map: &mut Map, text: &str) -> Result<(), AllocError> {
+    let [name, stamp, content] = numbers(text);
+    let name = Name(name);
+    if map.get(&name).is_none() {
+        return out.push_str("missing");
+    }
+    map.join_at(&name, register(stamp, content));
+    Ok(())
+}
+
+/// A name whose stamp is later.
+fn found(map: &Map, stamp: u64) -> Option<u64> {
+    let name = map.found(&After { stamp })?;
+    Some(name.0)
+}
+
+fn show_found(out: &mut String, map: &Map, text: &str) -> Result<(), AllocError> {
+    let [stamp, ..] = numbers(text);
+    match found(map, stamp) {
+        None => out.push_str("none"),
+        Some(name) => show_number(out, name),
+    }
+}
+
+fn show_listed(out: &mut String, map: &Map) -> Result<(), AllocError> {
+    let listed = map.listed(*out.allocator(), &AsItIs)?;
+    for (name, register) in &listed {
+        show_number(out, name.0)?;
+        register.tell(out)?;
+    }
+    Ok(())
+}
+
+fn step(
+    out: &mut String,
+    map: &mut Map,
+    hasher: RandomState,
+    step: Step,
+    text: &str,
+) -> Result<(), AllocError> {
+    let alloc = *out.allocator();
+    match step {
+        Step::Put => put_all(alloc, map, text),
+        Step::Ready => map.ready(alloc, &map_of(alloc, hasher, text)?),
+        Step::Join => join(out, map, map_of(alloc, hasher, text)?),
+        Step::JoinShown => join_shown(out, map, map_of(alloc, hasher, text)?),
+        Step::ReadyList => map.ready_list(list_of(alloc, text)?.as_slice()),
+        Step::JoinList => join_list(map, list_of(alloc, text)?),
+        Step::JoinAt => join_at(out, map, text),
+        Step::Found => show_found(out, map, text),
+        Step::Listed => show_listed(out, map),
+        Step::Empty => {
+            map.change_all(&Emptied);
+            Ok(())
+        }
+    }
+}
+
+/// Shows how many names have a value, and the value of each name below 10.
+fn show_map(out: &mut String, map: &Map) -> Result<(), AllocError> {
+    write!(out, ":{}", map.len())?;
+    for name in 0..10 {
+        if let Some(register) = map.get(&Name(name)) {
+            write!(out, ", {name}")?;
+            register.tell(out)?;
+        }
+    }
+    Ok(())
+}
+
+fn map_rows(
+    rt: &impl Abort,
+    out: &mut String,
+    hasher: RandomState,
+    rows: &[MapRow],
+) -> Result<(), AllocError> {
+    let mut map = MapOf::with_hasher(*out.allocator(), hasher);
+    for (what, text, want) in rows {
+        out.clear();
+        step(out, &mut map, hasher, *what, text)?;
+        show_map(out, &map)?;
+        check(rt, out.as_str(), want);
+    }
     Ok(())
 }
 
 #[test]
-fn items_are_seen_as_a_list(rt: HostRuntime) -> Result<(), Fail> {
-    let alloc = rt.alloc();
-    let items = Items::of([Name(1), Name(2)].to_vec(alloc)?);
-    assert_eq!(rt; items.as_slice(), [Name(1), Name(2)].as_slice());
-    let twin = items.twin(alloc)?;
-    assert_eq!(rt;
-        Some((Name(1), Name(2))).twin(alloc)?,
-        Some((Name(1), Name(2)))
-    );
-    assert_eq!(rt; twin.into_vec().as_slice(), [Name(1), Name(2)].as_slice());
+fn maps_join_name_by_name(rt: HostRuntime) -> Result<(), Fail> {
+    let hasher = RandomState::new(&rt)?;
+    let mut out = String::new(rt.alloc());
+    for rows in MAPS {
+        map_rows(&rt, &mut out, hasher, rows)?;
+    }
     Ok(())
 }

@@ -1,108 +1,142 @@
-//! Each public call once.
-use geo_lattice::{Lattice, Twin};
+//! Stamps, vectors, and what was heard of other sites.
+ghost use Rattle.std.specs.Prelude.{◌≡◌, ◌≤◌, ◌<◌};
+
+use crate::tests::text::{check, join, show_number, show_numbers};
+use geo_lattice::Twin;
 use geo_stamp::{Acks, LAST_TIME, Stamp, Vector};
+use std::alloc::AllocError;
+use std::process::Abort;
 use std::test::Fail;
 
-#[test]
-fn stamps_are_in_range(rt: HostRuntime) -> Result<(), Fail> {
-    for (time, site) in [(0, 1), (LAST_TIME + 1, 1), (1, 0), (1, 17)] {
-        assert!(rt; Stamp::new(time, site).is_none());
+mod table;
+
+use table::{ACKS, At, Hearing, STAMPS, Step, VECTORS, VectorRow};
+
+/// Shows whether a stamp is later than the one before it, and what it is.
+fn show_stamp(out: &mut String, before: At, at: At) -> Result<(), AllocError> {
+    let Some(stamp) = Stamp::new(at.0, at.1) else {
+        return out.push_str("none");
+    };
+    if let Some(earlier) = Stamp::new(before.0, before.1) {
+        out.push_str(if earlier < stamp {
+            "later"
+        } else {
+            "not later"
+        })?;
     }
-    let last = Stamp::new(LAST_TIME, 16).ok_or("in range")?;
-    assert_eq!(rt; last.time(), 72_057_594_037_927_935);
-    assert_eq!(rt; last.site(), 16);
-    assert_eq!(rt; last.cas(), 18_446_744_073_709_551_376);
-    Ok(())
+    show_numbers(out, &[stamp.time(), u64::from(stamp.site()), stamp.cas()])
 }
 
 #[test]
-fn stamps_are_ordered_by_time_and_then_by_site(rt: HostRuntime) -> Result<(), Fail> {
-    let first = Stamp::new(1, 1).ok_or("in range")?;
-    let elsewhere = Stamp::new(1, 2).ok_or("in range")?;
-    let later = Stamp::new(2, 1).ok_or("in range")?;
-    assert_eq!(rt; first.cas(), 257);
-    assert!(rt; first < elsewhere);
-    assert!(rt; elsewhere < later);
+fn stamps_are_in_range_and_go_by_time_and_then_by_site(rt: HostRuntime) -> Result<(), Fail> {
+    let mut out = String::new(rt.alloc());
+    let mut before = (0, 0);
+    for (at, want) in STAMPS {
+        out.clear();
+        show_stamp(&mut out, before, *at)?;
+        check(&rt, out.as_str(), want);
+        before = *at;
+    }
     Ok(())
 }
 
-#[test]
-fn a_vector_knows_up_to_its_entries(rt: HostRuntime) -> Result<(), Fail> {
-    let mut vector = Vector::new(2);
-    vector.raise(2, 5);
-    vector.raise(2, 3);
-    assert_eq!(rt; vector.sites(), 2);
-    assert_eq!(rt; vector.entry(1), 0);
-    assert_eq!(rt; vector.entry(2), 5);
-    assert_eq!(rt; vector.entry(3), 0);
-    assert_eq!(rt; vector.greatest(), 5);
-    assert!(rt; vector.knows(&Stamp::new(5, 2).ok_or("in range")?));
-    assert!(rt; !vector.knows(&Stamp::new(6, 2).ok_or("in range")?));
-    assert!(rt; !vector.knows(&Stamp::new(1, 1).ok_or("in range")?));
-    Ok(())
-}
-
-#[test]
-fn vectors_of_two_lengths_join(rt: HostRuntime) -> Result<(), Fail> {
-    let alloc = rt.alloc();
-    let mut mine = Vector::new(1);
-    mine.raise(1, 4);
-    let mut other = Vector::new(3);
-    other.raise(1, 2);
-    other.raise(3, 9);
-    assert!(rt; !mine.covers(&other));
-    mine.ready(alloc, &other)?;
-    assert!(rt; mine.has_room(&other));
-    mine.join(other.twin(alloc)?);
-    assert_eq!(rt; mine.sites(), 3);
-    assert_eq!(rt; mine.entry(1), 4);
-    assert_eq!(rt; mine.entry(2), 0);
-    assert_eq!(rt; mine.entry(3), 9);
-    assert!(rt; mine.copied().covers(&other));
-    Ok(())
-}
-
-#[test]
-fn what_is_heard_is_joined_into_the_row_of_its_site(rt: HostRuntime) -> Result<(), Fail> {
-    let mut acks = Acks::new(2);
-    let mut first = Vector::new(2);
-    first.raise(1, 5);
-    acks.heard(2, &first);
-    let mut late = Vector::new(2);
-    late.raise(1, 3);
-    late.raise(2, 4);
-    acks.heard(2, &late);
-    assert_eq!(rt; acks.row(2).entry(1), 5);
-    assert_eq!(rt; acks.row(2).entry(2), 4);
-    assert_eq!(rt; acks.row(1).entry(1), 0);
-    assert_eq!(rt; acks.row(16).sites(), 2);
-    Ok(())
-}
-
-/// A vector of three clocks.
-fn clocks(one: u32, two: u32, three: u32) -> Vector {
-    let mut vector = Vector::new(3);
-    vector.raise(1, one as u64);
-    vector.raise(2, two as u64);
-    vector.raise(3, three as u64);
+/// A vector of these clocks.
+fn clocks(times: &[u64]) -> Vector {
+    let mut vector = Vector::new(times.len().min(16));
+    let mut site = 0u8;
+    for time in times {
+        site = site.saturating_add(1);
+        vector.raise(site, (*time).min(LAST_TIME));
+    }
     vector
 }
 
+fn show_knows(out: &mut String, vector: &Vector, at: At) -> Result<(), AllocError> {
+    match Stamp::new(at.0, at.1) {
+        Some(stamp) if vector.knows(&stamp) => out.push_str("knows"),
+        _ => out.push_str("knows not"),
+    }
+}
+
+fn step(out: &mut String, vector: &mut Vector, step: Step) -> Result<(), AllocError> {
+    match step {
+        Step::Look => Ok(()),
+        Step::Raise(site, time) => {
+            vector.raise(site, time.min(LAST_TIME));
+            Ok(())
+        }
+        Step::Knows(at) => show_knows(out, vector, at),
+        Step::Join(times) => join(out, vector, clocks(times).twin(*out.allocator())?),
+    }
+}
+
+/// Shows a copy of a vector: how many entries it has, its greatest and least entry, and the first four.
+fn show_vector(out: &mut String, vector: &Vector) -> Result<(), AllocError> {
+    let vector = vector.copied();
+    write!(out, ":{}", vector.sites())?;
+    show_numbers(out, &[vector.greatest(), vector.least()])?;
+    out.push_str(",")?;
+    for site in 1..5 {
+        show_number(out, vector.entry(site))?;
+    }
+    Ok(())
+}
+
+fn vector_rows(
+    rt: &impl Abort,
+    out: &mut String,
+    vector: &mut Vector,
+    rows: &[VectorRow],
+) -> Result<(), AllocError> {
+    for (what, want) in rows {
+        out.clear();
+        step(out, vector, *what)?;
+        show_vector(out, vector)?;
+        check(rt, out.as_str(), want);
+    }
+    Ok(())
+}
+
 #[test]
-fn the_horizon_is_the_least_that_any_site_knows_of_any(rt: HostRuntime) {
-    let own = clocks(7, 6, 9);
-    assert_eq!(rt; own.least(), 6);
-    assert_eq!(rt; Vector::new(2).least(), 0);
-    let mut acks = Acks::new(3);
-    assert_eq!(rt; acks.horizon(2, &own), 0);
-    acks.heard(1, &clocks(8, 5, 9));
-    assert_eq!(rt; acks.horizon(2, &own), 0);
-    acks.heard(3, &clocks(4, 8, 9));
-    assert_eq!(rt; acks.horizon(2, &own), 4);
-    acks.heard(3, &clocks(5, 8, 9));
-    assert_eq!(rt; acks.horizon(2, &own), 5);
-    assert_eq!(rt; acks.horizon(2, &clocks(7, 6, 3)), 3);
-    // What was heard of itself counts for nothing.
-    acks.heard(2, &clocks(1, 1, 1));
-    assert_eq!(rt; acks.horizon(2, &own), 5);
+fn a_vector_is_raised_and_joined(rt: HostRuntime) -> Result<(), Fail> {
+    let mut out = String::new(rt.alloc());
+    for (times, rows) in VECTORS {
+        vector_rows(&rt, &mut out, &mut clocks(times), rows)?;
+    }
+    Ok(())
+}
+
+/// What was heard of a site, 1 to 16, joined to what was heard of it before.
+fn hear(acks: &mut Acks, site: u8, times: &[u64]) {
+    acks.heard(site.clamp(1, 16), &clocks(times));
+}
+
+/// Shows the horizon of a site that knows so much.
+fn show_horizon(out: &mut String, acks: &Acks, site: u8, times: &[u64]) -> Result<(), AllocError> {
+    show_number(out, acks.horizon(site.clamp(1, 16), &clocks(times)))
+}
+
+fn hear_or_ask(out: &mut String, acks: &mut Acks, what: Hearing) -> Result<(), AllocError> {
+    match what {
+        Hearing::Heard(site, times) => {
+            hear(acks, site, times);
+            Ok(())
+        }
+        Hearing::Row(site) => show_vector(out, acks.row(site.clamp(1, 16))),
+        Hearing::Horizon(site, times) => show_horizon(out, acks, site, times),
+    }
+}
+
+#[test]
+fn the_horizon_is_the_least_that_any_site_knows_of_any(rt: HostRuntime) -> Result<(), Fail> {
+    let mut out = String::new(rt.alloc());
+    for (sites, rows, want) in ACKS {
+        let mut acks = Acks::new((*sites).min(16));
+        out.clear();
+        for what in *rows {
+            hear_or_ask(&mut out, &mut acks, *what)?;
+        }
+        check(&rt, out.as_str(), want);
+    }
+    Ok(())
 }

@@ -1,132 +1,85 @@
-//! Each public call once, with ample memory. What several tests do stands in functions of its own: short bodies are proved faster.
+//! Keys, digests and contents, and what is known of keys.
+ghost use Rattle.std.specs.Prelude.{◌≡◌, None};
+
+use crate::tests::text::{check, join, show_number, show_numbers};
 use geo_lattice::{Lattice, Lww, Pair, Twin};
-use geo_stamp::{Stamp, Vector};
+use geo_stamp::{LAST_TIME, Stamp, Vector};
 use geo_versions::{Body, Digest, Key, Length, Rec, Version, Versions, are_rising, sift};
-use std::alloc::Global;
+use std::alloc::{AllocError, Global};
 use std::hash::RandomState;
+use std::process::Abort;
 use std::test::Fail;
 
-/// The time and the site of a stamp.
-type At = (u64, u8);
+mod table;
 
-fn key(alloc: Global, bytes: &[u8]) -> Result<Key, Fail> {
-    Ok(Key::new(alloc, bytes)?.ok_or("no key")?)
+use table::{
+    At, CONTENTS, Content, KEYS, RISING, Record, SIFTED, Step, TO_SIFT, VERSIONS, VersionRow,
+};
+
+fn is_equal(key: &Key, other: &Key) -> bool {
+    key == other
 }
 
-fn stamp(at: At) -> Result<Stamp, Fail> {
-    Ok(Stamp::new(at.0, at.1).ok_or("no stamp")?)
+/// What a key is called whose twin is equal to it and has its bytes.
+fn twin_name(alloc: Global, key: &Key, bytes: &[u8]) -> Result<&'static str, AllocError> {
+    let twin = key.twin(alloc)?;
+    if is_equal(&twin, key) && twin.bytes() == bytes {
+        return Ok("key");
+    }
+    Ok("unlike")
 }
 
-fn value(first: u8, flags: u32, length: u8) -> Body {
+/// Shows whether bytes are a key, and one with an equal twin.
+fn show_key(out: &mut String, bytes: &[u8]) -> Result<(), AllocError> {
+    let alloc = *out.allocator();
+    match Key::new(alloc, bytes)? {
+        None => out.push_str("none"),
+        Some(key) => out.push_str(twin_name(alloc, &key, bytes)?),
+    }
+}
+
+/// Whether the first key is less than the second, and another.
+fn is_less(alloc: Global, low: &[u8], high: &[u8]) -> Result<bool, AllocError> {
+    let Some(low) = Key::new(alloc, low)? else {
+        return Ok(false);
+    };
+    let Some(high) = Key::new(alloc, high)? else {
+        return Ok(false);
+    };
+    Ok(low < high && low != high)
+}
+
+#[test]
+fn keys_are_1_to_250_allowed_bytes(rt: HostRuntime) -> Result<(), Fail> {
+    let mut out = String::new(rt.alloc());
+    for (bytes, want) in KEYS {
+        out.clear();
+        show_key(&mut out, bytes)?;
+        check(&rt, out.as_str(), want);
+        assert_eq!(rt; Key::is_valid(bytes), *want == "key");
+    }
+    assert!(rt; is_less(rt.alloc(), b"a!", b"a\xff")?);
+    Ok(())
+}
+
+/// A digest that begins with these bytes. The others are 0.
+fn digest(text: &str) -> Digest {
     let mut bytes = [0; 32];
-    bytes[0] = first;
-    Body::Value {
-        digest: Digest::new(bytes),
-        flags,
-        length: Length::of(u32::from(length)),
+    for (place, byte) in bytes.iter_mut().zip(text.as_bytes()) {
+        *place = *byte;
     }
+    Digest::new(bytes)
 }
 
-fn written(at: At, body: Body, expiry: u64) -> Result<Rec, Fail> {
-    let stamp = stamp(at)?;
-    Ok(Pair {
-        left: Lww::of(stamp, body),
-        right: Lww::of(stamp, expiry),
-    })
-}
-
-fn write(
-    alloc: Global,
-    known: &mut Versions,
-    name: &[u8],
-    at: At,
-    body: Body,
-    expiry: u64,
-) -> Result<(), Fail> {
-    let key = key(alloc, name)?;
-    known.write(alloc, &key, stamp(at)?, body, expiry)?;
-    Ok(())
-}
-
-fn touch(
-    alloc: Global,
-    known: &mut Versions,
-    name: &[u8],
-    at: At,
-    expiry: u64,
-) -> Result<(), Fail> {
-    let key = key(alloc, name)?;
-    let stamp = stamp(at)?;
-    if known.record(&key).is_none() {
-        return Err("no record".into());
+fn body(content: Content) -> Body {
+    match content {
+        None => Body::Gone,
+        Some((text, flags, length)) => Body::Value {
+            digest: digest(text),
+            flags,
+            length: Length::of(u32::from(length)),
+        },
     }
-    known.touch(&key, stamp, expiry);
-    Ok(())
-}
-
-fn version(alloc: Global, known: &Versions, name: &[u8]) -> Result<Option<Version>, Fail> {
-    let key = key(alloc, name)?;
-    Ok(known.version_of(&key))
-}
-
-/// The stamp of a key's version, and that of its expiry, each as time and site, with the expiry.
-fn shown(version: Option<Version>) -> Option<(At, At, u64)> {
-    let version = version?;
-    let stamp = (version.stamp.time(), version.stamp.site());
-    let expiry = (version.expiry_stamp.time(), version.expiry_stamp.site());
-    Some((stamp, expiry, version.expiry))
-}
-
-fn ended(known: &Versions, site: u8, before: u64) -> Option<&[u8]> {
-    known.ended(site, before).map(|key| key.bytes())
-}
-
-#[test]
-fn keys_are_1_to_250_allowed_bytes(rt: HostRuntime) {
-    let rows: [(&[u8], bool); 7] = [
-        (b"", false),
-        (b"a", true),
-        (b"a b", false),
-        (b"a\x7f", false),
-        (b"a\xff", true),
-        (&[b'k'; 250], true),
-        (&[b'k'; 251], false),
-    ];
-    for (bytes, valid) in rows {
-        assert_eq!(rt; Key::is_valid(bytes), valid, "{}", bytes.len());
-    }
-}
-
-#[test]
-fn a_key_has_its_bytes_wherever_they_stand(rt: HostRuntime) -> Result<(), Fail> {
-    let alloc = rt.alloc();
-    for length in [1, 23, 24, 25, 250] {
-        let bytes = vec![in alloc; b'k'; length]?;
-        let key = key(alloc, &bytes)?;
-        let twin = key.twin(alloc)?;
-        assert_eq!(rt; twin.bytes(), bytes.as_slice());
-        assert!(rt; twin == key);
-    }
-    assert!(rt; Key::new(alloc, b"a b")?.is_none());
-    Ok(())
-}
-
-#[test]
-fn keys_go_by_their_bytes(rt: HostRuntime) -> Result<(), Fail> {
-    let alloc = rt.alloc();
-    let low = key(alloc, b"a!")?;
-    let high = key(alloc, b"a\xff")?;
-    assert!(rt; low < high);
-    assert!(rt; low != high);
-    Ok(())
-}
-
-#[test]
-fn the_digest_of_no_bytes_is_that_of_fips_180_4(rt: HostRuntime) {
-    let digest = Digest::of(b"");
-    let bytes = digest.bytes();
-    assert_eq!(rt; &bytes[..4], [0xe3, 0xb0, 0xc4, 0x42].as_slice());
-    assert_eq!(rt; &bytes[28..], [0x78, 0x52, 0xb8, 0x55].as_slice());
 }
 
 /// Whether the second of two contents with one stamp stays, whichever is joined to the other.
@@ -141,335 +94,364 @@ fn stays(at: &Stamp, lower: &Body, higher: &Body) -> bool {
 
 #[test]
 fn of_equal_stamps_the_greater_content_stays(rt: HostRuntime) -> Result<(), Fail> {
-    let one = stamp((3, 2))?;
-    let rising = [
-        Body::Gone,
-        value(0, 9, 9),
-        value(1, 0, 5),
-        value(1, 0, 6),
-        value(1, 1, 0),
-        value(2, 0, 0),
-    ];
-    for i in 1..rising.len() {
-        assert!(rt; stays(&one, &rising[i - 1], &rising[i]), "at {i}");
+    let at = Stamp::new(3, 2).ok_or("no stamp")?;
+    let mut lower = None;
+    for content in CONTENTS {
+        let higher = body(*content);
+        if let Some(lower) = lower {
+            assert!(rt; stays(&at, &lower, &higher), "{content:?}");
+        }
+        lower = Some(higher);
     }
     Ok(())
 }
 
 #[test]
-fn a_write_is_the_version(rt: HostRuntime) -> Result<(), Fail> {
-    let alloc = rt.alloc();
-    let mut known = Versions::new(alloc, RandomState::new(&rt)?);
-    let digest = Digest::of(b"hi");
-    let body = Body::Value {
-        digest,
-        flags: 5,
-        length: Length::of(2),
+fn the_digest_of_no_bytes_is_that_of_fips_180_4(rt: HostRuntime) {
+    let digest = Digest::of(b"");
+    let bytes = digest.bytes();
+    assert_eq!(rt; &bytes[..4], [0xe3, 0xb0, 0xc4, 0x42].as_slice());
+    assert_eq!(rt; &bytes[28..], [0x78, 0x52, 0xb8, 0x55].as_slice());
+}
+
+/// The registers of a record, None where a stamp is out of range.
+fn rec(record: Record) -> Option<Rec> {
+    let Record(_, at, content, expiry, expiry_at) = record;
+    let stamp = Stamp::new(at.0, at.1)?;
+    let expiry_stamp = Stamp::new(expiry_at.0, expiry_at.1)?;
+    Some(Pair {
+        left: Lww::of(stamp, body(content)),
+        right: Lww::of(expiry_stamp, expiry),
+    })
+}
+
+fn push_record(records: &mut Vec<(Key, Rec)>, record: Record) -> Result<(), AllocError> {
+    let alloc = *records.allocator();
+    let Some(rec) = rec(record) else {
+        return Ok(());
     };
-    write(alloc, &mut known, b"a", (1, 1), body, 150)?;
-    let stamp = stamp((1, 1))?;
-    let wanted = Version {
-        stamp,
-        digest,
-        flags: 5,
-        length: 2,
-        expiry_stamp: stamp,
-        expiry: 150,
-    };
-    assert_eq!(rt; known.len(), 1);
-    assert_eq!(rt; version(alloc, &known, b"a")?, Some(wanted));
+    if let Some(key) = Key::new(alloc, record.0.as_bytes())? {
+        records.push((key, rec))?;
+    }
     Ok(())
 }
 
-#[test]
-fn a_deleted_key_has_a_record_and_no_version(rt: HostRuntime) -> Result<(), Fail> {
-    let alloc = rt.alloc();
-    let mut known = Versions::new(alloc, RandomState::new(&rt)?);
-    write(alloc, &mut known, b"a", (1, 1), value(7, 5, 2), 150)?;
-    write(alloc, &mut known, b"a", (2, 1), Body::Gone, 0)?;
-    assert_eq!(rt; version(alloc, &known, b"a")?, None);
-    assert_eq!(rt; known.len(), 1);
-    let key = key(alloc, b"a")?;
-    assert!(rt; known.record(&key).is_some());
-    Ok(())
-}
-
-#[test]
-fn a_touch_outranks_a_write_in_expiry_alone(rt: HostRuntime) -> Result<(), Fail> {
-    let alloc = rt.alloc();
-    let mut known = Versions::new(alloc, RandomState::new(&rt)?);
-    write(alloc, &mut known, b"a", (1, 1), value(7, 5, 2), 150)?;
-    touch(alloc, &mut known, b"a", (3, 2), 200)?;
-    write(alloc, &mut known, b"a", (2, 1), value(8, 0, 1), 0)?;
-    let version = version(alloc, &known, b"a")?;
-    assert_eq!(rt; shown(version), Some(((2, 1), (3, 2), 200)));
-    Ok(())
-}
-
-/// Two keys, of which a flush leaves the second.
-fn flushed(alloc: Global, known: &mut Versions) -> Result<(), Fail> {
-    write(alloc, known, b"a", (1, 1), value(1, 0, 1), 0)?;
-    write(alloc, known, b"b", (1, 3), value(2, 0, 1), 0)?;
-    known.raise_floor(stamp((1, 2))?);
-    Ok(())
-}
-
-#[test]
-fn a_flush_drops_what_is_not_above_it(rt: HostRuntime) -> Result<(), Fail> {
-    let alloc = rt.alloc();
-    let mut known = Versions::new(alloc, RandomState::new(&rt)?);
-    assert_eq!(rt; known.floor(), None);
-    flushed(alloc, &mut known)?;
-    assert_eq!(rt; known.floor(), Some(stamp((1, 2))?));
-    assert_eq!(rt; known.len(), 1);
-    assert_eq!(rt; version(alloc, &known, b"a")?, None);
-    Ok(())
-}
-
-#[test]
-fn what_a_flush_leaves_is_listed(rt: HostRuntime) -> Result<(), Fail> {
-    let alloc = rt.alloc();
-    let mut known = Versions::new(alloc, RandomState::new(&rt)?);
-    flushed(alloc, &mut known)?;
-    let all = known.all(alloc)?;
-    assert_eq!(rt; all.len(), 1);
-    assert_eq!(rt; all[0].0.bytes(), b"b".as_slice());
-    assert_eq!(rt; shown(Some(all[0].1)), Some(((1, 3), (1, 3), 0)));
-    Ok(())
-}
-
-/// Two records, with the times 5 and 2.
-fn two_records(alloc: Global) -> Result<Vec<(Key, Rec)>, Fail> {
+fn records_of(alloc: Global, table: &[Record]) -> Result<Vec<(Key, Rec)>, AllocError> {
     let mut records = Vec::new(alloc);
-    records.push((key(alloc, b"b")?, written((5, 1), value(1, 0, 1), 0)?))?;
-    records.push((key(alloc, b"c")?, written((2, 1), value(1, 0, 1), 0)?))?;
+    for record in table {
+        push_record(&mut records, *record)?;
+    }
     Ok(records)
 }
 
-#[test]
-fn records_of_a_parcel_join(rt: HostRuntime) -> Result<(), Fail> {
-    let alloc = rt.alloc();
-    let mut known = Versions::new(alloc, RandomState::new(&rt)?);
-    let records = two_records(alloc)?;
-    known.ready_records(alloc, records.as_slice())?;
-    assert_eq!(rt; known.len(), 0);
-    known.join_records(Some(stamp((3, 1))?), records);
-    assert_eq!(rt; known.len(), 1);
-    assert_eq!(rt; known.floor(), Some(stamp((3, 1))?));
-    let version = version(alloc, &known, b"b")?;
-    assert_eq!(rt; shown(version), Some(((5, 1), (5, 1), 0)));
+fn show_stamp(out: &mut String, stamp: &Stamp) -> Result<(), AllocError> {
+    show_number(out, stamp.time())?;
+    write!(out, ".{}", stamp.site())
+}
+
+/// Shows the bytes of a digest up to the first that is 0.
+fn show_digest(out: &mut String, digest: &Digest) -> Result<(), AllocError> {
+    out.push_str(" ")?;
+    for byte in digest.bytes() {
+        if *byte == 0 {
+            return Ok(());
+        }
+        out.push(char::from(*byte))?;
+    }
     Ok(())
 }
 
-/// Keys that come in no order, with times of two sites.
-fn three_keys(alloc: Global, known: &mut Versions) -> Result<(), Fail> {
-    write(alloc, known, b"b", (4, 1), value(1, 0, 1), 0)?;
-    write(alloc, known, b"a", (2, 2), Body::Gone, 0)?;
-    write(alloc, known, b"ab", (3, 1), value(2, 0, 1), 0)
+fn show_expiry(out: &mut String, expiry: u64, stamp: &Stamp) -> Result<(), AllocError> {
+    show_number(out, expiry)?;
+    show_stamp(out, stamp)
 }
 
-#[test]
-fn what_a_vector_does_not_know_is_listed_by_rising_key(rt: HostRuntime) -> Result<(), Fail> {
-    let alloc = rt.alloc();
-    let mut known = Versions::new(alloc, RandomState::new(&rt)?);
-    three_keys(alloc, &mut known)?;
-    let mut base = Vector::new(2);
-    base.raise(1, 3);
-    let since = known.since(alloc, &base)?;
-    assert_eq!(rt; since.len(), 2);
-    assert_eq!(rt; since[0].0.bytes(), b"a".as_slice());
-    assert!(rt; since[0].1.left.get().copied() == Some((stamp((2, 2))?, Body::Gone)));
-    assert_eq!(rt; since[1].0.bytes(), b"b".as_slice());
+fn show_version(out: &mut String, version: Option<Version>) -> Result<(), AllocError> {
+    let Some(version) = version else {
+        return out.push_str(" gone");
+    };
+    show_digest(out, &version.digest)?;
+    show_numbers(out, &[u64::from(version.flags), u64::from(version.length)])?;
+    show_stamp(out, &version.stamp)?;
+    show_expiry(out, version.expiry, &version.expiry_stamp)
+}
+
+fn show_name(out: &mut String, key: &Key) -> Result<(), AllocError> {
+    out.push_str(", ")?;
+    out.push_str(str::from_utf8(key.bytes()).unwrap_or("?"))
+}
+
+fn show_body(out: &mut String, body: &Body) -> Result<(), AllocError> {
+    match body {
+        Body::Gone => out.push_str(" gone"),
+        Body::Value {
+            digest,
+            flags,
+            length,
+        } => {
+            show_digest(out, digest)?;
+            show_numbers(out, &[u64::from(*flags), u64::from(length.get())])
+        }
+    }
+}
+
+fn show_rec(out: &mut String, rec: &Rec) -> Result<(), AllocError> {
+    match rec.left.get() {
+        None => out.push_str(" -")?,
+        Some((stamp, body)) => {
+            show_body(out, body)?;
+            show_stamp(out, stamp)?;
+        }
+    }
+    match rec.right.get() {
+        None => out.push_str(" -"),
+        Some((stamp, expiry)) => show_expiry(out, *expiry, stamp),
+    }
+}
+
+fn show_records(out: &mut String, records: &[(Key, Rec)]) -> Result<(), AllocError> {
+    for (key, rec) in records {
+        show_name(out, key)?;
+        show_rec(out, rec)?;
+    }
     Ok(())
 }
 
-/// Writes of two sites, of which one never ends.
-fn three_ends(alloc: Global, known: &mut Versions) -> Result<(), Fail> {
-    write(alloc, known, b"a", (1, 1), value(1, 0, 1), 150)?;
-    write(alloc, known, b"b", (2, 2), value(2, 0, 1), 100)?;
-    write(alloc, known, b"c", (3, 1), value(3, 0, 1), 0)
+/// Shows the version of a key that has a record, or a version without one.
+fn show_known(out: &mut String, known: &Versions, name: &str) -> Result<(), AllocError> {
+    let Some(key) = Key::new(*out.allocator(), name.as_bytes())? else {
+        return Ok(());
+    };
+    let version = known.version_of(&key);
+    if version.is_none() && known.record(&key).is_none() {
+        return Ok(());
+    }
+    show_name(out, &key)?;
+    show_version(out, version)
 }
 
-#[test]
-fn a_write_of_a_site_is_found_once_it_has_ended(rt: HostRuntime) -> Result<(), Fail> {
-    let mut known = Versions::new(rt.alloc(), RandomState::new(&rt)?);
-    three_ends(rt.alloc(), &mut known)?;
-    assert_eq!(rt; ended(&known, 1, 149), None);
-    assert_eq!(rt; ended(&known, 1, 150), None);
-    assert_eq!(rt; ended(&known, 1, 151), Some(b"a".as_slice()));
-    assert_eq!(rt; ended(&known, 2, 101), Some(b"b".as_slice()));
-    assert_eq!(rt; ended(&known, 3, u64::MAX), None);
+fn show_state(out: &mut String, known: &Versions) -> Result<(), AllocError> {
+    match known.floor() {
+        None => out.push_str(":-")?,
+        Some(floor) => write!(out, ":{}.{}", floor.time(), floor.site())?,
+    }
+    write!(out, " {}", known.len())?;
+    for name in ["a", "ab", "b", "c"] {
+        show_known(out, known, name)?;
+    }
     Ok(())
 }
 
-#[test]
-fn a_deleted_key_has_not_ended(rt: HostRuntime) -> Result<(), Fail> {
-    let alloc = rt.alloc();
-    let mut known = Versions::new(alloc, RandomState::new(&rt)?);
-    assert_eq!(rt; ended(&known, 1, u64::MAX), None);
-    three_ends(alloc, &mut known)?;
-    write(alloc, &mut known, b"a", (4, 1), Body::Gone, 0)?;
-    assert_eq!(rt; ended(&known, 1, u64::MAX), None);
-    Ok(())
-}
-
-/// Another site's touch moves the expiry, and the write stays its site's.
-#[test]
-fn a_touch_moves_the_moment_at_which_a_write_ends(rt: HostRuntime) -> Result<(), Fail> {
-    let alloc = rt.alloc();
-    let mut known = Versions::new(alloc, RandomState::new(&rt)?);
-    write(alloc, &mut known, b"a", (1, 1), value(1, 0, 1), 150)?;
-    touch(alloc, &mut known, b"a", (2, 2), 200)?;
-    assert_eq!(rt; ended(&known, 1, 200), None);
-    assert_eq!(rt; ended(&known, 1, 201), Some(b"a".as_slice()));
-    assert_eq!(rt; ended(&known, 2, u64::MAX), None);
-    Ok(())
-}
-
-#[test]
-fn versions_join(rt: HostRuntime) -> Result<(), Fail> {
-    let alloc = rt.alloc();
-    let mut mine = Versions::new(alloc, RandomState::new(&rt)?);
-    let mut other = Versions::new(alloc, RandomState::new(&rt)?);
-    write(alloc, &mut mine, b"a", (1, 1), value(1, 0, 1), 0)?;
-    write(alloc, &mut other, b"a", (1, 2), value(2, 0, 1), 0)?;
-    assert!(rt; !mine.covers(&other));
-    mine.ready(alloc, &other)?;
-    assert!(rt; mine.has_room(&other));
-    mine.join(other);
-    let version = version(alloc, &mine, b"a")?;
-    assert_eq!(rt; shown(version), Some(((1, 2), (1, 2), 0)));
-    Ok(())
-}
-
-/// The stamp that a key's version would have with a record of this time joined to its own.
-fn with(
+fn write(
+    known: &mut Versions,
     alloc: Global,
-    known: &Versions,
-    name: &[u8],
-    time: u64,
-    body: Body,
-) -> Result<Option<u64>, Fail> {
-    let key = key(alloc, name)?;
-    let rec = written((time, 1), body, 0)?;
-    Ok(
-        known
-            .version_with(&key, &rec)
-            .map(|version| version.stamp.time()),
-    )
-}
-
-#[test]
-fn a_record_shows_what_its_key_would_have(rt: HostRuntime) -> Result<(), Fail> {
-    let alloc = rt.alloc();
-    let mut known = Versions::new(alloc, RandomState::new(&rt)?);
-    known.raise_floor(stamp((2, 1))?);
-    write(alloc, &mut known, b"a", (5, 1), value(1, 0, 1), 0)?;
-    let rows: [(&[u8], u64, Body, Option<u64>); 6] = [
-        (b"a", 4, value(1, 0, 1), Some(5)),
-        (b"a", 5, value(1, 0, 1), Some(5)),
-        (b"a", 6, value(1, 0, 1), Some(6)),
-        (b"a", 6, Body::Gone, None),
-        (b"b", 3, value(1, 0, 1), Some(3)),
-        (b"b", 2, value(1, 0, 1), None),
-    ];
-    for (name, time, body, want) in rows {
-        assert_eq!(rt; with(alloc, &known, name, time, body)?, want, "at {time}");
-    }
-    Ok(())
-}
-
-/// Records of these keys.
-fn of_keys(alloc: Global, names: &[&str]) -> Result<Vec<(Key, Rec)>, Fail> {
-    let mut records = Vec::new(alloc);
-    for name in names {
-        records.push((
-            key(alloc, name.as_bytes())?,
-            written((1, 1), Body::Gone, 0)?,
-        ))?;
-    }
-    Ok(records)
-}
-
-#[test]
-fn keys_rise_where_none_is_listed_twice(rt: HostRuntime) -> Result<(), Fail> {
-    let rows: [(&[&str], bool); 5] = [
-        (&[], true),
-        (&["b"], true),
-        (&["a", "ab", "b"], true),
-        (&["a", "b", "b"], false),
-        (&["a", "c", "b"], false),
-    ];
-    for (names, rising) in rows {
-        let records = of_keys(rt.alloc(), names)?;
-        assert_eq!(rt; are_rising(records.as_slice()), rising, "{}", names.len());
-    }
-    Ok(())
-}
-
-/// A write at 2, one at 5 whose key was touched at 9, and a delete at 3 of site 2.
-fn three_to_sift(alloc: Global) -> Result<Vec<(Key, Rec)>, Fail> {
-    let mut records = Vec::new(alloc);
-    records.push((key(alloc, b"a")?, written((2, 1), value(1, 0, 1), 0)?))?;
-    let touched = Pair {
-        left: Lww::of(stamp((5, 1))?, value(2, 0, 1)),
-        right: Lww::of(stamp((9, 2))?, 70),
+    name: &str,
+    at: At,
+    content: Content,
+    expiry: u64,
+) -> Result<(), AllocError> {
+    let Some(stamp) = Stamp::new(at.0, at.1) else {
+        return Ok(());
     };
-    records.push((key(alloc, b"b")?, touched))?;
-    records.push((key(alloc, b"c")?, written((3, 2), Body::Gone, 0)?))?;
-    Ok(records)
-}
-
-/// The keys of what is left above a horizon, and how many registers they have.
-fn sifted(alloc: Global, horizon: u64) -> Result<(Vec<u8>, usize), Fail> {
-    let mut records = three_to_sift(alloc)?;
-    sift(&mut records, horizon);
-    let mut keys = Vec::new(alloc);
-    let mut registers = 0usize;
-    for (name, rec) in &records {
-        keys.extend_from_slice(name.bytes())?;
-        let both = rec.left.get().is_some() as usize + rec.right.get().is_some() as usize;
-        registers = registers.saturating_add(both);
+    match Key::new(alloc, name.as_bytes())? {
+        None => Ok(()),
+        Some(key) => known.write(alloc, &key, stamp, body(content), expiry),
     }
-    Ok((keys, registers))
 }
 
-#[test]
-fn what_is_behind_the_horizon_is_sifted(rt: HostRuntime) -> Result<(), Fail> {
-    let alloc = rt.alloc();
-    for (horizon, keys, registers) in [
-        (1, "abc", 6),
-        (2, "bc", 4),
-        (3, "b", 2),
-        (5, "b", 1),
-        (8, "b", 1),
-        (9, "", 0),
-    ] {
-        let (left, many) = sifted(alloc, horizon)?;
-        assert_eq!(rt; left.as_slice(), keys.as_bytes());
-        assert_eq!(rt; many, registers);
+fn touch(
+    known: &mut Versions,
+    alloc: Global,
+    name: &str,
+    at: At,
+    expiry: u64,
+) -> Result<(), AllocError> {
+    let Some(stamp) = Stamp::new(at.0, at.1) else {
+        return Ok(());
+    };
+    if let Some(key) = Key::new(alloc, name.as_bytes())? {
+        if known.record(&key).is_some() {
+            known.touch(&key, stamp, expiry);
+        }
     }
     Ok(())
 }
 
-/// A value, a delete at 3, and one at 5.
-fn two_deleted(alloc: Global, known: &mut Versions) -> Result<(), Fail> {
-    write(alloc, known, b"a", (2, 1), value(1, 0, 1), 0)?;
-    write(alloc, known, b"b", (3, 2), Body::Gone, 0)?;
-    write(alloc, known, b"c", (5, 1), Body::Gone, 0)
+fn join_records(
+    known: &mut Versions,
+    alloc: Global,
+    floor: At,
+    table: &[Record],
+) -> Result<(), AllocError> {
+    let records = records_of(alloc, table)?;
+    known.ready_records(alloc, records.as_slice())?;
+    known.join_records(Stamp::new(floor.0, floor.1), records);
+    Ok(())
+}
+
+/// What a site knows after one write.
+fn after(
+    alloc: Global,
+    hasher: RandomState,
+    name: &str,
+    at: At,
+    content: Content,
+) -> Result<Versions, AllocError> {
+    let mut known = Versions::new(alloc, hasher);
+    write(&mut known, alloc, name, at, content, 0)?;
+    Ok(known)
+}
+
+fn flush(known: &mut Versions, at: At) {
+    if let Some(stamp) = Stamp::new(at.0, at.1) {
+        known.raise_floor(stamp);
+    }
+}
+
+fn change(
+    out: &mut String,
+    known: &mut Versions,
+    hasher: RandomState,
+    step: Step,
+) -> Result<(), AllocError> {
+    let alloc = *out.allocator();
+    match step {
+        Step::Write(name, at, content, expiry) => write(known, alloc, name, at, content, expiry),
+        Step::Touch(name, at, expiry) => touch(known, alloc, name, at, expiry),
+        Step::Flush(at) => {
+            flush(known, at);
+            Ok(())
+        }
+        Step::Ready(table) => known.ready_records(alloc, records_of(alloc, table)?.as_slice()),
+        Step::JoinRecords(floor, table) => join_records(known, alloc, floor, table),
+        Step::Join(name, at, content) => join(out, known, after(alloc, hasher, name, at, content)?),
+        Step::Remove(horizon) => show_number(out, known.remove_below(horizon) as u64),
+        _ => Ok(()),
+    }
+}
+
+/// Shows the records that a vector of these clocks does not know.
+fn show_since(out: &mut String, known: &Versions, times: &[u64]) -> Result<(), AllocError> {
+    let mut base = Vector::new(times.len().min(16));
+    let mut site = 0u8;
+    for time in times {
+        site = site.saturating_add(1);
+        base.raise(site, (*time).min(LAST_TIME));
+    }
+    let since = known.since(*out.allocator(), &base)?;
+    show_records(out, since.as_slice())
+}
+
+fn show_all(out: &mut String, known: &Versions) -> Result<(), AllocError> {
+    for (key, version) in &known.all(*out.allocator())? {
+        show_name(out, key)?;
+        show_version(out, Some(*version))?;
+    }
+    Ok(())
+}
+
+fn show_ended(out: &mut String, known: &Versions, site: u8, before: u64) -> Result<(), AllocError> {
+    match known.ended(site, before) {
+        None => out.push_str("none"),
+        Some(key) => out.push_str(str::from_utf8(key.bytes()).unwrap_or("?")),
+    }
+}
+
+fn show_with(out: &mut String, known: &Versions, record: Record) -> Result<(), AllocError> {
+    let Some(rec) = rec(record) else {
+        return Ok(());
+    };
+    match Key::new(*out.allocator(), record.0.as_bytes())? {
+        None => Ok(()),
+        Some(key) => show_version(out, known.version_with(&key, &rec)),
+    }
+}
+
+fn step(
+    out: &mut String,
+    known: &mut Versions,
+    hasher: RandomState,
+    step: Step,
+) -> Result<(), AllocError> {
+    match step {
+        Step::Since(times) => show_since(out, known, times),
+        Step::All => show_all(out, known),
+        Step::Ended(site, before) => show_ended(out, known, site, before),
+        Step::With(record) => show_with(out, known, record),
+        _ => {
+            change(out, known, hasher, step)?;
+            show_state(out, known)
+        }
+    }
+}
+
+fn version_row(
+    rt: &impl Abort,
+    out: &mut String,
+    known: &mut Versions,
+    hasher: RandomState,
+    row: &VersionRow,
+) -> Result<(), AllocError> {
+    out.clear();
+    step(out, known, hasher, row.0)?;
+    check(rt, out.as_str(), row.1);
+    Ok(())
+}
+
+fn version_rows(
+    rt: &impl Abort,
+    out: &mut String,
+    hasher: RandomState,
+    rows: &[VersionRow],
+) -> Result<(), AllocError> {
+    let mut known = Versions::new(*out.allocator(), hasher);
+    for row in rows {
+        version_row(rt, out, &mut known, hasher, row)?;
+    }
+    Ok(())
+}
+
+/// Plays each table, beginning with nothing known.
+fn version_tables(
+    rt: &impl Abort,
+    out: &mut String,
+    hasher: RandomState,
+) -> Result<(), AllocError> {
+    for rows in VERSIONS {
+        version_rows(rt, out, hasher, rows)?;
+    }
+    Ok(())
 }
 
 #[test]
-fn what_is_deleted_is_removed_below_the_horizon(rt: HostRuntime) -> Result<(), Fail> {
-    let alloc = rt.alloc();
-    let mut known = Versions::new(alloc, RandomState::new(&rt)?);
-    two_deleted(alloc, &mut known)?;
-    assert_eq!(rt; known.remove_below(2), 0);
-    assert_eq!(rt; known.len(), 3);
-    assert_eq!(rt; known.remove_below(3), 1);
-    assert!(rt; known.record(&key(alloc, b"b")?).is_none());
-    assert_eq!(rt; known.remove_below(9), 1);
-    assert_eq!(rt; known.len(), 1);
-    assert!(rt; version(alloc, &known, b"a")?.is_some());
+fn versions_are_what_operations_left(rt: HostRuntime) -> Result<(), Fail> {
+    let hasher = RandomState::new(&rt)?;
+    let mut out = String::new(rt.alloc());
+    version_tables(&rt, &mut out, hasher)?;
+    Ok(())
+}
+
+/// Shows what is left of the records above a horizon.
+fn show_sifted(out: &mut String, horizon: u64) -> Result<(), AllocError> {
+    let mut records = records_of(*out.allocator(), TO_SIFT)?;
+    sift(&mut records, horizon);
+    show_records(out, records.as_slice())
+}
+
+fn rise(alloc: Global, table: &[Record]) -> Result<bool, AllocError> {
+    Ok(are_rising(records_of(alloc, table)?.as_slice()))
+}
+
+#[test]
+fn records_are_sifted_and_seen_to_rise(rt: HostRuntime) -> Result<(), Fail> {
+    let mut out = String::new(rt.alloc());
+    for (horizon, want) in SIFTED {
+        out.clear();
+        show_sifted(&mut out, *horizon)?;
+        check(&rt, out.as_str(), want);
+    }
+    for (table, want) in RISING {
+        assert_eq!(rt; rise(rt.alloc(), table)?, *want, "{}", table.len());
+    }
     Ok(())
 }

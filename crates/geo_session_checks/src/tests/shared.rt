@@ -3,7 +3,7 @@ ghost use Rattle.std.specs.Prelude.{◌≡◌, ℕ, [], IfOk};
 ghost use Rattle.geo_history.specs.Keeping.{opened_with};
 ghost use Rattle.geo_history.specs.Stories.{story_in};
 
-use super::served;
+use super::{each, run_by};
 use geo_history::Kept;
 use geo_session::clock::Clock;
 use geo_session::{Counted, Gate, OpenGate, SessionEnd};
@@ -90,8 +90,9 @@ fn talk<L: Ledger, R: Wait + rt::Clock>(
     gate: &Meeting,
     mut backend: Counted<'_, L, Noon>,
 ) -> bool {
-    let (written, outcome) = served(rt, alloc, b"version\r\nquit\r\n", 100, &mut backend, gate);
-    outcome == Ok(SessionEnd::Quit) && written.as_slice() == b"VERSION 1.0.0\r\n".as_slice()
+    let input = b"version\r\nquit\r\n";
+    let told = run_by(rt, alloc, input, each(100), each(100), &mut backend, gate);
+    told.ends(b"VERSION 1.0.0\r\n", Ok(SessionEnd::Quit))
 }
 
 /// Whether two clients are, each by a thread of its own.
@@ -152,11 +153,11 @@ fn counted<L: Ledger, R: Wait + rt::Clock>(
     let (tally, first, mut second) = tallied(alloc)?;
     let mut backend = Counted::new(&station, seat, &Noon, &tally, first);
     let input = b"set a 0 0 2 noreply\r\nhi\r\nnonsense\r\nget a\r\nquit\r\nget a\r\n";
-    let (written, _) = served(rt, alloc, input, 7, &mut backend, &OpenGate);
+    let told = run_by(rt, alloc, input, each(7), each(7), &mut backend, &OpenGate);
     backend.count(Counter::Sessions);
     let requests = tally.read(&mut second, Counter::Requests);
     Ok((
-        written,
+        told.written,
         requests,
         tally.read(&mut second, Counter::Sessions),
     ))

@@ -1,7 +1,10 @@
 //! What clients say and read.
-use super::{Idle, Recorder, bare, served};
+use super::{Idle, Outcome, Ran, Recorder, bare, each, run_by};
 use geo_session::{OpenGate, Session, SessionEnd, SessionFault};
+use std::alloc::Global;
 use std::hash::RandomState;
+use std::rt::Clock;
+use std::sync::Wait;
 use std::sync::atomic::{AtomicU64, Ordering};
 use std::test::Fail;
 
@@ -66,122 +69,187 @@ const CASES: [Case; 10] = [
     },
 ];
 
+/// What a site answers to a text that comes in pieces of so many bytes, and how many records and items it has then.
+fn answered<R: Wait + Clock>(
+    rt: &R,
+    alloc: Global,
+    hasher: RandomState,
+    input: &[u8],
+    size: usize,
+) -> Result<(Ran, usize, usize), Fail> {
+    let mut backend = bare(alloc, hasher)?;
+    let told = run_by(
+        rt,
+        alloc,
+        input,
+        each(size),
+        each(size),
+        &mut backend,
+        &OpenGate,
+    );
+    let records = backend.site().records();
+    Ok((told, records, backend.into_site().items()))
+}
+
 #[test]
 fn writes_the_same_in_any_pieces(rt: HostRuntime) -> Result<(), Fail> {
     for case in &CASES {
         for size in [1, 7, 100_000] {
-            let mut backend = bare(rt.alloc(), RandomState::new(&rt)?)?;
-            let (written, outcome) = served(
-                &rt,
-                rt.alloc(),
-                case.input,
-                size,
-                &mut backend,
-                &OpenGate,
+            let hasher = RandomState::new(&rt)?;
+            let (told, _records, _items) = answered(&rt, rt.alloc(), hasher, case.input, size)?;
+            assert!(rt;
+                told.ends(case.written, Ok(case.end)),
+                "{:?} by {size}",
+                case.input
             );
-            assert_eq!(rt; written.as_slice(), case.written);
-            assert!(rt; outcome == Ok(case.end));
         }
     }
     Ok(())
 }
 
 #[test]
-fn ends_at_a_line_that_is_too_long(rt: HostRuntime) -> Result<(), Fail> {
-    let mut input = Vec::new(rt.alloc());
-    input.extend_from_slice(b"version\r\n")?;
-    for _each in 0..65_537 {
-        input.push(b'x')?;
-    }
-    let text = b"CLIENT_ERROR line too long\r\n".as_slice();
-    let (_, long) = input.as_slice().split_at(9.min(input.len()));
-    let mut backend = Idle { left: 9 };
-    let (written, outcome) = served(&rt, rt.alloc(), long, 100_000, &mut backend, &OpenGate);
-    assert_eq!(rt; written.as_slice(), text);
-    assert!(rt; outcome == Ok(SessionEnd::LineTooLong));
-    let (written, outcome) = served(
-        &rt,
-        rt.alloc(),
-        input.as_slice(),
-        100,
-        &mut backend,
-        &OpenGate,
-    );
-    assert_eq!(rt;
-        written.as_slice(),
-        b"OK\r\nCLIENT_ERROR line too long\r\n".as_slice()
-    );
-    assert!(rt; outcome == Ok(SessionEnd::LineTooLong));
-    Ok(())
-}
-
-#[test]
-fn ends_at_quit_whatever_its_answer(rt: HostRuntime) -> Result<(), Fail> {
-    let mut backend = Idle { left: 9 };
-    let input = b"quit\r\nversion\r\n".as_slice();
-    let (written, outcome) = served(&rt, rt.alloc(), input, 100, &mut backend, &OpenGate);
-    assert_eq!(rt; written.as_slice(), b"OK\r\n".as_slice());
-    assert!(rt; outcome == Ok(SessionEnd::Quit));
-    assert_eq!(rt; backend.left, 8);
-    Ok(())
-}
-
-#[test]
-fn ends_where_the_backend_is_spent(rt: HostRuntime) -> Result<(), Fail> {
-    for size in [1, 100] {
-        let mut backend = Idle { left: 2 };
-        let input = b"version\r\nnonsense\r\nversion\r\nversion\r\nnonsense\r\n".as_slice();
-        let (written, outcome) = served(&rt, rt.alloc(), input, size, &mut backend, &OpenGate);
-        assert_eq!(rt; written.as_slice(), b"OK\r\nERROR\r\nOK\r\n".as_slice());
-        assert!(rt; outcome == Err(SessionFault::Spent));
-    }
-    Ok(())
-}
-
-#[test]
-fn numbers_the_answers_of_the_backend_from_1(rt: HostRuntime) -> Result<(), Fail> {
-    for size in [1, 100] {
-        let gate = Recorder {
-            numbers: AtomicU64::new(0),
-        };
-        let mut backend = Idle { left: 9 };
-        let input =
-            b"version\r\nnonsense\r\nverbosity 1 noreply\r\nversion\r\nquit\r\nversion\r\n".as_slice();
-        let (_, outcome) = served(&rt, rt.alloc(), input, size, &mut backend, &gate);
-        assert!(rt; outcome == Ok(SessionEnd::Quit));
-        assert_eq!(rt; gate.numbers.load(Ordering::SeqCst), 1234);
-    }
-    Ok(())
-}
-
-#[test]
 fn a_bare_site_can_be_looked_at_and_taken_out(rt: HostRuntime) -> Result<(), Fail> {
-    let mut backend = bare(rt.alloc(), RandomState::new(&rt)?)?;
-    let (_, outcome) = served(
-        &rt,
-        rt.alloc(),
-        b"set a 0 0 2\r\nhi\r\n",
-        100,
-        &mut backend,
-        &OpenGate,
-    );
-    assert!(rt; outcome == Ok(SessionEnd::EndOfInput));
-    assert_eq!(rt; backend.site().records(), 1);
-    assert_eq!(rt; backend.into_site().items(), 1);
+    let hasher = RandomState::new(&rt)?;
+    let (told, records, items) = answered(&rt, rt.alloc(), hasher, b"set a 0 0 2\r\nhi\r\n", 100)?;
+    assert!(rt; told.ends(b"STORED\r\n", Ok(SessionEnd::EndOfInput)) && (records, items) == (1, 1));
     Ok(())
 }
 
+/// What a client of a backend that does nothing, and that so many times, is written; how often it may do it then; and the answers
+/// that pass the gate, a decimal digit each.
+#[derive(Drop)]
+struct IdleCase {
+    input: &'static [u8],
+    calls: u64,
+    written: &'static [u8],
+    outcome: Outcome,
+    left: u64,
+    passed: u64,
+}
+
+const IDLE_CASES: [IdleCase; 3] = [
+    // It ends at `quit`, whatever the backend answers.
+    IdleCase {
+        input: b"quit\r\nversion\r\n",
+        calls: 9,
+        written: b"OK\r\n",
+        outcome: Ok(SessionEnd::Quit),
+        left: 8,
+        passed: 1,
+    },
+    // It ends where the backend is spent.
+    IdleCase {
+        input: b"version\r\nnonsense\r\nversion\r\nversion\r\nnonsense\r\n",
+        calls: 2,
+        written: b"OK\r\nERROR\r\nOK\r\n",
+        outcome: Err(SessionFault::Spent),
+        left: 0,
+        passed: 12,
+    },
+    // Answers of the backend are numbered from 1, also those that aren't written.
+    IdleCase {
+        input: b"version\r\nnonsense\r\nverbosity 1 noreply\r\nversion\r\nquit\r\nversion\r\n",
+        calls: 9,
+        written: b"OK\r\nERROR\r\nOK\r\nOK\r\n",
+        outcome: Ok(SessionEnd::Quit),
+        left: 5,
+        passed: 1234,
+    },
+];
+
+/// Whether a case is so where bytes come in pieces of this size.
+fn is_so<R: Wait + Clock>(rt: &R, alloc: Global, case: &IdleCase, size: usize) -> bool {
+    let gate = Recorder {
+        numbers: AtomicU64::new(0),
+    };
+    let mut backend = Idle { left: case.calls };
+    let told = run_by(
+        rt,
+        alloc,
+        case.input,
+        each(size),
+        each(size),
+        &mut backend,
+        &gate,
+    );
+    let passed = gate.numbers.load(Ordering::SeqCst);
+    told.ends(case.written, case.outcome) && (backend.left, passed) == (case.left, case.passed)
+}
+
 #[test]
-fn a_session_can_be_carried_by_hand(rt: HostRuntime) -> Result<(), Fail> {
+fn passes_and_writes_what_the_backend_answers(rt: HostRuntime) {
+    for case in &IDLE_CASES {
+        for size in [1, 100] {
+            assert!(rt;
+                is_so(&rt, rt.alloc(), case, size),
+                "{:?} by {size}",
+                case.input
+            );
+        }
+    }
+}
+
+/// What is written behind a text and 65,537 bytes of one line.
+fn written_behind<R: Wait + Clock>(
+    rt: &R,
+    alloc: Global,
+    front: &[u8],
+    size: usize,
+) -> Result<Ran, Fail> {
+    let mut input = Vec::from_slice(alloc, front)?;
+    input.extend_from_slice(vec![in alloc; b'x'; 65_537]?.as_slice())?;
     let mut backend = Idle { left: 9 };
-    let mut session = Session::new(rt.alloc());
-    let input = b"version\r\nquit\r\nversion\r\n".as_slice();
-    let end = session.take(&rt, rt.alloc(), &mut backend, &OpenGate, input);
-    assert!(rt; end == Ok(Some(SessionEnd::Quit)));
-    assert!(rt; !session.goes_on());
-    assert_eq!(rt; session.owed(), b"OK\r\nOK\r\n".as_slice());
+    Ok(run_by(
+        rt,
+        alloc,
+        input.as_slice(),
+        each(size),
+        each(size),
+        &mut backend,
+        &OpenGate,
+    ))
+}
+
+#[test]
+fn ends_at_a_line_that_is_too_long(rt: HostRuntime) -> Result<(), Fail> {
+    let alone = written_behind(&rt, rt.alloc(), b"", 100_000)?;
+    assert!(rt;
+        alone.ends(
+            b"CLIENT_ERROR line too long\r\n",
+            Ok(SessionEnd::LineTooLong)
+        )
+    );
+    let behind = written_behind(&rt, rt.alloc(), b"version\r\n", 100)?;
+    assert!(rt;
+        behind.ends(
+            b"OK\r\nCLIENT_ERROR line too long\r\n",
+            Ok(SessionEnd::LineTooLong)
+        )
+    );
+    Ok(())
+}
+
+/// Whether a session takes a piece by hand, owes these bytes, ends at `quit`, and owes nothing once they are sent.
+fn is_carried<R: Wait + Clock>(rt: &R, alloc: Global, session: &mut Session, owed: &[u8]) -> bool {
+    if !session.goes_on() {
+        return false;
+    }
+    let mut backend = Idle { left: 9 };
+    let end = session.take(
+        rt,
+        alloc,
+        &mut backend,
+        &OpenGate,
+        b"version\r\nquit\r\nversion\r\n",
+    );
+    let is_owed = session.owed() == owed;
     let all = session.owed().len();
     session.sent(all);
-    assert!(rt; session.owed().is_empty());
-    Ok(())
+    end == Ok(Some(SessionEnd::Quit)) && !session.goes_on() && is_owed && session.owed().is_empty()
+}
+
+#[test]
+fn a_session_can_be_carried_by_hand(rt: HostRuntime) {
+    let mut session = Session::new(rt.alloc());
+    assert!(rt; is_carried(&rt, rt.alloc(), &mut session, b"OK\r\nOK\r\n"));
 }

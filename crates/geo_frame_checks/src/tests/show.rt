@@ -1,0 +1,71 @@
+//! Parcels as texts.
+use geo_delta::Parcel;
+use geo_stamp::{Stamp, Vector};
+use geo_versions::{Body, Digest, Key, Rec};
+use std::alloc::AllocError;
+
+/// A number and what stands behind it.
+pub fn push_number(out: &mut Vec<u8>, number: u64, behind: &[u8]) -> Result<(), AllocError> {
+    let alloc = *out.allocator();
+    out.extend_from_slice(format!(in alloc; "{number}")?.as_bytes())?;
+    out.extend_from_slice(behind)
+}
+
+fn push_stamp(out: &mut Vec<u8>, stamp: &Stamp) -> Result<(), AllocError> {
+    push_number(out, stamp.time(), b".")?;
+    push_number(out, stamp.site() as u64, b" ")
+}
+
+/// Whether a value is that of no bytes, its flags and its length.
+fn push_body(out: &mut Vec<u8>, body: &Body) -> Result<(), AllocError> {
+    let Body::Value {
+        digest,
+        flags,
+        length,
+    } = body
+    else {
+        return out.extend_from_slice(b"gone ");
+    };
+    let empty = *digest == Digest::of(b"");
+    out.extend_from_slice(if empty { b"empty " } else { b"some " })?;
+    push_number(out, *flags as u64, b" ")?;
+    push_number(out, length.get() as u64, b" ")
+}
+
+fn push_record(out: &mut Vec<u8>, key: &Key, rec: &Rec) -> Result<(), AllocError> {
+    out.extend_from_slice(b" ")?;
+    out.extend_from_slice(key.bytes())?;
+    out.extend_from_slice(b" ")?;
+    if let Some((stamp, body)) = rec.left.get() {
+        push_stamp(out, stamp)?;
+        push_body(out, body)?;
+    }
+    out.extend_from_slice(b"until ")?;
+    if let Some((stamp, expiry)) = rec.right.get() {
+        push_stamp(out, stamp)?;
+        push_number(out, *expiry, b"")?;
+    }
+    out.extend_from_slice(b";")
+}
+
+fn push_clocks(out: &mut Vec<u8>, vector: &Vector, behind: &[u8]) -> Result<(), AllocError> {
+    push_number(out, vector.entry(1), b" ")?;
+    push_number(out, vector.entry(2), behind)
+}
+
+/// A parcel of two sites: from which to which, what the one knows and the other is taken to know, a floor, and the records.
+pub fn push_parcel(out: &mut Vec<u8>, parcel: &Parcel) -> Result<(), AllocError> {
+    push_number(out, parcel.from as u64, b" to ")?;
+    push_number(out, parcel.to as u64, b", ")?;
+    push_clocks(out, &parcel.base, b" up to ")?;
+    push_clocks(out, &parcel.upto, b"")?;
+    out.extend_from_slice(if parcel.floor.is_some() {
+        b" with a floor:"
+    } else {
+        b":"
+    })?;
+    for (key, rec) in parcel.records.as_slice() {
+        push_record(out, key, rec)?;
+    }
+    Ok(())
+}

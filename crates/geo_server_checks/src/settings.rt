@@ -1,0 +1,254 @@
+//! What no contract of configurations says: which fault comes, in which words, and that the values are the document's.
+use geo_config::{Config, config};
+use std::alloc::{AllocError, Global};
+use std::test::Fail;
+
+/// What is told of a text: the values of its configuration, or its fault as the program prints it.
+fn told(alloc: Global, text: &str) -> Result<String, AllocError> {
+    match config(alloc, text) {
+        Ok(config) => shown(alloc, &config),
+        Err(fault) => format!(in alloc; "{fault}"),
+    }
+}
+
+/// The values in the order in which the format lists them, each site behind a semicolon.
+fn shown(alloc: Global, config: &Config) -> Result<String, AllocError> {
+    let Config {
+        pages,
+        max_records,
+        reap_after,
+        link,
+        every,
+        sessions,
+        sites,
+    } = config;
+    let mut text = format!(in alloc;
+        "{pages} {max_records} {reap_after} {link:?} {every} {sessions}"
+    )?;
+    for site in sites.iter() {
+        let peer = site.peer.as_ref().map_or("-", String::as_str);
+        let line = format!(in alloc; "; {} {} {} {peer}", site.number, site.client, site.workers)?;
+        text.push_str(line.as_str())?;
+    }
+    Ok(text)
+}
+
+/// A document with 5 sessions and one site, with more lines at its top and for its site.
+fn document(alloc: Global, top: &str, site: &str) -> Result<String, AllocError> {
+    format!(in alloc; "sessions = 5\n{top}\n[[site]]\nnumber = 1\nclient = \"a\"\n{site}\n")
+}
+
+/// A document with so many sites, the last of them first.
+fn with_sites(alloc: Global, count: u8) -> Result<String, AllocError> {
+    let mut text = String::from_str(alloc, "sessions = 5\n")?;
+    for number in (1..=count).rev() {
+        let site = format!(in alloc; "[[site]]\nnumber = {number}\nclient = \"a\"\n")?;
+        text.push_str(site.as_str())?;
+    }
+    Ok(text)
+}
+
+/// Keys one by one: lines at the top, lines for the site, what is told.
+const KEYS: [(&str, &str, &str); 56] = [
+    ("", "", "64 100000 60 Memory 100 5; 1 a 4 -"),
+    ("pages = 14", "", "out of range pages"),
+    ("pages = 15", "", "15 100000 60 Memory 100 5; 1 a 4 -"),
+    ("pages = 65536", "", "65536 100000 60 Memory 100 5; 1 a 4 -"),
+    ("pages = 65537", "", "out of range pages"),
+    ("pages = -15", "", "out of range pages"),
+    ("pages = 9223372036854775807", "", "out of range pages"),
+    ("pages = 64.0", "", "wrong type pages"),
+    ("pages.of = 64", "", "wrong type pages"),
+    ("pages = 64\npages = 64", "", "not toml"),
+    ("pages", "", "not toml"),
+    ("max_records = 0", "", "out of range max_records"),
+    ("max_records = 1", "", "64 1 60 Memory 100 5; 1 a 4 -"),
+    (
+        "max_records = 1000000",
+        "",
+        "64 1000000 60 Memory 100 5; 1 a 4 -",
+    ),
+    ("max_records = 1000001", "", "out of range max_records"),
+    ("max_records = true", "", "wrong type max_records"),
+    ("reap_after = -1", "", "out of range reap_after"),
+    ("reap_after = 0", "", "64 100000 0 Memory 100 5; 1 a 4 -"),
+    (
+        "reap_after = 2147483647",
+        "",
+        "64 100000 2147483647 Memory 100 5; 1 a 4 -",
+    ),
+    ("reap_after = 2147483648", "", "out of range reap_after"),
+    ("reap_after = [60]", "", "wrong type reap_after"),
+    (
+        "link = \"memory\" # the default",
+        "",
+        "64 100000 60 Memory 100 5; 1 a 4 -",
+    ),
+    (
+        "link = \"tcp\"",
+        "peer = \"b\"",
+        "64 100000 60 Tcp 100 5; 1 a 4 b",
+    ),
+    ("link = \"udp\"", "", "out of range link"),
+    ("link = \"TCP\"", "peer = \"b\"", "out of range link"),
+    ("link = 1", "", "wrong type link"),
+    ("every = 0", "", "out of range every"),
+    ("every = 1", "", "64 100000 60 Memory 1 5; 1 a 4 -"),
+    ("every = 60000", "", "64 100000 60 Memory 60000 5; 1 a 4 -"),
+    ("every = 60001", "", "out of range every"),
+    ("every = 2026-01-01", "", "wrong type every"),
+    ("site = []", "", "not toml"),
+    ("", "number = 1", "not toml"),
+    ("", "workers = 0", "out of range workers"),
+    ("", "workers = 1", "64 100000 60 Memory 100 5; 1 a 1 -"),
+    ("", "workers = 128", "64 100000 60 Memory 100 5; 1 a 128 -"),
+    ("", "workers = 129", "out of range workers"),
+    ("", "workers = \"4\"", "wrong type workers"),
+    ("", "peer = \"b\"", "unknown peer"),
+    ("", "peer = 1", "unknown peer"),
+    ("link = \"tcp\"", "", "missing peer"),
+    ("link = \"tcp\"", "peer = 1", "wrong type peer"),
+    ("page = 1", "", "unknown page"),
+    ("number = 1", "", "unknown number"),
+    ("", "pages = 64", "unknown pages"),
+    ("\"a b\" = 1", "", "unknown a b"),
+    // Two faults: of two classes the first class, of one class the first key.
+    ("pages = 14", "workers = \"4\"", "wrong type workers"),
+    ("link = \"tcp\"\npages = \"64\"", "", "missing peer"),
+    ("link = 1\npages = \"64\"", "", "wrong type pages"),
+    ("every = 0\nlink = \"udp\"", "", "out of range link"),
+    ("every = 0", "workers = 0", "out of range every"),
+    ("page = 1", "workers = 0", "out of range workers"),
+    ("page = 1", "worker = 1", "unknown page"),
+    ("zone = 1\npage = 1", "", "unknown page"),
+    ("link = \"udp\"", "peer = 1", "out of range link"),
+    ("link = 1", "client.of = 1", "not toml"),
+];
+
+/// What is told of the document with such lines.
+fn told_of_lines(alloc: Global, top: &str, site: &str) -> Result<String, AllocError> {
+    let text = document(alloc, top, site)?;
+    told(alloc, text.as_str())
+}
+
+/// Whole documents, and what is told of them.
+const DOCUMENTS: [(&str, &str); 30] = [
+    ("", "missing sessions"),
+    ("# nothing\n", "missing sessions"),
+    ("sessions = 5\n", "missing site"),
+    ("pages = \"64\"\n[[site]]\n", "missing sessions"),
+    ("sessions = 5\nsite = []\n", "out of range site"),
+    ("sessions = 5\nsite = 1\n", "wrong type site"),
+    ("sessions = 5\nsite = [1]\n", "wrong type site"),
+    (
+        "sessions = 5\n[site]\nnumber = 1\nclient = \"a\"\n",
+        "wrong type site",
+    ),
+    ("sessions = 5\nsite = [1, {number = 1}]\n", "missing client"),
+    ("sessions = 0\nsite = []\n", "out of range sessions"),
+    (
+        "sessions = 1\nsite = [{number = 1, client = \"a\"}]\n",
+        "64 100000 60 Memory 100 1; 1 a 4 -",
+    ),
+    (
+        "sessions = 1048576\nsite = [{number = 1, client = \"a\"}]\n",
+        "64 100000 60 Memory 100 1048576; 1 a 4 -",
+    ),
+    (
+        "sessions = 1048577\nsite = [{number = 1, client = \"a\"}]\n",
+        "out of range sessions",
+    ),
+    (
+        "sessions = \"5\"\nsite = [{number = 1, client = \"a\"}]\n",
+        "wrong type sessions",
+    ),
+    ("sessions = \"5\"\nsite = 1\n", "wrong type sessions"),
+    ("sessions = 5\n[[site]]\n", "missing number"),
+    ("sessions = 5\n[[site]]\nnumber = 1\n", "missing client"),
+    (
+        "sessions = 5\n[[site]]\nnumber = 1\n[[site]]\nclient = \"a\"\n",
+        "missing client",
+    ),
+    (
+        "sessions = 5\n[[site]]\nnumber = \"1\"\nclient = 1\n",
+        "wrong type number",
+    ),
+    (
+        "sessions = 5\n[[site]]\nnumber = 1\nclient = 1\n",
+        "wrong type client",
+    ),
+    (
+        "sessions = 5\n[[site]]\nnumber = 0\nclient = \"a\"\n",
+        "out of range number",
+    ),
+    (
+        "sessions = 5\n[[site]]\nnumber = 17\nclient = \"a\"\n",
+        "out of range number",
+    ),
+    (
+        "sessions = 5\n[[site]]\nnumber = 2\nclient = \"a\"\n",
+        "site numbers",
+    ),
+    (
+        "sessions = 5\nx = 1\n[[site]]\nnumber = 2\nclient = \"a\"\n",
+        "unknown x",
+    ),
+    (
+        "sessions = 5\nsite = [{number = 1, client = \"a\"}, {number = 1, client = \"b\"}]\n",
+        "site numbers",
+    ),
+    (
+        "sessions = 5\nsite = [{number = 3, client = \"a\"}, {number = 1, client = \"b\"}]\n",
+        "site numbers",
+    ),
+    (
+        "sessions = 5\nsite = [{number = 2, client = \"a\"}, {number = 1, client = \"b\"}]\n",
+        "64 100000 60 Memory 100 5; 1 b 4 -; 2 a 4 -",
+    ),
+    (
+        "sessions = 5\nsite = [{number = 1, client = \"a\", workers = 0}, {number = 0, client = \"b\"}]\n",
+        "out of range workers",
+    ),
+    (
+        "sessions = 5\nsite = [{number = 1, client = \"a\"}, {number = 1, client = \"b\", z = 1, y = 1}]\n",
+        "unknown y",
+    ),
+    (
+        "sessions = 5\nlink = \"tcp\"\nsite = [{number = 1, peer = \"b\"}, {client = \"a\"}]\n",
+        "missing client",
+    ),
+];
+
+/// All of sixteen sites, which stand in the document from the last on.
+const SIXTEEN: &str =
+    "64 100000 60 Memory 100 5; 1 a 4 -; 2 a 4 -; 3 a 4 -; 4 a 4 -; 5 a 4 -; 6 a 4 -; 7 a 4 -; 8 a 4 -; \
+    9 a 4 -; 10 a 4 -; 11 a 4 -; 12 a 4 -; 13 a 4 -; 14 a 4 -; 15 a 4 -; 16 a 4 -";
+
+/// What is told of the document of so many sites.
+fn told_of_sites(alloc: Global, count: u8) -> Result<String, AllocError> {
+    let text = with_sites(alloc, count)?;
+    told(alloc, text.as_str())
+}
+
+#[test]
+fn tells_of_each_document(rt: HostRuntime) -> Result<(), Fail> {
+    let alloc = rt.alloc();
+    for (top, site, want) in KEYS {
+        assert_eq!(rt;
+            told_of_lines(alloc, top, site)?.as_str(),
+            want,
+            "{top} / {site}"
+        );
+    }
+    for (text, want) in DOCUMENTS {
+        assert_eq!(rt; told(alloc, text)?.as_str(), want, "{text}");
+    }
+    for (count, want) in [(16, SIXTEEN), (17, "out of range site")] {
+        assert_eq!(rt;
+            told_of_sites(alloc, count)?.as_str(),
+            want,
+            "{count} sites"
+        );
+    }
+    Ok(())
+}

@@ -1,0 +1,152 @@
+//! What is done with values, and what is answered, worked out by hand.
+
+/// What is done with values.
+#[derive(Clone, Copy)]
+pub enum Step {
+    /// A value of the largest class is stored under each of these keys. Each shows the key that was evicted for it, or a dash.
+    Fill(&'static str),
+    /// So many times one byte are stored under a key, which shows the same.
+    Store(u8, u8, usize),
+    /// What is held under a key is got by the digest of so many times one byte: whether it is these bytes.
+    Get(u8, u8, usize),
+    /// How many keys are held.
+    Len,
+    /// Whether a key is held.
+    Holds(u8),
+    /// A key is dropped: whether it was held.
+    DropKey(u8),
+    /// A key is hit.
+    Hit(u8),
+    /// The largest class is juggled: whether an item moved.
+    Juggle,
+    /// All keys of the largest class are evicted, which shows them and a dash at the end.
+    Evict,
+    /// These keys are dropped by a test of keys.
+    RetainOtherKeys(&'static str),
+    /// Bytes are dropped by a test of their digest: so many times one byte.
+    RetainOtherBytes(u8, usize),
+    /// All that have not this length are dropped.
+    RetainLength(usize),
+}
+
+/// How many pages there are, what is done, and all answers.
+pub type ValuesRow = (usize, &'static [Step], &'static str);
+
+/// Nothing is held at first.
+const NEW: &[Step] = &[Step::Len];
+
+/// A value is got by its digest.
+const GOT: &[Step] = &[
+    Step::Store(b'k', 7, 3),
+    Step::Get(b'k', 7, 3),
+    Step::Get(b'k', 7, 2),
+];
+
+/// A whole page is got.
+const WHOLE: &[Step] = &[
+    Step::Store(b'k', 7, 1_048_576),
+    Step::Get(b'k', 7, 1_048_576),
+];
+
+/// A dropped key is not held.
+const DROPPED: &[Step] = &[
+    Step::Store(b'k', 7, 3),
+    Step::Len,
+    Step::Holds(b'k'),
+    Step::DropKey(b'k'),
+    Step::DropKey(b'k'),
+    Step::Len,
+    Step::Holds(b'k'),
+];
+
+/// A key that is stored again changes its class.
+const AGAIN: &[Step] = &[
+    Step::Fill("kk"),
+    Step::Store(b'k', 9, 2),
+    Step::Get(b'k', 9, 2),
+    Step::Len,
+    Step::Evict,
+];
+
+/// A full class takes a spare page, and then evicts.
+const FULL: &[Step] = &[
+    Step::Fill("ab"),
+    Step::Fill("c"),
+    Step::Store(b'd', 9, 1),
+    Step::Len,
+    Step::Holds(b'a'),
+];
+
+/// A victim is another key than the one that is stored.
+const ANOTHER: &[Step] = &[
+    Step::Fill("a"),
+    Step::Fill("a"),
+    Step::Store(b'b', 9, 1),
+    Step::Fill("b"),
+    Step::Len,
+    Step::Holds(b'b'),
+];
+
+/// A missing key is dropped and hit without effect.
+const MISSING: &[Step] = &[
+    Step::Fill("abc"),
+    Step::DropKey(b'b'),
+    Step::DropKey(b'b'),
+    Step::Hit(b'b'),
+    Step::Hit(b'b'),
+    Step::Juggle,
+    Step::Juggle,
+    Step::Len,
+    Step::Evict,
+];
+
+/// An item that was hit twice outlives one that was not. Of three items HOT may have none: its tail, which is active, goes to WARM, and the
+/// next to COLD.
+const HIT: &[Step] = &[
+    Step::Juggle,
+    Step::Fill("abc"),
+    Step::Hit(b'a'),
+    Step::Hit(b'a'),
+    Step::Juggle,
+    Step::Juggle,
+    Step::Evict,
+];
+
+/// A test sees key, digest and length. Of four, three differ from `k` in their key alone, in their bytes and in their length.
+const TESTED: &[Step] = &[
+    Step::Store(b'a', 7, 3),
+    Step::Store(b'b', 9, 3),
+    Step::Store(b'c', 7, 4),
+    Step::Store(b'k', 7, 3),
+    Step::RetainOtherKeys("a"),
+    Step::Len,
+    Step::Holds(b'a'),
+    Step::RetainOtherBytes(9, 3),
+    Step::Len,
+    Step::Holds(b'b'),
+    Step::RetainLength(3),
+    Step::Len,
+    Step::Holds(b'k'),
+];
+
+/// What is retained keeps its order, and frees the rest.
+const RETAINED: &[Step] = &[
+    Step::Fill("abcd"),
+    Step::RetainOtherKeys("ac"),
+    Step::Fill("ef"),
+    Step::Evict,
+];
+
+pub const ROWS: &[ValuesRow] = &[
+    (15, NEW, "0"),
+    (15, GOT, "- got none"),
+    (15, WHOLE, "- got"),
+    (15, DROPPED, "-1 held dropped none0 not"),
+    (15, AGAIN, "--- got1-"),
+    (16, FULL, "--a-3 not"),
+    (15, ANOTHER, "---a1 held"),
+    (17, MISSING, "--- dropped none++2ac-"),
+    (17, HIT, ".---++bac-"),
+    (15, TESTED, "----3 not2 not1 held"),
+    (18, RETAINED, "------bdef-"),
+];
