@@ -6,3 +6,4 @@ pub mod Agreement
 pub mod Sites
 pub mod Changes
 pub mod Noting
+pub mod States

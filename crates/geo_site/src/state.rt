@@ -3,10 +3,11 @@ ghost use Rattle.std.specs.Prelude.{◌≡◌, ◌≤◌, [], None};
 ghost use Rattle.geo_stamp.specs.Acks.{none_heard};
 ghost use Rattle.geo_stamp.specs.Vectors.{zeros};
 
+use crate::site::Site;
 use geo_lattice::Items;
 use geo_stamp::{Acks, Stamp, Vector};
 use geo_versions::{Digest, Key, Rec};
-use std::alloc::Global;
+use std::alloc::{AllocError, Global};
 
 /// All that a site knows and counts, and of the bytes that it holds their SHA-256 and length. In which order the bytes go, where
 /// there are too many, it does not say.
@@ -44,5 +45,29 @@ impl SiteState {
             misses: 0,
             evictions: 0,
         }
+    }
+}
+
+impl Site {
+    ghost use Rattle.std.specs.Prelude.{IfOk};
+    ghost use Rattle.geo_site.specs.States.{IsStateOf};
+
+    /// What it is at this moment. Keys and records are copied once; no value is, and nothing is hashed.
+    pub fn state(&self, alloc: Global) -> Result<SiteState, AllocError>
+        ensures { IfOk result (IsStateOf self.now) }
+    {
+        let records = self.versions.copies(alloc)?;
+        let held = self.values.held(alloc)?;
+        Ok(SiteState {
+            floor: self.versions.floor(),
+            records: Items::of(records),
+            vector: self.vector.copied(),
+            rows: self.heard.copied(),
+            held: Items::of(held),
+            waiting: self.waiting,
+            hits: self.hits,
+            misses: self.misses,
+            evictions: self.evictions,
+        })
     }
 }

@@ -53,6 +53,17 @@ impl Acks {
         }
     }
 
+    /// An equal one.
+    pub fn copied(&self) -> Acks
+        ensures { result ≡ self.now }
+    {
+        let Acks { mut rows } = Acks::new(0);
+        for index in 0..16 {
+            rows[index] = self.rows[index].copied();
+        }
+        Acks { rows }
+    }
+
     /// What was heard of a site, 1 to 16.
     pub fn row(&self, site: u8) -> &Vector
         requires first { 1 ≤ site }

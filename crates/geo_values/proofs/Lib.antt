@@ -17,3 +17,4 @@ pub mod Staying
 pub mod Retained
 pub mod Renewed
 pub mod Standing
+pub mod Digests

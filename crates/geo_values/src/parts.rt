@@ -1,5 +1,5 @@
 //! What values are made of. A call may leave these parts for a while without the links that a whole `Values` has.
-ghost use Rattle.std.specs.Prelude.{◌≡◌, ◌+◌, ◌<◌, ◌≤◌, ℕ, cond, List, Option, Some, None, IsTrue, IsSome, is_some, IfSome, IfOk, OnOk, OnErr, length, slice_get, slice_index_or, slice_set, swap_remove};
+ghost use Rattle.std.specs.Prelude.{◌≡◌, ◌+◌, ◌<◌, ◌≤◌, ℕ, cond, List, Option, Some, None, IsTrue, IsSome, is_some, IfSome, IfOk, OnOk, OnErr, length, slice_get, slice_index_or, slice_set, swap_remove, option_map};
 ghost use Rattle.indexmap.specs.IndexMap.{get, spare};
 ghost use Rattle.sha2.specs.Sha256.{sha256};
 ghost use Rattle.geo_versions.specs.Keys.{same_key};
@@ -8,6 +8,7 @@ ghost use Rattle.geo_lru.specs.Lists.{left, places, juggled, leaves_list, victim
 ghost use Rattle.geo_values.specs.Stock.{no_items};
 
 use crate::blob::Blob;
+use geo_lattice::Twin;
 use geo_lru::Segments;
 use geo_slabs::{Chunk, Slabs};
 use geo_versions::{Digest, Key};
@@ -66,7 +67,9 @@ fn rewrite(items: &mut IndexMap<Key, Item, RandomState>, slabs: &mut Slabs, key:
 }
 
 impl Parts {
+    ghost use Rattle.geo_versions.specs.Maps.{Rising};
     ghost use Rattle.geo_slabs.specs.Storage.{IsFull, IsClassOf};
+    ghost use Rattle.geo_values.specs.Held.{digest_of, by_key, digest_at};
     ghost use Rattle.geo_values.specs.Stock.{Answers, IsRetained};
     ghost use Rattle.geo_values.specs.Links.{IsLinked, links_in, stock_of};
     ghost use Rattle.geo_values.specs.Steps.{SameLinks, MayAnswer, Hits, RenewsIf, IsNotHot, moved_in, taken_out, CanGo, CanGoIfAny, CanEvictIfAny, HasVictim, Evicts, TakesOut, admitted, with_item, PutsWithRoom};
@@ -117,6 +120,23 @@ impl Parts {
         };
         let length = self.slabs.bytes(&item.chunk).len();
         keep(key, &item.digest, length)
+    }
+
+    /// The SHA-256 and the length of each item's bytes, by rising key.
+    pub(crate) fn held(&self, alloc: Global) -> Result<Vec<(Key, Digest, u32)>, AllocError>
+        requires linked { IsLinked (links_in self.now) }
+        ensures rising { IfOk result (λ all. Rising (by_key all.items)) }
+        ensures held { IfOk result (λ all. (q : List ℕ) → digest_at all.items q ≡ option_map digest_of ((stock_of (links_in self.now)).held q)) }
+    {
+        let mut all = Vec::with_capacity(alloc, self.items.len())?;
+        for index in 0..self.items.len() {
+            if let Some((key, item)) = self.items.get_index(index) {
+                let length = self.slabs.bytes(&item.chunk).len() as u32;
+                all.push((key.twin(alloc)?, item.digest, length))?;
+            }
+        }
+        all.sort_by(|one, other| one.0.cmp(&other.0))?;
+        Ok(all)
     }
 
     /// Takes out each item that a test does not pass.

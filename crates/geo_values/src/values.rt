@@ -1,5 +1,5 @@
 //! Values under keys.
-ghost use Rattle.std.specs.Prelude.{◌≡◌, ◌+◌, ◌<◌, ◌≤◌, ℕ, cond, List, Option, Some, None, IsTrue, IsSome, is_some, IfSome, IfOk, OnOk, OnErr, length, replicate, option_copied};
+ghost use Rattle.std.specs.Prelude.{◌≡◌, ◌+◌, ◌<◌, ◌≤◌, ℕ, cond, List, Option, Some, None, IsTrue, IsSome, is_some, IfSome, IfOk, OnOk, OnErr, length, replicate, option_copied, option_map};
 ghost use Rattle.geo_values.specs.Stock.{no_items};
 ghost use Rattle.geo_slabs.specs.Storage.{class_count};
 
@@ -49,11 +49,12 @@ impl Values {
     ghost use Rattle.std.specs.List.{IsDistinct, list_any};
     ghost use Rattle.std.specs.Option.{unwrap_or};
     ghost use Rattle.geo_versions.specs.Keys.{same_key};
+    ghost use Rattle.geo_versions.specs.Maps.{Rising};
     ghost use Rattle.geo_lru.specs.Rules.{victim_of, juggled_by, leaves_list};
     ghost use Rattle.geo_slabs.specs.Chunks.{page_bytes};
     ghost use Rattle.geo_values.specs.Stock.{first_stock, Same, IsHeldIn, IsListed, IsNotInHot, IsStored, IsRetained, Answers, dropped, hit_at, evicted_from, juggled_in, with_digest};
     ghost use Rattle.geo_slabs.specs.Storage.{IsUnused, IsClassOf};
-    ghost use Rattle.geo_values.specs.Held.{stock_in, keys_in, count_in};
+    ghost use Rattle.geo_values.specs.Held.{stock_in, keys_in, count_in, digest_of, by_key, digest_at};
 
     /// Empty values, which take all pages of slabs that nothing was put into.
     pub fn new(alloc: Global, hasher: RandomState, slabs: Slabs) -> Result<Values, AllocError>
@@ -97,6 +98,14 @@ impl Values {
             return None;
         }
         Some(self.parts.slabs.bytes(&item.chunk))
+    }
+
+    /// The SHA-256 and the length in bytes of what is held of each key, by rising key. Nothing is hashed.
+    pub fn held(&self, alloc: Global) -> Result<Vec<(Key, Digest, u32)>, AllocError>
+        ensures rising { IfOk result (λ all. Rising (by_key all.items)) }
+        ensures held { IfOk result (λ all. (q : List ℕ) → digest_at all.items q ≡ option_map digest_of ((stock_in self.now).held q)) }
+    {
+        self.parts.held(alloc)
     }
 
     /// Notes a hit on a key. Where it is not held, nothing changes. It takes no memory.

@@ -78,3 +78,12 @@ there_has_register es filled q = sym (is_some-lookup (same_key q) es) ∙ by (lo
     by : (o : Option Rec) → lookup (same_key q) es ≡ o → is_some o ≡ has_register (meaning_or (None, None) rec_means o)
     by None found = refl
     by (Some r) found = sym (register_there r.left.register r.right.register (filled q r found))
+
+-- where all records are listed, what is at a key is what is listed
+whole_one : (o : Option Rec) → option_and_then (λ r. Some r) o ≡ o
+whole_one None = refl
+whole_one (Some r) = refl
+
+pub listed_whole : (es : List (List ℕ × Rec)) (o : List ℕ → Option Rec) → IsDistinct same_key (keys_of es) → ((q : List ℕ) → lookup (same_key q) es ≡ option_and_then (λ r. Some r) (o q))
+    → (q : List ℕ) → listed_at es q ≡ meaning_or (None, None) rec_means (o q)
+listed_whole es o unique shown q = listed_unique es unique q ∙ ap (meaning_or (None, None) rec_means) (shown q ∙ whole_one (o q))

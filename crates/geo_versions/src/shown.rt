@@ -1,5 +1,5 @@
 //! What is listed of records, and what is sought among them.
-ghost use Rattle.std.specs.Prelude.{◌≡◌, Bool};
+ghost use Rattle.std.specs.Prelude.{◌≡◌, Bool, Some};
 ghost use Rattle.geo_versions.specs.Operations.{Register, version_in};
 ghost use Rattle.geo_versions.specs.Records.{rec_means, rec_since, is_unknown, has_ended};
 
@@ -44,6 +44,20 @@ impl Show<Rec> for UnknownTo {
         } else {
             None
         }
+    }
+}
+
+/// All records.
+#[derive(Clone, Copy)]
+pub(crate) struct Whole;
+
+impl Show<Rec> for Whole {
+    type Item = Rec;
+
+    ghost shown = { λ _ r. Some r };
+
+    fn show(&self, value: &Rec) -> Option<Rec> {
+        Some(copied(value))
     }
 }
 

@@ -6,7 +6,7 @@ use crate::body::{Body, Rec};
 use crate::floor::{AboveFloor, counts, later};
 use crate::key::Key;
 use crate::removal::Remaining;
-use crate::shown::{Ended, Shown, UnknownTo, copied};
+use crate::shown::{Ended, Shown, UnknownTo, Whole, copied};
 use crate::version::{Version, shown_version};
 use geo_lattice::{Bottom, Change, Lattice, Lww, MapOf, Pair};
 use geo_stamp::{Stamp, Vector};
@@ -211,6 +211,15 @@ impl Versions {
             base: base.copied(),
         };
         let all = self.records.listed(alloc, &unknown)?;
+        Ok(all)
+    }
+
+    /// Copies of all records, by rising key.
+    pub fn copies(&self, alloc: Global) -> Result<Vec<(Key, Rec)>, AllocError>
+        ensures rising { IfOk result (λ all. Rising all.items) }
+        ensures records { IfOk result (λ all. (q : List ℕ) → listed_at all.items q ≡ record_in self.now q) }
+    {
+        let all = self.records.listed(alloc, &Whole)?;
         Ok(all)
     }
 
