@@ -1,6 +1,8 @@
 -- One more step keeps what a site with its history is, and so does each call.
-use Rattle.std.proofs.Common.{◌≡◌, ◌≢◌, ◌⊎◌, inl, inr, ℕ, zero, suc, ◌+◌, ◌<◌, ◌≤◌, ◌==◌, ◌&&◌, Bool, true, false, cond, List, [], ◌∷◌, ◌++◌, length, Option, None, Some, Ok, Err, refl, ap, sym, ◌∙◌, subst, arith, slice_index_or, slice_set, replicate, length-append, append_assoc, if◌then◌else◌}
+use Rattle.std.proofs.Common.{◌≡◌, ◌≢◌, ◌⊎◌, inl, inr, ℕ, zero, suc, ◌+◌, ◌<◌, ◌≤◌, ◌==◌, ◌&&◌, Bool, true, false, cond, List, [], ◌∷◌, ◌++◌, length, Option, None, Some, Ok, Err, refl, ap, sym, ◌∙◌, subst, arith, slice_index_or, slice_set, replicate, sum_by, length-append, append_assoc, if◌then◌else◌}
 use Rattle.std.proofs.lemmas.List.{append-nil, get_or-replicate, get_or-set_same, get_or-set_other, length-set, length-replicate}
+use Rattle.std.proofs.lemmas.List.Folds.{sum_by-replicate}
+use Rattle.std.proofs.lemmas.List.Sums.{sum_by-set}
 use Rattle.std.proofs.lemmas.Bool.Decides.{nat_tests}
 use Rattle.geo_versions.specs.Maps.{listed_at}
 use Rattle.geo_stamp.specs.Vectors.{zeros}
@@ -28,7 +30,7 @@ use Rattle.geo_history.specs.declared.step.Answer.TheVariants.{Ticked, Replied}
 use Rattle.geo_history.specs.declared.step.Step.{Step}
 use Rattle.geo_history.specs.Standings.{Who, who_in, Standing, standing_in, nothing_yet, Describes}
 use Rattle.geo_history.specs.Replays.{StepsTo, Replays, steps_of, is_numbered}
-use Rattle.geo_history.specs.Keeping.{Story, most_steps, most_seats, opened_with, made_in, made_by, IsCounted, Keeps, IsKept, step_with, step_of, GoesOn, is_flush_due, flush_count, flush_steps, number_after, FlushesAlone, DoesNothing, ActsFor}
+use Rattle.geo_history.specs.Keeping.{Story, most_steps, most_seats, opened_with, opened_total, made_in, made_by, IsCounted, Keeps, IsKept, step_with, step_of, GoesOn, is_flush_due, flush_count, flush_steps, number_after, FlushesAlone, DoesNothing, ActsFor}
 use Rattle.geo_history.proofs.Issuing.{stands_same, undue_stands}
 use Rattle.geo_history.proofs.Leading.{flush_leads, command_leads}
 
@@ -90,6 +92,10 @@ module _ (opening : Opening) (steps : List Step) (seat : ℕ) (event : Event) (a
     counted = λ k under. by_seat (λ k. k < most_seats → slice_index_or (slice_set counts seat number) k 0 ≡ made_in opening (steps ++ s ∷ []) k)
         (λ under. get_or-set_same counts seat number 0 (subst (λ m. seat < m) (sym h.many) below) ∙ n ∙ sym made_mine)
         (λ k ne under. get_or-set_other counts seat k number 0 (λ e. ne (sym e)) ∙ h.counted k under ∙ sym (made_other k ne)) k (seat == k) refl under;
+    total =
+        let more = sum_by-set (λ n. n) counts seat number 0 (subst (λ m. seat < m) (sym h.many) below) in
+        let long = length-append steps (s ∷ []) in
+        omega (arith, more, long, n, h.counted seat below, h.total);
   }
 
   pub keeps_more : (who : Who) (mid last : Standing) → Keeps who opening steps mid → StepsTo who mid event answer victim made last → Keeps who opening (steps ++ s ∷ []) last
@@ -183,6 +189,7 @@ counted_none opening steps counts opened none zeroes =
       many = length-replicate {A = ℕ} 256 0;
       few = λ seat below. subst (λ n. n ≤ most_steps) (sym (made seat)) (omega arith);
       counted = λ seat below. get_or-replicate 256 seat 0 0 below ∙ sym (made seat);
+      total = sum_by-replicate (λ n. n) 256 0 ∙ (λ i. sum_by (λ n. n) (sym opened i) + length (sym none i));
     })
 
 pub keeps_none : (site : Site) (opening : Opening) (steps : List Step) (sites pages : ℕ) → Describes opening.state (nothing_yet sites) → steps ≡ [] → Same (fresh sites pages) (state_in site) → heard_in site ≡ none_heard sites → waiting_in site ≡ None → counts_in site ≡ none_counted

@@ -2,3 +2,4 @@ pub mod Issuing
 pub mod Leading
 pub mod Keeps
 pub mod Calls
+pub mod Eras

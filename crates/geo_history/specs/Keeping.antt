@@ -1,5 +1,5 @@
 -- A site with its history, and what each call leaves of both.
-use Rattle.std.specs.Prelude.{◌≡◌, ◌≢◌, ◌⊎◌, ℕ, ◌+◌, ◌≤◌, ◌<◌, ◌^◌, Bool, true, false, cond, List, [], ◌∷◌, ◌++◌, length, Option, None, Some, Result, Ok, Err, slice_index_or}
+use Rattle.std.specs.Prelude.{◌≡◌, ◌≢◌, ◌⊎◌, ℕ, ◌+◌, ◌≤◌, ◌<◌, ◌^◌, Bool, true, false, cond, List, [], ◌∷◌, ◌++◌, length, Option, None, Some, Result, Ok, Err, slice_index_or, sum_by}
 use Rattle.std.specs.declared.alloc.AllocError.{AllocError}
 use Rattle.geo_delta.specs.declared.parcel.Parcel.{Parcel}
 use Rattle.geo_grammar.specs.declared.request.Request.{Request}
@@ -51,11 +51,19 @@ made_in opening steps seat = opened_with opening seat + length (steps_of seat st
 abbrev pub made_by : Story → ℕ → ℕ
 made_by story seat = made_in story.opening story.steps seat
 
+-- how many all seats had made, and have made by now
+abbrev pub opened_total : Opening → ℕ
+opened_total opening = sum_by (λ n. n) opening.counts.items
+
+abbrev pub made_in_all : Story → ℕ
+made_in_all story = opened_total story.opening + length story.steps
+
 -- these count each seat's steps, of which there are no more than may be
 pub record IsCounted (opening : Opening) (steps : List Step) (counts : List ℕ) : Type 0 where
   pub many : length counts ≡ most_seats
   pub few : (seat : ℕ) → seat < most_seats → made_in opening steps seat ≤ most_steps
   pub counted : (seat : ℕ) → seat < most_seats → slice_index_or counts seat 0 ≡ made_in opening steps seat
+  pub total : sum_by (λ n. n) counts ≡ opened_total opening + length steps
 
 abbrev pub story_of : Parts → Story
 story_of parts = record { site = parts.site; opening = parts.opening; steps = parts.steps.items }
@@ -186,6 +194,7 @@ pub record JuggleForDoes (old new : Story) (class : ℕ) (result : Result Bool A
 -- a history opens empty
 pub record OpensEmpty (setup : Setup) (story : Story) : Type 0 where
   pub site : OpenDoes setup (Ok story.site)
+  pub era : story.opening.era ≡ 0
   pub state : Describes story.opening.state (nothing_yet setup.sites)
   pub counts : (seat : ℕ) → opened_with story.opening seat ≡ 0
   pub steps : story.steps ≡ []

@@ -1,11 +1,10 @@
 -- What a site stands at: all that it knows, keeps, holds and counts, but for the order in which its bytes would go. Each event is one
 -- step of it, given whose bytes went.
 use Rattle.std.specs.Prelude.{◌≡◌, ◌≢◌, ℕ, ◌+◌, Bool, true, false, cond, nat_le, List, [], ◌∷◌, length, Option, None, Some, option_map}
-use Rattle.sha2.specs.Sha256.{sha256}
 use Rattle.geo_stamp.specs.Stamps.{Moment}
 use Rattle.geo_stamp.specs.Vectors.{zeros, greatest_of, raised, vector_joined}
 use Rattle.geo_stamp.specs.Acks.{none_heard, heard, horizon_of}
-use Rattle.geo_versions.specs.Keys.{same_key}
+use Rattle.geo_values.specs.Held.{digest_of, digest_at}
 use Rattle.geo_versions.specs.Maps.{has_register, listed_at, remaining}
 use Rattle.geo_versions.specs.Operations.{Act, Record, record_joined, floor_joined, above_both, body_of, expiry_of, flush_of, version_in}
 use Rattle.geo_delta.specs.declared.parcel.Parcel.{Parcel}
@@ -52,15 +51,6 @@ standing_in site = record {
 -- a site that knows nothing
 abbrev pub nothing_yet : ℕ → Standing
 nothing_yet sites = record { vector = zeros sites; rows = none_heard sites; floor = None; map = λ key. (None, None); held = λ key. None; waiting = None; counts = none_counted }
-
--- SHA-256 and length of bytes
-abbrev pub digest_of : List ℕ → List ℕ × ℕ
-digest_of bytes = (sha256 bytes, length bytes)
-
--- SHA-256 and length that a list has of a key
-abbrev pub digest_at : List (List ℕ × List ℕ × ℕ) → List ℕ → Option (List ℕ × ℕ)
-digest_at [] key = None
-digest_at (e ∷ held) key = cond (same_key key e.0) (Some (e.1, e.2)) (digest_at held key)
 
 -- plain data says what a site stands at, and of the bytes that it holds their SHA-256 and length
 pub record Describes (state : SiteState) (st : Standing) : Type 0 where

@@ -1,12 +1,14 @@
 -- What a site with its history opens with, and what is left of it in the end.
-use Rattle.std.specs.Prelude.{◌≡◌, ℕ, List, Result, Ok, Err}
+use Rattle.std.specs.Prelude.{◌≡◌, ℕ, ◌+◌, ◌<◌, [], Option, None, Some, Result, Ok, Err}
+use Rattle.std.specs.declared.alloc.AllocError.{AllocError}
 use Rattle.geo_site.specs.declared.setup.Setup.{Setup}
 use Rattle.geo_site.specs.declared.refusal.SetupError.{SetupError}
 use Rattle.geo_site.specs.Sites.{SetupRefuses}
+use Rattle.geo_site.specs.States.{IsStateOf}
 use Rattle.geo_history.specs.declared.history.History.{History}
 use Rattle.geo_history.specs.declared.kept.Kept.{Kept}
 use Rattle.geo_history.specs.Standings.{who_in, who_of}
-use Rattle.geo_history.specs.Keeping.{Story, story_of, IsKept, OpensEmpty}
+use Rattle.geo_history.specs.Keeping.{Story, story_of, most_seats, opened_with, opened_total, made_by, made_in_all, IsKept, OpensEmpty}
 
 abbrev pub story_in : Kept → Story
 story_in kept = story_of kept.parts
@@ -17,8 +19,25 @@ KeptOpens setup (Err why) = SetupRefuses setup why
 
 -- a history that has ended is the one that was kept, and replays
 pub record IsHistoryOf (story : Story) (history : History) : Type 0 where
-  pub era : history.era ≡ 0
   pub opening : history.opening ≡ story.opening
   pub steps : history.steps.items ≡ story.steps
   pub who : who_of history.setup ≡ who_in story.site
   pub kept : ∥ IsKept story ∥₁
+
+-- a new era opens where the site stands, with what each seat has made, and has no steps
+pub record Renews (old new : Story) : Type 0 where
+  pub site : new.site ≡ old.site
+  pub era : new.opening.era ≡ old.opening.era + 1
+  pub state : IsStateOf old.site new.opening.state
+  pub counts : (seat : ℕ) → seat < most_seats → opened_with new.opening seat ≡ made_by old seat
+  pub total : opened_total new.opening ≡ made_in_all old
+  pub steps : new.steps ≡ []
+
+abbrev pub last_era : ℕ
+last_era = 4294967295
+
+-- the history up to a new era is handed out; where the last era is reached there is none
+abbrev pub NewEraDoes : Story → Story → Result (Option History) AllocError → Type 0
+NewEraDoes old new (Ok (Some history)) = IsHistoryOf old history × Renews old new
+NewEraDoes old new (Ok None) = (old.opening.era ≡ last_era) × (new ≡ old)
+NewEraDoes old new (Err refused) = new ≡ old

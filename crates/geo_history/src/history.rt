@@ -6,6 +6,8 @@ use geo_site::{Setup, SiteState};
 /// Where a history begins.
 #[derive(Drop)]
 pub struct Opening {
+    /// Which part of what was done at the site begins, from 0.
+    pub era: u32,
     /// What the site was.
     pub state: SiteState,
     /// How many steps each seat, from 0 on, had made before; a seat beyond the end had made none.
@@ -16,8 +18,6 @@ pub struct Opening {
 #[derive(Drop)]
 pub struct History {
     pub setup: Setup,
-    /// Which part of what was done at the site it is, from 0.
-    pub era: u32,
     pub opening: Opening,
     pub steps: Chunks<Step>,
 }

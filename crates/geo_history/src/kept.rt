@@ -28,7 +28,7 @@ pub struct Kept {
 }
 
 /// An equal setup.
-fn copied(setup: &Setup) -> Setup
+pub(crate) fn copied(setup: &Setup) -> Setup
     ensures { result ≡ setup.now }
 {
     Setup {
@@ -51,7 +51,7 @@ fn no_steps(alloc: Global) -> Result<Vec<u64>, AllocError>
 impl Kept {
     ghost use Rattle.std.specs.Prelude.{◌≡◌, ◌+◌};
     ghost use Rattle.geo_history.specs.Keeping.{most_steps, made_by};
-    ghost use Rattle.geo_history.specs.Stories.{story_in, KeptOpens, IsHistoryOf};
+    ghost use Rattle.geo_history.specs.Stories.{story_in, KeptOpens, IsHistoryOf, NewEraDoes};
 
     /// A site that knows nothing, with an empty history. It is refused as [`Site::new`] refuses it.
     pub fn new(alloc: Global, setup: Setup) -> Result<Kept, SetupError>
@@ -66,6 +66,7 @@ impl Kept {
             return Err(SetupError::Memory);
         };
         let opening = Opening {
+            era: 0,
             state: SiteState::empty(alloc, own.sites),
             counts: Vec::new(alloc),
         };
@@ -87,6 +88,13 @@ impl Kept {
         &self.parts.site
     }
 
+    /// Which part of what was done at the site its history is, from 0.
+    pub fn era(&self) -> u32
+        ensures { result ≡ (story_in self.now).opening.era }
+    {
+        self.parts.opening.era
+    }
+
     /// How many steps a seat may still make.
     pub fn left(&self, seat: u8) -> u64
         ensures { result + made_by (story_in self.now) seat ≡ most_steps }
@@ -99,6 +107,15 @@ impl Kept {
         ensures { result.now.items ≡ (story_in self.now).steps }
     {
         &self.parts.steps
+    }
+
+    /// Begins a new era where the site stands, and hands out the history that ends there, so that it can be let go where nobody waits.
+    /// The site stays, and so do the seats' numbers of steps. Where memory is wanted, or this is era 2^32 - 1, nothing is done; then
+    /// None is told.
+    pub fn new_era(&mut self, alloc: Global) -> Result<Option<History>, AllocError>
+        ensures does { NewEraDoes (story_in self.old) (story_in self.new) result }
+    {
+        self.parts.new_era(alloc)
     }
 
     /// The history, which ends here.
@@ -114,7 +131,6 @@ impl Kept {
         } = parts;
         History {
             setup,
-            era: 0,
             opening,
             steps,
         }

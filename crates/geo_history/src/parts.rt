@@ -5,7 +5,8 @@ ghost use Rattle.geo_site.specs.Sites.{FlushDoes, Rests, Stays};
 ghost use Rattle.geo_history.specs.Keeping.{most_steps, most_seats, made_in, IsCounted, step_with, step_of, is_flush_due, flush_count, flush_steps, story_of, ActForDoes, SendForDoes, TakeForDoes, RemoveForDoes, EvictForDoes, TickForDoes, ReapForDoes, JuggleForDoes};
 
 use crate::boxed::BoxedParcel;
-use crate::history::Opening;
+use crate::history::{History, Opening};
+use crate::kept::copied;
 use crate::step::{Answer, Event, Step};
 use geo_chunks::Chunks;
 use geo_delta::Parcel;
@@ -14,6 +15,7 @@ use geo_lattice::Twin;
 use geo_site::{Acted, ReapError, Refused, SendError, Setup, Site, TakeError, Taken};
 use geo_versions::{Digest, Key};
 use std::alloc::{AllocError, Global};
+use std::mem;
 
 /// The parts.
 #[derive(Drop)]
@@ -279,5 +281,34 @@ impl Parts {
         ensures counted { IsCounted self.new.opening self.new.steps.items self.new.counts.items }
     {
         self.site.juggle(class)
+    }
+}
+
+impl Parts {
+    ghost use Rattle.geo_history.specs.Keeping.{IsKept};
+    ghost use Rattle.geo_history.specs.Standings.{who_in, who_of};
+    ghost use Rattle.geo_history.specs.Stories.{NewEraDoes};
+
+    /// Begins a new era, and hands out the history that ends.
+    pub(crate) fn new_era(&mut self, alloc: Global) -> Result<Option<History>, AllocError>
+        requires kept { ∥ IsKept (story_of self.old) ∥₁ }
+        requires counted { IsCounted self.old.opening self.old.steps.items self.old.counts.items }
+        requires who { who_in self.old.site ≡ who_of self.old.setup }
+        ensures does { NewEraDoes (story_of self.old) (story_of self.new) result }
+        ensures setup { self.new.setup ≡ self.old.setup }
+        ensures counts { self.new.counts ≡ self.old.counts }
+    {
+        let Some(era) = self.opening.era.checked_add(1) else {
+            return Ok(None);
+        };
+        let steps = Chunks::new(alloc)?;
+        let counts = Vec::from_slice(alloc, self.counts.as_slice())?;
+        let state = self.site.state(alloc)?;
+        let opening = Opening { era, state, counts };
+        Ok(Some(History {
+            setup: copied(&self.setup),
+            opening: mem::replace(&mut self.opening, opening),
+            steps: mem::replace(&mut self.steps, steps),
+        }))
     }
 }

@@ -1,5 +1,7 @@
 -- How many steps were made.
-use Rattle.std.proofs.Common.{◌≡◌, ◌≤◌, ℕ, ◌+◌, Bool, true, false, cond, arith}
+use Rattle.std.proofs.Common.{◌≡◌, ◌≤◌, ℕ, suc, ◌+◌, Bool, true, false, cond, List, [], ◌∷◌, length, sum_by, slice_index_or, refl, ap, arith}
+use Rattle.std.proofs.lemmas.List.Sums.{sum_by-cons}
+use Rattle.geo_history.specs.Keeping.{Story, opened_with, made_in_all}
 
 pub few_flushes : (flushed : Bool) → cond flushed 1 0 ≤ 1
 few_flushes true = omega arith
@@ -12,3 +14,18 @@ called_after first between last flushes a b = omega (arith, a, b)
 -- a due flush, deletes, and a removal
 pub maintained : (first ticked reaped last flushes count others : ℕ) → ticked ≡ first + flushes → reaped ≡ ticked + (count + others) → others ≡ 0 → last ≡ reaped + 1 → last ≡ first + (flushes + count + 1)
 maintained first ticked reaped last flushes count others a b n d = omega (arith, a, b, n, d)
+
+-- numbers of which each is 0
+all_zero : (xs : List ℕ) → ((i : ℕ) → slice_index_or xs i 0 ≡ 0) → sum_by (λ n. n) xs ≡ 0
+all_zero [] zero = refl
+all_zero (x ∷ xs) zero =
+    let here : x ≡ 0 = zero 0 in
+    let rest = all_zero xs (λ i. zero (suc i)) in
+    omega (arith, sum_by-cons (λ n. n) x xs, here, rest)
+
+-- no seat had made a step, and none has
+pub none_made : (story : Story) → ((seat : ℕ) → opened_with story.opening seat ≡ 0) → story.steps ≡ [] → made_in_all story ≡ 0
+none_made story opened none =
+    let before = all_zero story.opening.counts.items opened in
+    let since : length story.steps ≡ 0 = ap length none in
+    omega (arith, before, since)

@@ -1,11 +1,11 @@
 -- How calls end, from the last one back.
-use Rattle.std.proofs.Common.{◌≡◌, ◌≢◌, ◌+◌, ℕ, Bool, true, false, List, [], ◌∷◌, ◌++◌, length, refl, ap, sym, ◌∙◌, subst, if◌then◌else◌, append_assoc, length-append, arith}
+use Rattle.std.proofs.Common.{◌≡◌, ◌≢◌, ◌⊎◌, inl, inr, ◌+◌, ℕ, Bool, true, false, List, [], ◌∷◌, ◌++◌, length, refl, ap, sym, ◌∙◌, subst, if◌then◌else◌, append_assoc, length-append, arith}
 use Rattle.std.proofs.lemmas.List.{append_cancel_right, append-nil}
 use Rattle.geo_history.specs.declared.step.Step.{Step}
 use Rattle.geo_station.specs.declared.call.Call.{Call}
 use Rattle.geo_station.specs.declared.fits.Ending.{Ending}
-use Rattle.geo_station.specs.declared.fits.Ending.TheVariants.{Whole, Tail, Other}
-use Rattle.geo_station.specs.Seats.{call_of, is_call_of, calls_of}
+use Rattle.geo_station.specs.declared.fits.Ending.TheVariants.{Whole, Tail, More, Other}
+use Rattle.geo_station.specs.Seats.{call_of, is_call_of, calls_of, EndsWith}
 use Rattle.geo_station.specs.Endings.{EndsSo}
 
 -- the last of a list with another before it
@@ -44,8 +44,15 @@ ends_further Tail all kept c ends = (
   (ends.0.0, ap (λ l. l ++ c ∷ []) ends.0.1 ∙ append_assoc ends.0.0 kept (c ∷ [])),
   λ same. ends.1 (append_cancel_right all kept (c ∷ []) same),
 )
-ends_further Other all kept c differs =
-    λ ends. differs (ends.0, append_cancel_right all (ends.0 ++ kept) (c ∷ []) (ends.1 ∙ sym (append_assoc ends.0 kept (c ∷ []))))
+ends_further More all kept c ends = (
+  (ends.0.0, ap (λ l. l ++ c ∷ []) ends.0.1 ∙ append_assoc ends.0.0 all (c ∷ [])),
+  λ same. ends.1 (append_cancel_right all kept (c ∷ []) same),
+)
+ends_further Other all kept c differs = λ ends. differs (by ends)
+  where
+    by : EndsWith (all ++ c ∷ []) (kept ++ c ∷ []) ⊎ EndsWith (kept ++ c ∷ []) (all ++ c ∷ []) → EndsWith all kept ⊎ EndsWith kept all
+    by (inl e) = inl (e.0, append_cancel_right all (e.0 ++ kept) (c ∷ []) (e.1 ∙ sym (append_assoc e.0 kept (c ∷ []))))
+    by (inr e) = inr (e.0, append_cancel_right kept (e.0 ++ all) (c ∷ []) (e.1 ∙ sym (append_assoc e.0 all (c ∷ []))))
 
 -- where none are left there are more
 pub ends_early : (all : List Call) (c : Call) → EndsSo Tail (all ++ c ∷ []) []
@@ -53,11 +60,11 @@ ends_early all c = ((all ++ c ∷ [], sym (append-nil (all ++ c ∷ []))), not_e
 
 -- where the last two differ
 pub ends_apart : (all kept : List Call) (c d : Call) → c ≢ d → EndsSo Other (all ++ c ∷ []) (kept ++ d ∷ [])
-ends_apart all kept c d apart = λ ends. apart (one_last all (ends.0 ++ kept) c d (ends.1 ∙ sym (append_assoc ends.0 kept (d ∷ []))))
-
--- where none are left of all
-pub ends_late : (kept : List Call) (c : Call) → EndsSo Other [] (kept ++ c ∷ [])
-ends_late kept c = λ ends. not_empty (ends.0 ++ kept) c (append_assoc ends.0 kept (c ∷ []) ∙ sym ends.1)
+ends_apart all kept c d apart = by
+  where
+    by : EndsWith (all ++ c ∷ []) (kept ++ d ∷ []) ⊎ EndsWith (kept ++ d ∷ []) (all ++ c ∷ []) → ⊥
+    by (inl e) = apart (one_last all (e.0 ++ kept) c d (e.1 ∙ sym (append_assoc e.0 kept (d ∷ []))))
+    by (inr e) = apart (sym (one_last kept (e.0 ++ all) d c (e.1 ∙ sym (append_assoc e.0 all (c ∷ [])))))
 
 -- a step of the seat more, where no call is left
 pub step_early : (seat : ℕ) (steps earlier : List Step) (s : Step) (left : List Call) → steps ≡ earlier ++ s ∷ [] → is_call_of seat s ≡ true → length left ≡ 0 → EndsSo Tail (calls_of seat steps) left
@@ -86,7 +93,7 @@ none_whole seat [] (c ∷ left) n m = absurd (omega (arith, m))
 none_whole seat (s ∷ steps) left n m = absurd (omega (arith, n))
 
 -- no step more, and some call
-pub none_late : (seat : ℕ) (steps : List Step) (left : List Call) → length steps ≡ 0 → (length left ≡ 0 → ⊥) → EndsSo Other (calls_of seat steps) left
-none_late seat [] [] n m = absurd (m refl)
-none_late seat [] (c ∷ left) n m = λ ends. let k = ap length ends.1 in let l = length-append ends.0 (c ∷ left) in absurd (omega (arith, k, l))
-none_late seat (s ∷ steps) left n m = absurd (omega (arith, n))
+pub none_more : (seat : ℕ) (steps : List Step) (left : List Call) → length steps ≡ 0 → (length left ≡ 0 → ⊥) → EndsSo More (calls_of seat steps) left
+none_more seat [] [] n m = absurd (m refl)
+none_more seat [] (c ∷ left) n m = ((c ∷ left, sym (append-nil (c ∷ left))), λ e. let k = ap length e in absurd (omega (arith, k)))
+none_more seat (s ∷ steps) left n m = absurd (omega (arith, n))

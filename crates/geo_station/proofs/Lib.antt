@@ -2,3 +2,4 @@ pub mod Endings
 pub mod Closing
 pub mod Lasts
 pub mod Counting
+pub mod Fitting

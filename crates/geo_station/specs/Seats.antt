@@ -1,14 +1,15 @@
 -- What a seat keeps of its calls, and what a history tells of them.
-use Rattle.std.specs.Prelude.{◌≡◌, ℕ, Bool, true, false, ◌==◌, ◌&&◌, if◌then◌else◌, List, [], ◌∷◌, ◌++◌, length, nat_le}
+use Rattle.std.specs.Prelude.{◌≡◌, ◌⊎◌, ℕ, ◌+◌, Bool, true, false, ◌==◌, ◌&&◌, if◌then◌else◌, List, [], ◌∷◌, ◌++◌, length, nat_le}
 use Rattle.std.specs.List.{All}
 use Rattle.geo_history.specs.declared.history.History.{History}
+use Rattle.geo_history.specs.declared.history.Opening.{Opening}
 use Rattle.geo_history.specs.declared.step.Event.{Event}
 use Rattle.geo_history.specs.declared.step.Event.TheVariants.{Command, Evict, Send, Take, Remove, Tick, Reap}
 use Rattle.geo_history.specs.declared.step.Answer.{Answer}
 use Rattle.geo_history.specs.declared.step.Step.{Step}
 use Rattle.geo_history.specs.Standings.{Standing, who_of}
 use Rattle.geo_history.specs.Replays.{steps_of}
-use Rattle.geo_history.specs.Keeping.{Keeps, Story, IsKept}
+use Rattle.geo_history.specs.Keeping.{opened_with, Keeps, Story, IsKept}
 use Rattle.geo_station.specs.declared.call.Call.{Call}
 
 -- a seat: its number, how many steps it made, the calls that it keeps, and whether it let go of earlier ones
@@ -50,11 +51,15 @@ calls_of seat (s ∷ steps) = if is_call_of seat s then call_of s.event s.answer
 abbrev pub EndsWith : List Call → List Call → Type 0
 EndsWith all last = (first : List Call) × (all ≡ first ++ last)
 
--- steps tell of a seat what it keeps: as many as it made, and its calls, or the last of them where it let go of earlier ones
-pub record FitsIn (steps : List Step) (seat : Seated) : Type 0 where
-  pub count : length (steps_of seat.number steps) ≡ seat.steps
-  pub ends : EndsWith (calls_of seat.number steps) seat.calls
-  pub whole : seat.forgot ≡ false → calls_of seat.number steps ≡ seat.calls
+-- a history that opens so tells of a seat what it keeps: as many steps as it made, and of the calls that the history has and those that
+-- the seat keeps one list ends with the other. A seat that let go of none keeps all that the history has, and in the first era the
+-- history has all that the seat keeps.
+pub record FitsIn (opening : Opening) (steps : List Step) (seat : Seated) : Type 0 where
+  pub count : opened_with opening seat.number + length (steps_of seat.number steps) ≡ seat.steps
+  pub ends : EndsWith (calls_of seat.number steps) seat.calls ⊎ EndsWith seat.calls (calls_of seat.number steps)
+  pub kept : seat.forgot ≡ false → EndsWith seat.calls (calls_of seat.number steps)
+  pub told : opening.era ≡ 0 → EndsWith (calls_of seat.number steps) seat.calls
+  pub whole : seat.forgot ≡ false → opening.era ≡ 0 → calls_of seat.number steps ≡ seat.calls
 
 -- a history has a replay: its steps lead from where it opens to where a site can stand, and those of each seat are numbered one
 -- after the other
@@ -63,4 +68,4 @@ IsLawful history = ∥ ((last : Standing) × Keeps (who_of history.setup) histor
 
 -- some history of a site does not tell of each seat what it keeps
 abbrev pub DiffersFrom : List Seated → Type 0
-DiffersFrom seats = ∥ ((story : Story) × IsKept story × (All (FitsIn story.steps) seats → ⊥)) ∥₁
+DiffersFrom seats = ∥ ((story : Story) × IsKept story × (All (FitsIn story.opening story.steps) seats → ⊥)) ∥₁

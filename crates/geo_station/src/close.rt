@@ -1,7 +1,6 @@
 //! The end of a station.
 ghost use Rattle.std.specs.Prelude.{◌≡◌, ℕ, ◌+◌, MatchBool, sum_by, vec_len};
 ghost use Rattle.std.specs.List.{All};
-ghost use Rattle.geo_history.specs.Keeping.{opened_with};
 ghost use Rattle.geo_history.specs.Stories.{story_in};
 ghost use Rattle.geo_station.specs.Seats.{FitsIn};
 
@@ -30,8 +29,7 @@ pub struct Unclosed<L: Ledger> {
 
 /// Whether the history tells of a seat what the seat keeps.
 fn fits<L: Ledger>(kept: &Kept, seat: &Seat<L>) -> bool
-    requires { (k : ℕ) → opened_with (story_in kept.now).opening k ≡ 0 }
-    ensures { MatchBool result (FitsIn (story_in kept.now).steps seat.now) (FitsIn (story_in kept.now).steps seat.now → ⊥) }
+    ensures { MatchBool result (FitsIn (story_in kept.now).opening (story_in kept.now).steps seat.now) (FitsIn (story_in kept.now).opening (story_in kept.now).steps seat.now → ⊥) }
 {
     if MOST_STEPS - kept.left(seat.number) != seat.account.count {
         return false;
@@ -39,14 +37,14 @@ fn fits<L: Ledger>(kept: &Kept, seat: &Seat<L>) -> bool
     match ending_of(kept.steps(), seat.number, seat.calls.as_slice()) {
         Ending::Whole => true,
         Ending::Tail => seat.forgot,
+        Ending::More => kept.era() > 0,
         Ending::Other => false,
     }
 }
 
 /// Whether it does of each.
 pub fn all_fit<L: Ledger>(kept: &Kept, seats: &[Seat<L>]) -> bool
-    requires { (k : ℕ) → opened_with (story_in kept.now).opening k ≡ 0 }
-    ensures { MatchBool result (All (FitsIn (story_in kept.now).steps) seats.now) (All (FitsIn (story_in kept.now).steps) seats.now → ⊥) }
+    ensures { MatchBool result (All (FitsIn (story_in kept.now).opening (story_in kept.now).steps) seats.now) (All (FitsIn (story_in kept.now).opening (story_in kept.now).steps) seats.now → ⊥) }
 {
     for seat in seats {
         if !fits(kept, seat) {

@@ -1,21 +1,24 @@
 //! What lies under a station's lock.
-ghost use Rattle.std.specs.Prelude.{◌≡◌, ◌≢◌, ◌+◌, ◌≤◌, ◌<◌, ◌^◌, ℕ, [], false, cond, length, IfOk, IfErr};
+ghost use Rattle.std.specs.Prelude.{◌≡◌, ◌≢◌, ◌+◌, ◌≤◌, ◌<◌, ◌^◌, ℕ, [], true, false, cond, length, ◌⊎◌, IfOk, IfErr, IfSome, IfNone};
 ghost use Rattle.geo_delta.specs.Ranges.{InRange};
 ghost use Rattle.geo_grammar.specs.declared.reply.Reply.TheVariants.{OutOfMemory};
-ghost use Rattle.geo_history.specs.Keeping.{most_steps, made_by, opened_with, is_flush_due};
-ghost use Rattle.geo_history.specs.Stories.{story_in};
+ghost use Rattle.geo_history.specs.Keeping.{most_steps, made_by, made_in_all, is_flush_due};
+ghost use Rattle.geo_history.specs.Stories.{story_in, last_era};
+ghost use Rattle.geo_station.specs.Seats.{IsLawful};
+ghost use Rattle.geo_station.specs.declared.desk.Unmade.TheVariants.{Spent};
+ghost use Rattle.geo_station.specs.declared.refusal.CallError.TheVariants.{SeatSpent};
 
 use crate::account::Account;
 use crate::refusal::{CallError, NoSeat, Returned};
 use crate::seat::Seat;
 use geo_delta::Parcel;
 use geo_grammar::{Reply, Request};
-use geo_history::{BoxedParcel, Kept};
+use geo_history::{BoxedParcel, History, Kept};
 use geo_site::{Refused, SendError, TakeError, Taken};
 use std::alloc::{AllocError, Global};
 use std::sync::ledger::{Book, Ledger, Share};
 
-/// A site with its history, the book of the steps that its seats have made, and the seats that weren't given yet.
+/// A site with its history, the book of the steps that its seats have made in all eras, and the seats that weren't given yet.
 #[derive(Drop)]
 pub struct Desk<L: Ledger> {
     pub(crate) kept: Kept,
@@ -23,8 +26,7 @@ pub struct Desk<L: Ledger> {
     pub(crate) rest: Share<L>,
     pub(crate) given: u64,
     pub(crate) seats: u64,
-    ghost total: { book.total ≡ length (story_in kept).steps },
-    ghost opened: { (seat : ℕ) → opened_with (story_in kept).opening seat ≡ 0 },
+    ghost total: { book.total ≡ made_in_all (story_in kept) },
     ghost parts: { rest.parts + given ≡ seats },
     ghost amount: { rest.amount ≡ 0 },
     ghost few: { seats ≤ 256 },
@@ -60,12 +62,11 @@ impl<L: Ledger> Desk<L> {
         })
     }
 
-    /// Whether a seat may make no step more, by its own account or by the history.
-    pub(crate) fn is_spent(&self, number: u8, account: &Account<L>) -> bool
-        ensures history { result ≡ false → made_by (story_in self.now.kept) number < most_steps }
-        ensures account { result ≡ false → account.now.count < most_steps }
+    /// Whether the history has room for a step more of a seat, as it has for each seat whose account isn't spent.
+    pub(crate) fn has_room(&self, number: u8) -> bool
+        ensures { result ≡ true → made_by (story_in self.now.kept) number < most_steps }
     {
-        account.is_spent() || self.kept.left(number) == 0
+        self.kept.left(number) > 0
     }
 
     /// Carries out a due flush for a seat, and tells whether there was one. None is due then.
@@ -125,20 +126,39 @@ impl<L: Ledger> Desk<L> {
         ensures equal { IfOk result (λ replies. replies.1 ≡ replies.0) }
         ensures said { IfOk result (λ replies. replies.0 ≢ OutOfMemory) }
         ensures unmade { IfErr result (λ _. (flushes : ℕ) × (flushes ≤ 1) × (account.new.count ≡ account.old.count + flushes)) }
+        ensures spent { IfErr result (λ why. why ≡ Spent → most_steps ≤ account.old.count + 1) }
     {
-        if self.is_spent(number, account) {
+        if account.is_spent() {
             return Err(Unmade::Spent);
+        }
+        if !self.has_room(number) {
+            return Err(Unmade::Memory);
         }
         let Ok(_flushed) = self.tick(number, account, now) else {
             return Err(Unmade::Memory);
         };
-        if self.is_spent(number, account) {
+        if account.is_spent() {
             return Err(Unmade::Spent);
+        }
+        if !self.has_room(number) {
+            return Err(Unmade::Memory);
         }
         match self.answer(alloc, number, account, now, request) {
             Ok(replies) => Ok(replies),
             Err(_) => Err(Unmade::Memory),
         }
+    }
+
+    /// Begins a new era where this one has so many steps, and hands out the history that ends.
+    pub(crate) fn renew(&mut self, alloc: Global, after: u64) -> Result<Option<History>, AllocError>
+        ensures lawful { IfOk result (λ ended. IfSome ended IsLawful) }
+        ensures due { IfOk result (λ ended. IfSome ended (λ history. after ≤ length history.steps.items)) }
+        ensures early { IfOk result (λ ended. IfNone ended ((length (story_in self.old.kept).steps < after) ⊎ ((story_in self.old.kept).opening.era ≡ last_era))) }
+    {
+        if (self.kept.steps().len() as u64) < after {
+            return Ok(None);
+        }
+        self.kept.new_era(alloc)
     }
 
     /// Makes a parcel for a seat, and gives it twice.
@@ -153,9 +173,13 @@ impl<L: Ledger> Desk<L> {
         ensures addressee { IfOk result (λ parcels. parcels.0.to ≡ to) }
         ensures ranges { IfOk result (λ parcels. InRange parcels.0) }
         ensures unmade { IfErr result (λ why. account.new.count ≡ account.old.count + sends_made why) }
+        ensures spent { IfErr result (λ why. why ≡ SeatSpent → most_steps ≤ account.old.count) }
     {
-        if self.is_spent(number, account) {
+        if account.is_spent() {
             return Err(CallError::SeatSpent);
+        }
+        if !self.has_room(number) {
+            return Err(CallError::Site(SendError::Memory));
         }
         match self.kept.send_for(alloc, number, to) {
             Ok(parcels) => {
@@ -181,9 +205,14 @@ impl<L: Ledger> Desk<L> {
         ensures made { IfOk result (λ _. account.new.count ≡ account.old.count + 1) }
         ensures unmade { IfErr result (λ returned. account.new.count ≡ account.old.count + takes_made returned.why) }
         ensures back { IfErr result (λ returned. returned.parcel ≡ parcel) }
+        ensures spent { IfErr result (λ returned. returned.why ≡ SeatSpent → most_steps ≤ account.old.count) }
     {
-        if self.is_spent(number, account) {
+        if account.is_spent() {
             let why = CallError::SeatSpent;
+            return Err(Returned { why, parcel });
+        }
+        if !self.has_room(number) {
+            let why = CallError::Site(TakeError::Memory);
             return Err(Returned { why, parcel });
         }
         let refused = match self.kept.take_for(alloc, number, parcel) {

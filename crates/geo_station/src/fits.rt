@@ -33,6 +33,8 @@ pub enum Ending {
     Whole,
     /// They end with those that it keeps, and there are more.
     Tail,
+    /// Those that it keeps end with them, and it keeps more.
+    More,
     /// They end with others.
     Other,
 }
@@ -69,6 +71,6 @@ pub fn ending_of(steps: &Chunks<Step>, seat: u8, kept: &[Call]) -> Ending
     if left.is_empty() {
         Ending::Whole
     } else {
-        Ending::Other
+        Ending::More
     }
 }

@@ -1,6 +1,6 @@
 //! What a site needs from time to time.
 ghost use Rattle.std.specs.Prelude.{◌≡◌, ◌+◌, ◌≤◌, ◌<◌, false, IfOk, IfErr, IfSome, IfNone};
-ghost use Rattle.geo_history.specs.Keeping.{is_flush_due};
+ghost use Rattle.geo_history.specs.Keeping.{most_steps, is_flush_due};
 ghost use Rattle.geo_slabs.specs.Storage.{class_count};
 ghost use Rattle.geo_history.specs.Stories.{story_in};
 
@@ -70,7 +70,7 @@ impl<L: Ledger> Desk<L> {
             let Ok(key) = key.twin(alloc) else {
                 return refused;
             };
-            if self.is_spent(number, account) {
+            if account.is_spent() || !self.has_room(number) {
                 return refused;
             }
             let reaped = self.kept.reap_for(alloc, number, now, &key);
@@ -93,7 +93,7 @@ impl<L: Ledger> Desk<L> {
         ensures some { IfSome result (λ _. account.new.count ≡ account.old.count + 1) }
         ensures none { IfNone result (account.new.count ≡ account.old.count) }
     {
-        if self.is_spent(number, account) {
+        if account.is_spent() || !self.has_room(number) {
             return None;
         }
         let removed = self.kept.remove_for(number).ok()?;
@@ -158,8 +158,9 @@ impl<L: Ledger> Desk<L> {
     ) -> Result<Maintained, SeatSpent>
         ensures ok { IfOk result (Maintains account.old.count account.new.count) }
         ensures err { IfErr result (λ _. account.new.count ≡ account.old.count) }
+        ensures spent { IfErr result (λ _. most_steps ≤ account.old.count) }
     {
-        if self.is_spent(number, account) {
+        if account.is_spent() {
             return Err(SeatSpent);
         }
         let mut done = Maintained {
@@ -169,6 +170,9 @@ impl<L: Ledger> Desk<L> {
             juggled: 0,
             refused: true,
         };
+        if !self.has_room(number) {
+            return Ok(done);
+        }
         let Ok(flushed) = self.tick(number, account, now) else {
             return Ok(done);
         };

@@ -1,8 +1,8 @@
 //! A site for several threads.
-ghost use Rattle.std.specs.Prelude.{◌≡◌, ◌≢◌, ℕ, ◌≤◌, ◌^◌, [], false, vec_len, sum_by, length, IfOk, IfErr, IsErr, Err};
+ghost use Rattle.std.specs.Prelude.{◌≡◌, ◌≢◌, ℕ, ◌+◌, ◌≤◌, ◌^◌, [], false, vec_len, sum_by, length, IfOk, IfErr, IfSome, IsErr, Err};
 ghost use Rattle.std.specs.List.{All};
 ghost use Rattle.geo_delta.specs.Ranges.{InRange};
-ghost use Rattle.geo_history.specs.Keeping.{most_steps, opened_with};
+ghost use Rattle.geo_history.specs.Keeping.{most_steps, opened_with, opened_total};
 ghost use Rattle.geo_history.specs.Stories.{story_in};
 ghost use Rattle.geo_station.specs.Seats.{FitsIn, IsLawful, DiffersFrom};
 ghost use Rattle.geo_station.specs.declared.refusal.CallError.TheVariants as refused;
@@ -19,7 +19,7 @@ use geo_grammar::{Reply, Request};
 use geo_history::{Answer, BoxedParcel, Event, History, Kept};
 use geo_lattice::Twin;
 use geo_site::{SendError, TakeError, Taken};
-use std::alloc::Global;
+use std::alloc::{AllocError, Global};
 use std::marker::Model;
 use std::sync::ledger::{Blank, Ledger};
 use std::sync::{Mutex, Wait};
@@ -96,6 +96,7 @@ impl<L: Ledger> Station<L> {
         requires { now ≤ 2 ^ 40 }
         ensures acts { ActsBy seat.old seat.new now request result }
         ensures limit { seat.old.steps ≡ most_steps → IsErr result }
+        ensures spent { IsErr result → most_steps ≤ seat.old.steps + 1 }
     {
         let Seat {
             number,
@@ -137,6 +138,7 @@ impl<L: Ledger> Station<L> {
         ensures addressee { IfOk result (λ parcel. parcel.to ≡ to) }
         ensures ranges { IfOk result (λ parcel. InRange parcel) }
         ensures limit { seat.old.steps ≡ most_steps → result ≡ Err refused.SeatSpent }
+        ensures spent { result ≡ Err refused.SeatSpent → most_steps ≤ seat.old.steps }
     {
         let Seat {
             number,
@@ -177,6 +179,7 @@ impl<L: Ledger> Station<L> {
     ) -> Result<Taken, Returned>
         ensures takes { TakesBy seat.old seat.new parcel result }
         ensures limit { seat.old.steps ≡ most_steps → IfErr result (λ returned. returned.why ≡ refused.SeatSpent) }
+        ensures spent { IfErr result (λ returned. returned.why ≡ refused.SeatSpent → most_steps ≤ seat.old.steps) }
     {
         let Seat {
             number,
@@ -221,6 +224,7 @@ impl<L: Ledger> Station<L> {
     ) -> Result<Maintained, SeatSpent>
         ensures maintains { MaintainsBy seat.old seat.new result }
         ensures limit { seat.old.steps ≡ most_steps → IsErr result }
+        ensures spent { IsErr result → most_steps ≤ seat.old.steps }
     {
         let Seat {
             number,
@@ -235,14 +239,31 @@ impl<L: Ledger> Station<L> {
 }
 
 impl<L: Ledger> Station<L> {
+    /// Begins a new era where this one has so many steps or more, and hands out the history that ends with it: the next goes on from
+    /// what the site is now. It is no step. Where memory is wanted, or this is era 2^32 - 1, nothing is done. Whoever lets go of the
+    /// history holds up no other, for the lock is free then.
+    pub fn renew(
+        &self,
+        rt: &impl Wait,
+        alloc: Global,
+        after: u64,
+    ) -> Result<Option<History>, AllocError>
+        ensures lawful { IfOk result (λ ended. IfSome ended IsLawful) }
+        ensures due { IfOk result (λ ended. IfSome ended (λ history. after ≤ length history.steps.items)) }
+    {
+        self.desk.lock(rt).renew(alloc, after)
+    }
+}
+
+impl<L: Ledger> Station<L> {
     ghost use Rattle.geo_station.specs.declared.close.Why.TheVariants.{Missing, Differs};
 
     /// The history of what was done, where all seats are handed in and it tells of each what the seat keeps. Else station and seats
     /// come back as they were.
     pub fn close(self, seats: Vec<Seat<L>>) -> Result<History, Unclosed<L>>
         ensures lawful { IfOk result (λ history. IsLawful history) }
-        ensures sum { IfOk result (λ history. length history.steps.items ≡ sum_by (λ s. s.steps) seats.items) }
-        ensures each { IfOk result (λ history. All (FitsIn history.steps.items) seats.items) }
+        ensures sum { IfOk result (λ history. opened_total history.opening + length history.steps.items ≡ sum_by (λ s. s.steps) seats.items) }
+        ensures each { IfOk result (λ history. All (FitsIn history.opening history.steps.items) seats.items) }
         ensures all { IfOk result (λ _. vec_len seats ≡ self) }
         ensures missing { IfErr result (λ unclosed. unclosed.why ≡ Missing → vec_len seats ≢ self) }
         ensures differs { IfErr result (λ unclosed. unclosed.why ≡ Differs → (vec_len seats ≡ self) × DiffersFrom seats.items) }

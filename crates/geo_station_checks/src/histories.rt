@@ -185,7 +185,7 @@ fn show_opening(alloc: Global, history: &History, out: &mut Vec<u8>) -> Result<(
     let text = format!(in alloc; "{site} {sites} {pages} {max_records} {reap_after}; ")?;
     out.extend_from_slice(text.as_bytes())?;
     let (era, counts, steps) = (
-        history.era,
+        history.opening.era,
         history.opening.counts.len(),
         history.steps.len(),
     );

@@ -69,6 +69,8 @@ enum Call {
     Send(u8),
     /// The second site and the station's send each other what they know, and take it.
     Exchange,
+    /// A new era after so many steps.
+    Renew(u64),
 }
 
 /// A request's answer in the text of the protocol, unless the seat is spent.
@@ -118,6 +120,10 @@ fn answer<L: Ledger>(
         Call::Maintain => {
             let done = station.maintain(rt, alloc, seat, 211).ok().ok_or("spent")?;
             Ok(out.extend_from_slice(format!(in alloc; "{done:?}\n")?.as_bytes())?)
+        }
+        Call::Renew(after) => {
+            let renewed = station.renew(rt, alloc, after)?.is_some();
+            Ok(out.extend_from_slice(format!(in alloc; "{renewed}\n")?.as_bytes())?)
         }
         Call::Send(to) => {
             let why = station.send(rt, alloc, seat, to).err();
@@ -195,6 +201,16 @@ fn other_site(rt: &impl RandomSource, alloc: Global) -> Result<Site, Fail> {
     Ok(site)
 }
 
+/// The history's era, if it isn't the first, and how many steps the first seat had made before.
+fn show_era(out: &mut Vec<u8>, history: &History) -> Result<(), Fail> {
+    let alloc = *out.allocator();
+    let (era, before) = (history.opening.era, history.opening.counts.first());
+    if let Some(before) = before {
+        out.extend_from_slice(format!(in alloc; "era {era} behind {before}\n")?.as_bytes())?;
+    }
+    Ok(())
+}
+
 /// What the calls answer, how many the seat keeps, whether there is a third seat, why one is too few to close, and the steps.
 fn shown<R: Wait + RandomSource>(
     rt: &R,
@@ -206,6 +222,7 @@ fn shown<R: Wait + RandomSource>(
     let mut other = other_site(rt, alloc)?;
     let kept = opened(rt, alloc, sites)?;
     let history = carried::<Brand, _>(rt, alloc, Blank::new(2), kept, &mut other, calls, &mut out)?;
+    show_era(&mut out, &history)?;
     show_steps(&mut out, &history.steps)?;
     Ok(out)
 }
@@ -247,6 +264,24 @@ const ROWS: &[(u8, &[Call], &[u8])] = &[
           seat 0 step 4: take from 2; Taken { rose: true, dropped: 1 }\n\
           seat 0 step 5: act at 100; END\r\n\n\
           seat 0 step 6: send to 1; NoSuchSite\n",
+    ),
+    // A new era begins behind three steps, and not again behind two more.
+    (
+        1,
+        &[
+            Call::Act(b"set a 0 0 2\r\nhi\r\n"),
+            Call::Act(b"get a\r\n"),
+            Call::Act(b"get b\r\n"),
+            Call::Renew(3),
+            Call::Act(b"get a\r\n"),
+            Call::Act(b"delete a\r\n"),
+            Call::Renew(3),
+        ],
+        b"STORED\r\nVALUE a 0 2\r\nhi\r\nEND\r\nEND\r\ntrue\nVALUE a 0 2\r\nhi\r\nEND\r\nDELETED\r\nfalse\n\
+          5 calls, false, Missing\n\
+          era 1 behind 3\n\
+          seat 0 step 4: act at 100; VALUE a 0 2\r\nhi\r\nEND\r\n\n\
+          seat 0 step 5: act at 100; DELETED\r\n\n",
     ),
 ];
 

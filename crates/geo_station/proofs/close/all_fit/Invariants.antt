@@ -6,4 +6,4 @@ use Rattle.geo_station.proofs.close.all_fit.Given as goal
 
 -- those before fit
 abbrev pub invariant-loop-seat : goal.invariant-loop-seat
-invariant-loop-seat g l = All (FitsIn (story_in l.kept).steps) (take l.seat-index l.seats)
+invariant-loop-seat g l = All (FitsIn (story_in l.kept).opening (story_in l.kept).steps) (take l.seat-index l.seats)

@@ -1,6 +1,6 @@
 use Rattle.std.proofs.Common.{rules, take, ◌-◌, ap, arith, length}
-use Rattle.geo_station.specs.declared.fits.Ending.TheVariants.{Whole, Tail, Other}
-use Rattle.geo_station.proofs.Endings.{step_early, step_apart, step_further, step_other, none_whole, none_late}
+use Rattle.geo_station.specs.declared.fits.Ending.TheVariants.{Whole, Tail, More, Other}
+use Rattle.geo_station.proofs.Endings.{step_early, step_apart, step_further, step_other, none_whole, none_more}
 use Rattle.geo_station.proofs.fits.ending_of.Goals as goal
 
 pub returns-in_default-split_last : goal.returns-in_default-split_last
@@ -19,4 +19,4 @@ pub returns-then-is_empty : goal.returns-then-is_empty
 returns-then-is_empty c = c.loop-step.invariant.1 Whole (none_whole c.args.seat (take c.loop-step.count c.args.steps.now.items) c.loop-step.left.now (ap (λ n. length (take n c.args.steps.now.items)) c.in_default.ensures.none) (search rules))
 
 pub returns-else-is_empty : goal.returns-else-is_empty
-returns-else-is_empty c = c.loop-step.invariant.1 Other (none_late c.args.seat (take c.loop-step.count c.args.steps.now.items) c.loop-step.left.now (ap (λ n. length (take n c.args.steps.now.items)) c.in_default.ensures.none) (search rules))
+returns-else-is_empty c = c.loop-step.invariant.1 More (none_more c.args.seat (take c.loop-step.count c.args.steps.now.items) c.loop-step.left.now (ap (λ n. length (take n c.args.steps.now.items)) c.in_default.ensures.none) (search rules))

@@ -9,7 +9,7 @@ use Rattle.geo_history.proofs.kept.Kept.new.Goals as goal
 pub invariant_of-result : goal.invariant_of-result
 invariant_of-result c =
     let site = c.in_ok-site.site in
-    let opening : Opening = record { state = c.empty.result; counts = c.new-3.result } in
+    let opening : Opening = record { era = 0; state = c.empty.result; counts = c.new-3.result } in
     let own : c.copied-own.result ≡ c.args.setup = c.copied-own.ensures in
     let opens : Describes opening.state (nothing_yet c.args.setup.sites) = subst (λ (s : Setup). Describes opening.state (nothing_yet s.sites)) own (describes_none opening.state c.copied-own.result.sites c.empty.ensures) in
     let e = c.in_ok-site.ensures in
@@ -21,11 +21,12 @@ invariant_of-result c =
 
 pub returns : goal.returns
 returns c =
-    let opening : Opening = record { state = c.empty.result; counts = c.new-3.result } in
+    let opening : Opening = record { era = 0; state = c.empty.result; counts = c.new-3.result } in
     let own : c.copied-own.result ≡ c.args.setup = c.copied-own.ensures in
     let opens : Describes opening.state (nothing_yet c.args.setup.sites) = subst (λ (s : Setup). Describes opening.state (nothing_yet s.sites)) own (describes_none opening.state c.copied-own.result.sites c.empty.ensures) in
     record {
       site = c.in_ok-site.ensures;
+      era = refl;
       state = opens;
       counts = λ seat i. Rattle.std.specs.Prelude.slice_index_or (c.new-3.ensures.items i) seat 0;
       steps = c.in-Ok-new.ensures;

@@ -11,7 +11,7 @@ returns-then-not-whole-clause-differs g c = λ e.
     elim c.if-whole.branch [
       | then-whole w ↦ elim c.then-not-whole.branch [
         | then-not-whole-via-then-not-whole v ↦ absurd (search rules)
-        | then-not-whole-via-else-not-whole+then-not-all_fit v ↦ (search rules, differs_of (story_in c.into_inner-desk.result.kept) c.args.seats.items c.into_inner-desk.result.kept.kept (subst (λ seats. All (FitsIn (story_in c.into_inner-desk.result.kept).steps) seats → ⊥) v.as_slice.ensures.value v.if-not-all_fit.ensures))
+        | then-not-whole-via-else-not-whole+then-not-all_fit v ↦ (search rules, differs_of (story_in c.into_inner-desk.result.kept) c.args.seats.items c.into_inner-desk.result.kept.kept (subst (λ seats. All (FitsIn (story_in c.into_inner-desk.result.kept).opening (story_in c.into_inner-desk.result.kept).steps) seats → ⊥) v.as_slice.ensures.value v.if-not-all_fit.ensures))
       ]
       | else-whole w ↦ absurd (search rules)
     ]
@@ -20,4 +20,4 @@ pub returns-clause-lawful : goal.returns-clause-lawful
 returns-clause-lawful g c = lawful_of (story_in c.into_inner-desk.result.kept) c.history.result c.history.ensures
 
 pub returns-clause-each : goal.returns-clause-each
-returns-clause-each g c = subst (λ steps. All (FitsIn steps) c.args.seats.items) (sym c.history.ensures.steps) (subst (All (FitsIn (story_in c.into_inner-desk.result.kept).steps)) c.as_slice.ensures.value c.if-not-all_fit.ensures)
+returns-clause-each g c = subst (λ opening. All (FitsIn opening c.history.result.steps.items) c.args.seats.items) (sym c.history.ensures.opening) (subst (λ steps. All (FitsIn (story_in c.into_inner-desk.result.kept).opening steps) c.args.seats.items) (sym c.history.ensures.steps) (subst (All (FitsIn (story_in c.into_inner-desk.result.kept).opening (story_in c.into_inner-desk.result.kept).steps)) c.as_slice.ensures.value c.if-not-all_fit.ensures))
