@@ -20,7 +20,7 @@ pub record IsEmpty (sites : ℕ) (state : SiteState) : Type 0 where
 
 -- the first era, in which nothing was known and no seat had made a step
 pub record OpensEmpty (history : History) : Type 0 where
-  pub era : history.era ≡ 0
+  pub era : history.opening.era ≡ 0
   pub state : IsEmpty history.setup.sites history.opening.state
   pub counts : All (λ n. n ≡ 0) history.opening.counts.items
 

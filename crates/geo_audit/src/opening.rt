@@ -59,7 +59,7 @@ fn are_zero(counts: &[u64]) -> bool
 fn opens_empty(history: &History) -> bool
     ensures { MatchBool result (OpensEmpty history.now) (OpensEmpty history.now → ⊥) }
 {
-    history.era == 0
+    history.opening.era == 0
         && is_empty(&history.opening.state, history.setup.sites)
         && are_zero(history.opening.counts.as_slice())
 }

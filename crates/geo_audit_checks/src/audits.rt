@@ -338,7 +338,7 @@ fn a_take_waits_for_its_send(rt: HostRuntime) -> Result<(), Fail> {
 fn a_later_era_is_told(rt: HostRuntime) -> Result<(), Fail> {
     let mut histories = tied(&rt)?;
     let second = histories.get_mut(1).ok_or("no history")?;
-    second.era = 1;
+    second.opening.era = 1;
     assert_eq!(rt;
         audited(rt.alloc(), histories.as_slice())?,
         Told::LaterEra(2)

@@ -32,6 +32,7 @@ pub record IsOf (document : Members) (c : Config) : Type 0 where
   pub reap_after : number_at document (codes "reap_after") (Some (pos 60)) ≡ Some (pos c.reap_after)
   pub link : LinkIs (get_member (codes "link") document) c.link
   pub every : number_at document (codes "every") (Some (pos 100)) ≡ Some (pos c.every)
+  pub era : number_at document (codes "era") (Some (pos 1000000)) ≡ Some (pos c.era)
   pub sessions : number_at document (codes "sessions") None ≡ Some (pos c.sessions)
 
 -- the same of a draft, whose link may be none
@@ -41,4 +42,5 @@ pub record DraftIsOf (document : Members) (d : Draft) : Type 0 where
   pub reap_after : number_at document (codes "reap_after") (Some (pos 60)) ≡ Some d.reap_after
   pub link : (link : LinkKind) → d.link ≡ Some link → LinkIs (get_member (codes "link") document) link
   pub every : number_at document (codes "every") (Some (pos 100)) ≡ Some d.every
+  pub era : number_at document (codes "era") (Some (pos 1000000)) ≡ Some d.era
   pub sessions : number_at document (codes "sessions") None ≡ Some d.sessions

@@ -17,6 +17,7 @@ pub record IsInRange (c : Config) : Type 0 where
   pub max_records : (1 ≤ c.max_records) × (c.max_records ≤ 1000000)
   pub reap_after : c.reap_after ≤ 2147483647
   pub every : (1 ≤ c.every) × (c.every ≤ 60000)
+  pub era : (1000 ≤ c.era) × (c.era ≤ 1000000000)
   pub sessions : (1 ≤ c.sessions) × (c.sessions ≤ 1048576)
   pub count : (1 ≤ length c.sites.items) × (length c.sites.items ≤ 16)
   pub sites : All (SiteIsInRange c.link) c.sites.items

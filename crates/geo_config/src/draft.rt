@@ -40,6 +40,13 @@ const EVERY: NumberKey = NumberKey {
     default: Some(100),
 };
 
+const ERA: NumberKey = NumberKey {
+    name: "era",
+    least: 1_000,
+    most: 1_000_000_000,
+    default: Some(1_000_000),
+};
+
 const SESSIONS: NumberKey = NumberKey {
     name: "sessions",
     least: 1,
@@ -73,6 +80,7 @@ pub struct Draft {
     /// `None` is a link that there isn't.
     link: Option<LinkKind>,
     every: i64,
+    era: i64,
     sessions: i64,
     sites: Vec<SiteDraft>,
 }
@@ -97,6 +105,7 @@ impl Draft {
         let reap_after = REAP_AFTER.read(document)?;
         let link = link_of(document)?;
         let every = EVERY.read(document)?;
+        let era = ERA.read(document)?;
         let sessions = SESSIONS.read(document)?;
         let sites = site_drafts(alloc, document, asks_for_tcp(link))?;
         Ok(Draft {
@@ -105,6 +114,7 @@ impl Draft {
             reap_after,
             link,
             every,
+            era,
             sessions,
             sites,
         })
@@ -121,6 +131,7 @@ impl Draft {
         let reap_after = REAP_AFTER.within(self.reap_after)? as u32;
         let link = self.link.ok_or(ConfigFault::OutOfRange("link"))?;
         let every = EVERY.within(self.every)?;
+        let era = ERA.within(self.era)?;
         let sessions = SESSIONS.within(self.sessions)?;
         if self.sites.is_empty() || self.sites.len() > MOST_SITES {
             return Err(ConfigFault::OutOfRange("site"));
@@ -132,6 +143,7 @@ impl Draft {
             reap_after,
             link,
             every,
+            era,
             sessions,
             sites,
         })

@@ -137,7 +137,7 @@ fn has_only_known_of_site(alloc: Global, site: &Table, link: LinkKind) -> Result
 fn is_known(name: &str) -> bool {
     matches!(
         name,
-        "pages" | "max_records" | "reap_after" | "link" | "every" | "sessions" | "site"
+        "pages" | "max_records" | "reap_after" | "link" | "every" | "era" | "sessions" | "site"
     )
 }
 

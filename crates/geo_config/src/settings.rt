@@ -22,6 +22,8 @@ pub struct Config {
     pub link: LinkKind,
     /// How many milliseconds lie between two rounds of gossip, and of maintenance, 1 to 60,000; 100 where nothing is said.
     pub every: u64,
+    /// After how many steps a site's history begins anew, 1,000 to 1,000,000,000; 1,000,000 where nothing is said.
+    pub era: u64,
     /// How many connections each site accepts before it stops, 1 to 1,048,576.
     pub sessions: u64,
     /// The sites, 1 to 16. Site `k` stands at index `k - 1`.

@@ -203,6 +203,7 @@ fn run<
         working: AtomicU64::new(workers_of(config)),
         stop: &stop,
         every: Duration::from_millis(config.every),
+        era: config.era,
     };
     let mut clients = Vec::new(alloc);
     let mut ports = Vec::new(alloc);

@@ -93,7 +93,7 @@ fn gossip<R: Wait + rt::Clock, L: Ledger, K: Link + Drop, G: Gate>(
     unreachable!()
 }
 
-/// Maintains the site until the cluster stops.
+/// Maintains the site until the cluster stops, and lets its history begin anew where it is long.
 fn maintain<R: Wait + rt::Clock, L: Ledger, G: Gate>(
     rt: &R,
     alloc: Global,
@@ -103,6 +103,7 @@ fn maintain<R: Wait + rt::Clock, L: Ledger, G: Gate>(
 ) -> Seat<L> {
     for _ in rt.forever() {
         let _ = station.maintain(rt, alloc, &mut seat, SystemClock.now(rt));
+        let _ = station.renew(rt, alloc, shared.era);
         if shared.stops_within(rt) {
             return seat;
         }

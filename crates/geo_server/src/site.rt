@@ -38,6 +38,8 @@ pub(crate) struct Shared<'a, G> {
     pub(crate) stop: &'a AtomicU64,
     /// Between two rounds, and between two maintenances.
     pub(crate) every: Duration,
+    /// After how many steps a site's history begins anew.
+    pub(crate) era: u64,
 }
 
 impl<G> Shared<'_, G> {

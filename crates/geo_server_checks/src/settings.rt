@@ -11,7 +11,7 @@ fn told(alloc: Global, text: &str) -> Result<String, AllocError> {
     }
 }
 
-/// The values in the order in which the format lists them, each site behind a semicolon.
+/// The values in the order in which the format lists them, the era's length where it isn't the default, each site behind a semicolon.
 fn shown(alloc: Global, config: &Config) -> Result<String, AllocError> {
     let Config {
         pages,
@@ -19,12 +19,16 @@ fn shown(alloc: Global, config: &Config) -> Result<String, AllocError> {
         reap_after,
         link,
         every,
+        era,
         sessions,
         sites,
     } = config;
     let mut text = format!(in alloc;
         "{pages} {max_records} {reap_after} {link:?} {every} {sessions}"
     )?;
+    if *era != 1_000_000 {
+        text.push_str(format!(in alloc; " era {era}")?.as_str())?;
+    }
     for site in sites.iter() {
         let peer = site.peer.as_ref().map_or("-", String::as_str);
         let line = format!(in alloc; "; {} {} {} {peer}", site.number, site.client, site.workers)?;
@@ -49,7 +53,7 @@ fn with_sites(alloc: Global, count: u8) -> Result<String, AllocError> {
 }
 
 /// Keys one by one: lines at the top, lines for the site, what is told.
-const KEYS: [(&str, &str, &str); 56] = [
+const KEYS: [(&str, &str, &str); 61] = [
     ("", "", "64 100000 60 Memory 100 5; 1 a 4 -"),
     ("pages = 14", "", "out of range pages"),
     ("pages = 15", "", "15 100000 60 Memory 100 5; 1 a 4 -"),
@@ -96,6 +100,19 @@ const KEYS: [(&str, &str, &str); 56] = [
     ("every = 1", "", "64 100000 60 Memory 1 5; 1 a 4 -"),
     ("every = 60000", "", "64 100000 60 Memory 60000 5; 1 a 4 -"),
     ("every = 60001", "", "out of range every"),
+    ("era = 999", "", "out of range era"),
+    (
+        "era = 1000",
+        "",
+        "64 100000 60 Memory 100 5 era 1000; 1 a 4 -",
+    ),
+    (
+        "era = 1000000000",
+        "",
+        "64 100000 60 Memory 100 5 era 1000000000; 1 a 4 -",
+    ),
+    ("era = 1000000001", "", "out of range era"),
+    ("era = \"1000\"", "", "wrong type era"),
     ("every = 2026-01-01", "", "wrong type every"),
     ("site = []", "", "not toml"),
     ("", "number = 1", "not toml"),

@@ -16,6 +16,7 @@ returns-clause-lawful c =
         max_records = was.max_records;
         reap_after = was.reap_after;
         every = was.every;
+        era = was.era;
         sessions = was.sessions;
         count = omega (arith, was.count, same);
         sites = All-permutation (SiteIsInRange c.args.config.link) _ _ moved was.sites;
