@@ -3,7 +3,7 @@ ghost use Rattle.std.specs.Prelude.{◌≡◌, true, IfOk, OnOk};
 ghost use Rattle.geo_versions.specs.Maps.{record_in};
 ghost use Rattle.geo_delta.specs.Changes.{KnowsBut, Traced, nothing_pending};
 
-use super::show::{push_number, push_parcel};
+use super::show::{frame, push_number, push_parcel};
 use geo_delta::{Changes, Parcel, cut};
 use geo_lattice::Twin;
 use geo_stamp::{Stamp, Vector};
@@ -70,9 +70,13 @@ fn lose(site: &mut Site, alloc: Global) -> Result<(), Fail>
     Ok(())
 }
 
-/// The key of a number: its digits.
+/// The key of a number: its digits, and so many bytes before those of a great one that the key takes memory.
 fn key(alloc: Global, number: usize) -> Result<Key, Fail> {
-    let text = format!(in alloc; "{number}")?;
+    let text = if number < 10_000 {
+        format!(in alloc; "{number}")?
+    } else {
+        format!(in alloc; "a-key-that-takes-memory-{number}")?
+    };
     Ok(Key::new(alloc, text.as_bytes())?.ok_or("no key")?)
 }
 
@@ -171,15 +175,16 @@ fn push_recent(
     }
 }
 
-/// The parcel from a base, and a copy of it.
-fn push_cut(out: &mut Vec<u8>, site: &Site, alloc: Global, base: &Vector) -> Result<(), AllocError>
+/// The parcel from a base, a copy of it, and how long its frame is.
+fn push_cut(out: &mut Vec<u8>, site: &Site, alloc: Global, base: &Vector) -> Result<(), Fail>
     requires { Traced nothing_pending (record_in site.now.versions) site.now.changes }
 {
     let parcel = parcel(site, alloc, base)?;
     push_parcel(out, &parcel)?;
     out.extend_from_slice(b" and ")?;
     push_parcel(out, &parcel.twin(alloc)?)?;
-    out.extend_from_slice(b"; ")
+    out.extend_from_slice(b" in ")?;
+    Ok(push_number(out, frame(alloc, &parcel)?.len() as u64, b" bytes; ")?)
 }
 
 fn step(site: &mut Site, alloc: Global, op: Op, out: &mut Vec<u8>) -> Result<(), Fail>
@@ -192,7 +197,7 @@ fn step(site: &mut Site, alloc: Global, op: Op, out: &mut Vec<u8>) -> Result<(),
         Op::Value(number) => write_at(site, alloc, number, 1, 1, empty_value()),
         Op::Lose => lose(site, alloc),
         Op::Recent(first, second) => Ok(push_recent(out, site, alloc, &clocks(first, second))?),
-        Op::Cut(first, second) => Ok(push_cut(out, site, alloc, &clocks(first, second))?),
+        Op::Cut(first, second) => push_cut(out, site, alloc, &clocks(first, second)),
     }
 }
 

@@ -1,7 +1,7 @@
 //! Frames of the worked example, and of the smallest change of it that each fault tells.
-use super::show::push_parcel;
+use super::show::{frame, push_parcel};
 use geo_delta::Parcel;
-use geo_frame::{FrameFault, decode, encode, fits, wanted};
+use geo_frame::{FrameFault, decode, wanted};
 use geo_lattice::{Items, Lww, Pair};
 use geo_stamp::{Stamp, Vector};
 use geo_versions::{Body, Digest, Key, Length, Rec};
@@ -46,14 +46,6 @@ fn parcel(records: Vec<(Key, Rec)>) -> Parcel {
         floor: None,
         records: Items::of(records),
     }
-}
-
-/// The bytes of a parcel's frame.
-fn frame(alloc: Global, parcel: &Parcel) -> Result<Vec<u8>, Fail> {
-    if !fits(parcel) {
-        return Err(Fail::new("not within the ranges"));
-    }
-    Ok(encode(alloc, parcel)?)
 }
 
 /// The bytes of the example's frame with its record, or without one.
@@ -106,12 +98,45 @@ fn told(alloc: Global, parts: &[Part]) -> Result<Vec<u8>, Fail> {
     Ok(out)
 }
 
+/// What these parts tell with their SHA-256 behind them.
+fn told_sealed(alloc: Global, parts: &[Part]) -> Result<Vec<u8>, Fail> {
+    let mut bytes = joined(alloc, parts)?;
+    let digest = Digest::of(bytes.as_slice());
+    bytes.extend_from_slice(digest.bytes().as_slice())?;
+    let mut out = Vec::new(alloc);
+    push_frame(&mut out, alloc, bytes.as_slice())?;
+    Ok(out)
+}
+
+/// How long the first beginning of the example is that is not short.
+fn first_not_short(alloc: Global) -> usize {
+    for length in 0..EXAMPLE.len() {
+        let Err(FrameFault::Short) = decode(alloc, &EXAMPLE[..length]) else {
+            return length;
+        };
+    }
+    EXAMPLE.len()
+}
+
 #[test]
 fn tells_the_parcel_or_the_fault(rt: HostRuntime) -> Result<(), Fail> {
     for (parts, parcel) in table::FRAMES {
         assert_eq!(rt; told(rt.alloc(), parts)?.as_slice(), *parcel);
     }
     Ok(())
+}
+
+#[test]
+fn tells_the_first_fault_of_the_fields(rt: HostRuntime) -> Result<(), Fail> {
+    for (parts, fault) in table::SEALED {
+        assert_eq!(rt; told_sealed(rt.alloc(), parts)?.as_slice(), *fault);
+    }
+    Ok(())
+}
+
+#[test]
+fn each_beginning_is_short(rt: HostRuntime) {
+    assert_eq!(rt; first_not_short(rt.alloc()), 159);
 }
 
 #[test]

@@ -1,8 +1,18 @@
 //! Parcels as texts.
 use geo_delta::Parcel;
+use geo_frame::{encode, fits};
 use geo_stamp::{Stamp, Vector};
 use geo_versions::{Body, Digest, Key, Rec};
-use std::alloc::AllocError;
+use std::alloc::{AllocError, Global};
+use std::test::Fail;
+
+/// The bytes of a parcel's frame.
+pub fn frame(alloc: Global, parcel: &Parcel) -> Result<Vec<u8>, Fail> {
+    if !fits(parcel) {
+        return Err(Fail::new("not within the ranges"));
+    }
+    Ok(encode(alloc, parcel)?)
+}
 
 /// A number and what stands behind it.
 pub fn push_number(out: &mut Vec<u8>, number: u64, behind: &[u8]) -> Result<(), AllocError> {

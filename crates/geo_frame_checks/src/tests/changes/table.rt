@@ -14,7 +14,7 @@ pub enum Op {
     Lose,
     /// Shows how many records the changes give to one who knows these clocks of both sites.
     Recent(u32, u32),
-    /// Shows the parcel to one who knows these clocks of both sites, and a copy of it.
+    /// Shows the parcel to one who knows these clocks of both sites, a copy of it, and how long its frame is.
     Cut(u32, u32),
 }
 
@@ -55,6 +55,8 @@ pub const ROWS: &[(&[Op], &[u8])] = &[
         ],
         b"2 reach 0",
     ),
+    // A key that takes memory of its own is noted too.
+    (&[Op::Delete(10_000, 1, 1), Op::Recent(0, 0)], b"1 reach 0"),
     // Lost changes are known.
     (
         &[
@@ -69,8 +71,8 @@ pub const ROWS: &[(&[Op], &[u8])] = &[
     (
         &[Op::Value(5), Op::Cut(0, 0), Op::Cut(1, 0)],
         b"1 to 2, 0 0 up to 1 0: 5 1.1 empty 5 0 until 1.1 0; \
-          and 1 to 2, 0 0 up to 1 0: 5 1.1 empty 5 0 until 1.1 0;; \
-          1 to 2, 1 0 up to 1 0: and 1 to 2, 1 0 up to 1 0:; \
+          and 1 to 2, 0 0 up to 1 0: 5 1.1 empty 5 0 until 1.1 0; in 159 bytes; \
+          1 to 2, 1 0 up to 1 0: and 1 to 2, 1 0 up to 1 0: in 89 bytes; \
           reach 0",
     ),
 ];

@@ -117,3 +117,67 @@ pub const FRAMES: &[(&[Part], &[u8])] = &[
     (&[(0, 58, &[0x20]), (59, 127, &SPACE)], b"Field"),
     (TWICE, b"Order"),
 ];
+
+/// Parts that are a frame once the SHA-256 of them stands behind, and the first fault of their fields.
+pub const SEALED: &[(&[Part], &[u8])] = &[
+    (
+        &[(0, 127, b"")],
+        b"1 to 2, 0 0 up to 1 0: e 1.1 empty 5 0 until 1.1 0;",
+    ),
+    // From no site, from a third of two, to no site, to a third; of one site, and of seventeen.
+    (&[(0, 9, &[0]), (10, 127, b"")], b"Field"),
+    (&[(0, 9, &[3]), (10, 127, b"")], b"Field"),
+    (&[(0, 10, &[0]), (11, 127, b"")], b"Field"),
+    (&[(0, 10, &[3]), (11, 127, b"")], b"Field"),
+    (&[(0, 11, &[1]), (12, 127, b"")], b"Field"),
+    (&[(0, 11, &[17]), (12, 127, b"")], b"Field"),
+    // A clock behind the last time, in each vector.
+    (&[(0, 12, &[1]), (13, 127, b"")], b"Field"),
+    (&[(0, 28, &[1]), (29, 127, b"")], b"Field"),
+    // A floor with a site and no time, with a time and no site, and behind the last time.
+    (&[(0, 52, &[1]), (53, 127, b"")], b"Field"),
+    (&[(0, 51, &[1]), (52, 127, b"")], b"Field"),
+    (&[(0, 44, &[1]), (45, 52, &[1]), (53, 127, b"")], b"Field"),
+    // No record is counted where one is there, and one more than are there.
+    (&[(0, 56, &[0]), (57, 127, b"")], b"Field"),
+    (&[(0, 56, &[2]), (57, 127, b"")], b"Field"),
+    // As many as can be counted: nothing is reserved by the count.
+    (&[(0, 53, b"\xff\xff\xff\xff"), (57, 127, b"")], b"Field"),
+    // A byte behind the records.
+    (&[(0, 8, &[160]), (9, 127, &[0])], b"Field"),
+    // A key of no bytes, and one that passes the end.
+    (&[(0, 57, &[0]), (58, 127, b"")], b"Field"),
+    (&[(0, 57, &[250]), (58, 127, b"")], b"Field"),
+    // A value at no time, behind the last time, of no site, and of a third; and one longer than a mebibyte.
+    (&[(0, 67, &[0]), (68, 127, b"")], b"Field"),
+    (&[(0, 60, &[1]), (61, 127, b"")], b"Field"),
+    (&[(0, 68, &[0]), (69, 127, b"")], b"Field"),
+    (&[(0, 68, &[3]), (69, 127, b"")], b"Field"),
+    (&[(0, 106, &[0x10, 0, 1]), (109, 127, b"")], b"Field"),
+    // An expiry with an unknown tag, at no time, and of a third site.
+    (&[(0, 109, &[2]), (110, 127, b"")], b"Field"),
+    (&[(0, 117, &[0]), (118, 127, b"")], b"Field"),
+    (&[(0, 118, &[3]), (119, 127, b"")], b"Field"),
+    // A record with neither register.
+    (&[(0, 8, &[93]), (9, 59, &[0, 0])], b"Field"),
+    // The key of the second record is that of the first, and a lesser one.
+    (
+        &[
+            (0, 8, &[229]),
+            (9, 56, &[2]),
+            (57, 127, b""),
+            (57, 127, b""),
+        ],
+        b"Order",
+    ),
+    (
+        &[
+            (0, 8, &[229]),
+            (9, 56, &[2]),
+            (57, 127, b""),
+            (57, 58, b"d"),
+            (59, 127, b""),
+        ],
+        b"Order",
+    ),
+];
