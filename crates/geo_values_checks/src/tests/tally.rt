@@ -31,6 +31,26 @@ fn given(alloc: Global, seats: usize) -> Result<usize, TallyError> {
     Ok(given.len())
 }
 
+/// What a seat reads of each counter.
+fn reads(tally: &Tally, seat: &mut TallySeat) -> [u64; 5]
+    requires { seat.old.tally ≡ tally.now.tally }
+{
+    [
+        tally.read(seat, Counter::Sessions),
+        tally.read(seat, Counter::Requests),
+        tally.read(seat, Counter::Faults),
+        tally.read(seat, Counter::Rounds),
+        tally.read(seat, Counter::FramesRefused),
+    ]
+}
+
+/// What a seat of a new tally reads of each counter.
+fn new_reads(alloc: Global) -> Option<[u64; 5]> {
+    let (tally, mut seats) = Tally::new(alloc, 2).ok()?;
+    let mut seat = seats.pop()?;
+    Some(reads(&tally, &mut seat))
+}
+
 /// The sums of a new tally.
 fn new_sums(alloc: Global, seats: usize) -> Option<[u64; 5]> {
     let (tally, seats) = Tally::new(alloc, seats).ok()?;
@@ -45,6 +65,7 @@ fn a_tally_has_1_to_256_seats_and_five_counters(rt: HostRuntime) {
     for (place, counter) in COUNTERS.into_iter().enumerate() {
         assert_eq!(rt; counter.place(), place);
     }
+    assert_eq!(rt; new_reads(rt.alloc()), Some([0; 5]));
     assert_eq!(rt; new_sums(rt.alloc(), 256), Some([0; 5]));
 }
 
