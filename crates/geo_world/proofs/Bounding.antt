@@ -1,11 +1,10 @@
 -- What vectors promise is kept as operations are issued, sent and taken.
-use Rattle.std.proofs.Common.{◌≡◌, ◌≢◌, ℕ, zero, suc, ◌+◌, ◌≤◌, ◌<◌, max, Bool, cond, ◌==◌, List, [], ◌∷◌, ◌++◌, length, Some, refl, sym, ap, ◌∙◌, subst, ◌⊎◌, inl, inr, arith, slice_get, slice_set, slice_index, slice_index_or, get_or, replicate}
+use Rattle.std.proofs.Common.{◌≡◌, ◌≢◌, ℕ, zero, suc, ◌+◌, ◌≤◌, ◌<◌, max, cond, ◌==◌, List, [], ◌∷◌, ◌++◌, length, Some, refl, sym, ap, ◌∙◌, subst, ◌⊎◌, inl, inr, arith, slice_get, slice_set, slice_index, slice_index_or, replicate}
 use Rattle.std.proofs.lemmas.Bool.{cases_eq, cases_lt}
 use Rattle.std.proofs.lemmas.Bool.Decides.{eqb_tells}
 use Rattle.std.proofs.lemmas.Option.{slice_get_within}
 use Rattle.std.proofs.lemmas.List.{get_or_append_left}
 use Rattle.std.proofs.Math.Seq.{get_or-append_seam}
-use Rattle.geo_stamp.specs.Stamps.{Moment}
 use Rattle.geo_stamp.specs.Acks.{row_of, heard, none_heard}
 use Rattle.geo_stamp.specs.Vectors.{entry_of, zeros, vector_joined, raised, greatest_of, Knows}
 use Rattle.geo_stamp.specs.Joins.{joined_assoc, joined_comm, joined_same}
@@ -17,7 +16,7 @@ use Rattle.geo_site.specs.Entries.{Held}
 use Rattle.geo_site.specs.Machine.{SiteState, clock_of, issue, issue_all, act_held, without, victim_by}
 use Rattle.geo_site.specs.Schedule.{Known, StableAt, still_held, settles, new_operation, issues}
 use Rattle.geo_site.specs.Agreement.{StateOf}
-use Rattle.geo_site.proofs.Entries.{Within, entry_joined, entry_raised, entry_stays}
+use Rattle.geo_site.proofs.Entries.{Within, entry_joined, entry_stays}
 use Rattle.geo_site.proofs.Sound.{here, there, among_left, among_right}
 use Rattle.geo_site.proofs.Steps.{among_append, state_issues}
 use Rattle.geo_site.specs.Sites.{heard_in}

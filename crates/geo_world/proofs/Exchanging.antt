@@ -1,5 +1,5 @@
 -- Parcels that are sent and taken.
-use Rattle.std.proofs.Common.{◌≡◌, ◌≢◌, ℕ, zero, suc, ◌+◌, ◌≤◌, ◌<◌, max, Bool, true, false, cond, ◌==◌, ◌&&◌, ◌||◌, not, nat_le, List, [], ◌∷◌, ◌++◌, length, Option, None, Some, refl, sym, ap, ◌∙◌, subst, subst₂, inl, inr, arith, true≢false, slice_get, slice_set, slice_index, slice_index_or, get_or}
+use Rattle.std.proofs.Common.{◌≡◌, ◌≢◌, ℕ, suc, ◌+◌, ◌≤◌, Bool, true, false, cond, ◌==◌, ◌&&◌, ◌||◌, not, nat_le, List, [], ◌∷◌, ◌++◌, length, Option, None, Some, refl, sym, ap, ◌∙◌, subst, subst₂, inl, inr, arith, true≢false, slice_get, slice_set, slice_index_or, get_or}
 use Rattle.std.proofs.lemmas.Bool.{cases_eq}
 use Rattle.std.proofs.lemmas.Bool.Decides.{eqb_tells, nat_tests}
 use Rattle.std.proofs.lemmas.Option.{slice_get_within}
@@ -10,7 +10,6 @@ use Rattle.geo_stamp.specs.Acks.{row_of, heard, with_own, horizon_of}
 use Rattle.geo_stamp.specs.Vectors.{entry_of, vector_joined, raised, greatest_of}
 use Rattle.geo_versions.specs.Operations.{Operation, Among, Record, latest}
 use Rattle.geo_versions.specs.Maps.{Rec, rec_means, listed_at, is_unknown, since, Rising}
-use Rattle.geo_versions.specs.declared.body.Body.{Body}
 use Rattle.geo_delta.specs.declared.parcel.Parcel.{Parcel}
 use Rattle.geo_site.specs.declared.site.Site.{Site}
 use Rattle.geo_site.specs.declared.event.Event.TheVariants.{Take}
@@ -22,8 +21,8 @@ use Rattle.geo_site.specs.declared.refusal.TakeError.{TakeError}
 use Rattle.geo_site.specs.declared.refusal.TakeError.TheVariants.{NotForMe, UnknownSite, Gap}
 use Rattle.geo_site.specs.declared.refusal.TakeError.TheVariants as takes
 use Rattle.geo_site.specs.Entries.{Held}
-use Rattle.geo_site.specs.Machine.{SiteState, Same, take, sifted_delta, knows_record, knows_floor}
-use Rattle.geo_site.specs.Sites.{Remains, heard_in, horizon_in, state_in, delta_of, knows_all, is_sound, Rests, Stays, Takes, RefusesFor, IsSent, SendRefuses}
+use Rattle.geo_site.specs.Machine.{Same, take, sifted_delta, knows_record, knows_floor}
+use Rattle.geo_site.specs.Sites.{Remains, heard_in, horizon_in, state_in, delta_of, knows_all, is_sound, Rests, Takes, RefusesFor, IsSent, SendRefuses}
 use Rattle.geo_site.specs.Schedule.{Known, StableAt, settles, still_held, carried, addressee, happens, Lawful, TakeRefusedFor, SendRefusedFor}
 use Rattle.geo_site.specs.Agreement.{UpTo, Tells, StateOf}
 use Rattle.geo_versions.proofs.InOrder.{each_listed}
@@ -34,7 +33,7 @@ use Rattle.geo_world.specs.Agreement.{SiteKnown, about, Stands, Carries, Agrees}
 use Rattle.geo_site.proofs.Entries.{length_joined}
 use Rattle.geo_world.specs.Bounds.{Bounded, vectors, rows, IsAbove}
 use Rattle.geo_world.proofs.Bounding.{left_known, bounded_takes, stable_takes, bounded_sends, above_trans, above_raised, above_joined, vector_was, vector_here, vector_there, row_was, row_here, row_there, heard_here, heard_there}
-use Rattle.geo_world.proofs.Worlds.{some_none, get_appended}
+use Rattle.geo_world.proofs.Worlds.{get_appended}
 use Rattle.geo_world.proofs.Horizon.{horizon_at_most, horizon_at_least, horizon_in_range, reached_heard, own_here, stable_below}
 use Rattle.geo_world.proofs.Changing.{reached_stable, agrees_changed, agrees_still, settled_about}
 

@@ -1,10 +1,10 @@
 -- The horizon of a site: no entry of what it knows and heard is below it, so that every site knows each operation up to it.
-use Rattle.std.proofs.Common.{◌≡◌, ◌≢◌, ℕ, zero, suc, ◌+◌, ◌≤◌, ◌<◌, min, List, [], ◌∷◌, length, take, Some, refl, sym, ap, ◌∙◌, subst, ◌⊎◌, inl, inr, arith, get_or, slice_set, slice_index_or}
+use Rattle.std.proofs.Common.{◌≡◌, ◌≢◌, ℕ, zero, suc, ◌+◌, ◌≤◌, ◌<◌, List, [], ◌∷◌, length, take, refl, sym, ap, ◌∙◌, subst, inl, inr, arith, get_or, slice_set, slice_index_or}
 use Rattle.std.proofs.lemmas.Bool.{cases_eq}
 use Rattle.geo_stamp.specs.Stamps.{last_time}
 use Rattle.geo_stamp.specs.Acks.{row_of, heard, with_own, least_in, horizon_of}
-use Rattle.geo_stamp.specs.Vectors.{entry_of, least_of, vector_joined, Knows}
-use Rattle.geo_versions.specs.Operations.{Operation, Among, latest}
+use Rattle.geo_stamp.specs.Vectors.{entry_of, least_of, vector_joined}
+use Rattle.geo_versions.specs.Operations.{Operation}
 use Rattle.geo_delta.specs.declared.parcel.Parcel.{Parcel}
 use Rattle.geo_site.specs.Machine.{SiteState, clock_of, issue, issue_all}
 use Rattle.geo_site.specs.Schedule.{StableAt}

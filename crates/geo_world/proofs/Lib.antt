@@ -12,3 +12,4 @@ pub mod Touching
 pub mod Happening
 pub mod Horizon
 pub mod Alone
+mod Coming

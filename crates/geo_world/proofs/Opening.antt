@@ -1,5 +1,5 @@
 -- A world that was just opened: no site knows anything.
-use Rattle.std.proofs.Common.{◌≡◌, ℕ, zero, suc, ◌+◌, ◌≤◌, ◌<◌, max, List, [], ◌∷◌, ◌++◌, length, None, Some, refl, sym, ap, ◌∙◌, subst, subst₂, inl, inr, arith, slice_get, Bool, true, false, ◌&&◌, nat_le, true≢false, ◌⊎◌}
+use Rattle.std.proofs.Common.{◌≡◌, ℕ, zero, suc, ◌+◌, ◌≤◌, max, List, [], ◌∷◌, ◌++◌, length, None, Some, refl, sym, ap, ◌∙◌, subst, subst₂, inl, inr, arith, slice_get, Bool, true, false, ◌&&◌, nat_le, true≢false, ◌⊎◌}
 use Rattle.geo_stamp.specs.Acks.{row_of, none_heard}
 use Rattle.geo_stamp.specs.Vectors.{entry_of, zeros, vector_joined}
 use Rattle.std.proofs.lemmas.Bool.Decides.{nat_tests}
@@ -17,7 +17,7 @@ use Rattle.geo_delta.specs.declared.parcel.Parcel.{Parcel}
 use Rattle.geo_world.specs.Agreement.{Stands, Agrees, nothing_about}
 use Rattle.geo_world.specs.Bounds.{Bounded, vectors, rows, IsAbove}
 use Rattle.geo_world.proofs.Bounding.{at_cases, at_place, bounded_nothing, none_row}
-use Rattle.geo_world.proofs.Worlds.{some_none, some_same, get_appended}
+use Rattle.geo_world.proofs.Worlds.{some_none, get_appended}
 
 -- a site that knows nothing, and heard nothing
 pub record Silent (n number : ℕ) (site : Site) (limits : Limits) : Type 0 where

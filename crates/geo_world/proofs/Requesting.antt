@@ -3,7 +3,6 @@ use Rattle.std.proofs.Common.{◌≡◌, ℕ, ◌==◌, Bool, true, false, cond,
 use Rattle.std.specs.Prelude.{Result}
 use Rattle.geo_versions.specs.Operations.{Act, latest}
 use Rattle.geo_grammar.specs.declared.request.Request.{Request}
-use Rattle.geo_grammar.specs.declared.request.Request.TheVariants as request
 use Rattle.geo_memcache.specs.Asks.{request_of}
 use Rattle.geo_memcache.specs.Decisions.{decided}
 use Rattle.geo_memcache.specs.declared.ask.Ask.{Ask}

@@ -1,5 +1,5 @@
 -- One event more of a schedule.
-use Rattle.std.proofs.Common.{◌≡◌, ℕ, zero, suc, ◌+◌, ◌<◌, ◌≤◌, Bool, true, false, ◌&&◌, List, [], ◌∷◌, ◌++◌, length, take, Some, refl, sym, ap, ◌∙◌, subst, subst₂, arith, true≢false, get_or}
+use Rattle.std.proofs.Common.{◌≡◌, ℕ, zero, suc, ◌+◌, ◌<◌, ◌≤◌, Bool, true, false, ◌&&◌, List, [], ◌∷◌, ◌++◌, length, take, Some, refl, sym, ap, ◌∙◌, subst, subst₂, arith, true≢false, get_or, inr}
 use Rattle.std.proofs.lemmas.List.{take_more, take_all}
 use Rattle.std.specs.List.{list_all}
 use Rattle.geo_delta.specs.declared.parcel.Parcel.{Parcel}
@@ -8,7 +8,7 @@ use Rattle.geo_site.specs.declared.event.Event.{Event}
 use Rattle.geo_site.specs.declared.event.Trace.{Trace}
 use Rattle.geo_site.specs.Schedule.{Known, happens, known, Lawful, EachLawful}
 use Rattle.geo_site.proofs.Served.{lawful_more, known_more}
-use Rattle.geo_world.specs.There.{is_there, is_in_time, all_in_time, EachThere, IsMissing}
+use Rattle.geo_world.specs.There.{is_there, all_there, is_in_time, all_in_time, EachThere, IsMissing}
 use Rattle.geo_versions.specs.Operations.{Operation, State, version_in, SameOperations}
 use Rattle.geo_versions.proofs.Meaning.{state_same}
 use Rattle.geo_site.specs.Sites.{state_in}
@@ -104,19 +104,22 @@ same_versions one other ks ls a b same =
     }
 
 -- an event that is not there, or want of memory, ends the run
-pub step_refused : (old new : World) (setups : List Setup) (events : List Event) (traces : List Trace) (index : ℕ) (event : Event) (why : WorldError) → are_setups setups ≡ true → length old.sites.items ≡ length setups → HasRun (start setups) old.sites.items old.parcels.items events traces index → index < length events → event ≡ get_or events index event
+pub step_refused : (old new : World) (setups : List Setup) (events : List Event) (traces : List Trace) (index : ℕ) (event : Event) (why : WorldError) → are_setups setups ≡ true → all_there (length setups) 0 events ≡ true → length old.sites.items ≡ length setups → HasRun (start setups) old.sites.items old.parcels.items events traces index → index < length events → event ≡ get_or events index event
     → StepDoes old new event index (Err why) → RunRefuses setups events why
-step_refused old new setups events traces index event Setups good many run lt at does = absurd does
-step_refused old new setups events traces index event (BadEvent i) good many run lt at does = (
+step_refused old new setups events traces index event Setups good named many run lt at does = absurd does
+step_refused old new setups events traces index event (BadEvent i) good named many run lt at does = (
   good,
-  subst (IsMissing (length setups) (start setups) events) (sym does.0) (record {
-    traces = traces;
-    many = run.told;
-    lawful = run.lawful;
-    there = subst (λ n. EachThere n (start setups) (take index events) traces) many run.there;
-    event = event;
-    at = slice_get-get_or events index event lt ∙ ap Some (sym at);
-    missing = (λ j. is_there (sym many j) (run.agrees.as_many j) event) ∙ does.1;
-  }),
+  inr (
+    named,
+    subst (IsMissing (length setups) (start setups) events) (sym does.0) (record {
+      traces = traces;
+      many = run.told;
+      lawful = run.lawful;
+      there = subst (λ n. EachThere n (start setups) (take index events) traces) many run.there;
+      event = event;
+      at = slice_get-get_or events index event lt ∙ ap Some (sym at);
+      missing = (λ j. is_there (sym many j) (run.agrees.as_many j) event) ∙ does.1;
+    }),
+  ),
 )
-step_refused old new setups events traces index event Memory good many run lt at does = good
+step_refused old new setups events traces index event Memory good named many run lt at does = (good, named)

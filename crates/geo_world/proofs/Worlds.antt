@@ -4,13 +4,8 @@ use Rattle.std.proofs.lemmas.Bool.Decides.{eqb_tells, nat_tests}
 use Rattle.std.proofs.lemmas.Option.{slice_get-get_or}
 use Rattle.geo_site.specs.declared.setup.Setup.{Setup}
 use Rattle.geo_site.specs.declared.setup.Limits.{Limits}
-use Rattle.geo_site.specs.declared.site.Site.{Site}
-use Rattle.geo_delta.specs.declared.parcel.Parcel.{Parcel}
-use Rattle.geo_site.specs.Schedule.{nothing_known}
-use Rattle.geo_site.specs.Entries.{none_counted}
 use Rattle.geo_world.specs.Setups.{is_setup, are_numbered, are_setups, limits_at, limits_of as told_of}
 use Rattle.geo_world.specs.There.{is_site}
-use Rattle.geo_world.specs.Agreement.{Stands, Agrees, nothing_about}
 
 pub some_same : {A : Type 0} {x y : A} → Some x ≡ Some y → x ≡ y
 some_same h = cc

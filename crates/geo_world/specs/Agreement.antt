@@ -1,5 +1,5 @@
 -- Sites and parcels of the code are what is known of them.
-use Rattle.std.specs.Prelude.{Result, Ok, Err, ◌≡◌, ◌≢◌, ℕ, ◌+◌, ◌≤◌, true, false, List, [], length, Option, Some, None, slice_get, slice_index_or}
+use Rattle.std.specs.Prelude.{Result, Ok, Err, ◌≡◌, ◌≢◌, ◌⊎◌, ℕ, ◌+◌, ◌≤◌, true, false, List, [], length, Option, Some, None, slice_get, slice_index_or}
 use Rattle.geo_stamp.specs.Acks.{row_of, with_own}
 use Rattle.geo_stamp.specs.Vectors.{entry_of}
 use Rattle.geo_stamp.specs.Stamps.{last_time}
@@ -21,7 +21,7 @@ use Rattle.geo_world.specs.declared.outcome.WorldError.{WorldError}
 use Rattle.geo_world.specs.declared.outcome.WorldError.TheVariants.{Setups, BadEvent, Memory}
 use Rattle.geo_world.specs.declared.world.World.{World}
 use Rattle.geo_world.specs.Setups.{are_setups, start}
-use Rattle.geo_world.specs.There.{is_there, IsMissing}
+use Rattle.geo_world.specs.There.{is_there, all_there, CannotCome, IsMissing}
 use Rattle.geo_world.specs.Bounds.{Bounded, vectors, rows}
 
 -- what is known of one site
@@ -92,7 +92,7 @@ abbrev pub StepDoes : World → World → Event → ℕ → Result Trace WorldEr
 StepDoes old new event index (Ok trace) = (is_there (length old.sites.items) (length old.parcels.items) event ≡ true) × ((w : Known) → Agrees old.sites.items old.parcels.items w → Lawful w event trace × Agrees new.sites.items new.parcels.items (happens w event trace))
 StepDoes old new event index (Err Setups) = ⊥
 StepDoes old new event index (Err (BadEvent at)) = (at ≡ index) × (is_there (length old.sites.items) (length old.parcels.items) event ≡ false)
-StepDoes old new event index (Err Memory) = Unit {0}
+StepDoes old new event index (Err Memory) = is_there (length old.sites.items) (length old.parcels.items) event ≡ true
 
 -- the site of an event
 abbrev pub site_of : Event → ℕ
@@ -122,8 +122,9 @@ pub record DoesAlone (old new : List Site) (event : Event) (trace : Trace) : Typ
   pub others : (k : ℕ) → site_of event ≢ k + 1 → slice_get new k ≡ slice_get old k
   pub removes : Removes old new event trace
 
--- why a run has no outcome
+-- why a run has no outcome: an event cannot be there, or is not there since a send before it wanted memory; or memory was wanted where
+-- each event can be there
 abbrev pub RunRefuses : List Setup → List Event → WorldError → Type 0
 RunRefuses setups events Setups = are_setups setups ≡ false
-RunRefuses setups events (BadEvent index) = (are_setups setups ≡ true) × IsMissing (length setups) (start setups) events index
-RunRefuses setups events Memory = are_setups setups ≡ true
+RunRefuses setups events (BadEvent index) = (are_setups setups ≡ true) × (CannotCome (length setups) events index ⊎ ((all_there (length setups) 0 events ≡ true) × IsMissing (length setups) (start setups) events index))
+RunRefuses setups events Memory = (are_setups setups ≡ true) × (all_there (length setups) 0 events ≡ true)

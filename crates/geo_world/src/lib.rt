@@ -1,8 +1,8 @@
 //! Schedules of events over several sites, and the theorem about them.
 //!
-//! [`run_schedule`] runs any list of commands, evictions, sends, takes, ticks and reaps, in which parcels may be lost, repeated and
-//! reordered, and its contract says what every site then holds and what every client was answered. It stands on the public contracts of sites
-//! and parcels alone.
+//! [`run_schedule`] runs any list of commands, evictions, sends, takes, removals, ticks and reaps, in which parcels may be lost,
+//! repeated and reordered, and its contract says what every site then holds and what every client was answered. It stands on the
+//! public contracts of sites and parcels alone.
 #![tactic(auto)]
 
 mod open;
@@ -10,8 +10,11 @@ mod outcome;
 pub mod plain;
 mod run;
 mod step;
+mod there;
 mod world;
 
 pub use open::are_good;
 pub use outcome::{Outcome, WorldError};
 pub use run::{LAST_MOMENT, are_in_time, run_schedule};
+pub use there::first_missing;
+pub use world::World;

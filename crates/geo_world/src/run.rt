@@ -6,9 +6,11 @@ ghost use Rattle.geo_site.specs.Schedule.{Known, known, EachLawful};
 ghost use Rattle.geo_site.specs.Served.{NoCollision, AllServe};
 ghost use Rattle.geo_world.specs.Setups.{are_setups, start};
 ghost use Rattle.geo_world.specs.There.{is_in_time, all_in_time, EachThere};
-ghost use Rattle.geo_world.specs.Agreement.{ShowsVersions, SameVersions, RunRefuses};
+ghost use Rattle.geo_world.specs.Agreement.{Agrees, ShowsVersions, SameVersions, RunRefuses};
 
+use crate::open::are_good;
 use crate::outcome::{Outcome, WorldError};
+use crate::there::first_missing;
 use crate::world::World;
 use geo_site::{Event, Setup};
 use std::alloc::Global;
@@ -35,16 +37,20 @@ pub fn are_in_time(events: &[Event]) -> bool
     events.iter().all(is_in_time_event)
 }
 
-/// Runs a schedule: any list of commands, evictions, sends, takes, ticks and reaps over the sites that the setups make, in which
-/// a parcel may be taken never, often and in any order. An eviction drops the bytes of a key at one site, a tick carries out a
-/// flush that waits and is due, and a reap deletes what a site wrote itself and ended long ago: they are events like the others,
-/// and come when the schedule says. A store evicts by itself where its slab class is full, and its trace tells which key.
+/// Runs a schedule: any list of commands, evictions, sends, takes, removals, ticks and reaps over the sites that the setups make,
+/// in which a parcel may be taken never, often and in any order. An eviction drops the bytes of a key at one site, a removal what
+/// is left of keys that every site knows to be deleted, a tick carries out a flush that waits and is due, and a reap deletes what a
+/// site wrote itself and ended long ago: they are events like the others, and come when the schedule says. A store evicts by itself
+/// where its slab class is full, and its trace tells which key.
 ///
 /// Whatever the schedule, each event has a trace that it can have: each reply is plain memcached's over what its site then
 /// holds, or the refusal that is due; a store evicts no key but another one of which bytes of the same class were held; a
-/// parcel's addressee never finds a gap. In the end each site's floor and versions are those of the operations that it knows,
+/// parcel's addressee never finds a gap. In the end sites and parcels are what is known along the schedule. Each site's floor and versions are those of the operations that it knows,
 /// whatever was evicted, so that sites which know the same operations hold equal versions. Bytes in a reply are what the
 /// operation wrote whose stamp the version has, unless two values that were written have one SHA-256.
+///
+/// An event that names a site or a parcel that cannot be there is told before anything is done, so that want of memory never takes
+/// its place. A parcel may also be missing because its send wanted memory.
 pub fn run_schedule(
     alloc: Global,
     setups: Vec<Setup>,
@@ -55,11 +61,18 @@ pub fn run_schedule(
     ensures traced { IfOk result (λ o. length o.traces.items ≡ length events.now) }
     ensures there { IfOk result (λ o. EachThere (length setups.items) (start setups.items) events.now o.traces.items) }
     ensures lawful { IfOk result (λ o. EachLawful (start setups.items) events.now o.traces.items) }
+    ensures agrees { IfOk result (λ o. Agrees o.sites.items o.parcels.items (known (start setups.items) events.now o.traces.items)) }
     ensures versions { IfOk result (λ o. (k number : ℕ) (site : Site) → number ≡ k + 1 → slice_get o.sites.items k ≡ Some site → ShowsVersions site ((known (start setups.items) events.now o.traces.items).at number)) }
     ensures equal { IfOk result (λ o. (j k : ℕ) (one other : Site) → slice_get o.sites.items j ≡ Some one → slice_get o.sites.items k ≡ Some other → SameOperations ((known (start setups.items) events.now o.traces.items).at (j + 1)) ((known (start setups.items) events.now o.traces.items).at (k + 1)) → SameVersions one other) }
     ensures served { IfOk result (λ o. NoCollision (known (start setups.items) events.now o.traces.items) → AllServe (start setups.items) events.now o.traces.items) }
     ensures refused { IfErr result (RunRefuses setups.items events.now) }
 {
+    if !are_good(&setups) {
+        return Err(WorldError::Setups);
+    }
+    if let Some(index) = first_missing(setups.len(), events) {
+        return Err(WorldError::BadEvent(index));
+    }
     let mut world = World::open(alloc, setups)?;
     let mut traces = Vec::new(alloc);
     for (index, event) in events.iter().enumerate() {

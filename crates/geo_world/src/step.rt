@@ -5,6 +5,7 @@ ghost use Rattle.geo_world.specs.There.{is_site, is_there, is_in_time};
 ghost use Rattle.geo_world.specs.Agreement.{Agrees, DoesAlone, StepDoes};
 
 use crate::outcome::WorldError;
+use crate::there::is_at_hand;
 use crate::world::World;
 use geo_grammar::{Reply, Request};
 use geo_lattice::Twin;
@@ -121,28 +122,6 @@ impl World {
 }
 
 impl World {
-    /// Whether there is a site of this number.
-    fn has(&self, site: u8) -> bool
-        ensures { result ≡ is_site (length self.now.sites.items) site }
-    {
-        site >= 1 && site as usize <= self.sites.len()
-    }
-
-    /// Whether the sites and the parcel that an event names are there.
-    fn is_there(&self, event: &Event) -> bool
-        ensures { result ≡ is_there (length self.now.sites.items) (length self.now.parcels.items) event.now }
-    {
-        match event {
-            Event::Command { site, .. }
-            | Event::Evict { site, .. }
-            | Event::Remove { site }
-            | Event::Tick { site, .. }
-            | Event::Reap { site, .. } => self.has(*site),
-            Event::Send { site, to } => self.has(*site) && self.has(*to),
-            Event::Take { site, parcel } => self.has(*site) && *parcel < self.parcels.len(),
-        }
-    }
-
     /// Does the event with this index, unless it names a site or a parcel that is not there.
     pub fn step(&mut self, alloc: Global, event: &Event, index: usize) -> Result<Trace, WorldError>
         requires moment { is_in_time event.now ≡ true }
@@ -150,7 +129,7 @@ impl World {
         ensures alone { IfOk result (λ trace. DoesAlone self.old.sites.items self.new.sites.items event.now trace) }
         ensures as_many { length self.new.sites.items ≡ length self.old.sites.items }
     {
-        if !self.is_there(event) {
+        if !is_at_hand(self.sites.len(), self.parcels.len(), event) {
             return Err(WorldError::BadEvent(index));
         }
         match event {

@@ -3,6 +3,7 @@ use Rattle.std.proofs.lemmas.Result.{err_from_is_err_and}
 use Rattle.geo_site.proofs.Served.{all_serve}
 use Rattle.geo_site.proofs.Sound.{sound_nothing}
 use Rattle.geo_world.specs.Setups.{limits_of, start}
+use Rattle.geo_world.specs.There.{all_there}
 use Rattle.geo_world.specs.Agreement.{RunRefuses}
 use Rattle.geo_world.proofs.Running.{HasRun, run_more, in_time_at, first_run, all_run, shows, same_versions, step_refused}
 use Rattle.geo_world.proofs.run.run_schedule.Goals as goal
@@ -14,6 +15,7 @@ loop-index-init c =
       run = subst (λ ts. HasRun (start c.args.setups.items) c.in_ok-world.world.sites.items c.in_ok-world.world.parcels.items c.args.events.now ts 0) (sym c.new-traces.ensures.items) (first_run (start c.args.setups.items) c.in_ok-world.world.sites.items c.in_ok-world.world.parcels.items c.args.events.now e.2);
       many = e.1;
       good = e.0;
+      named = ap (λ n. all_there n 0 c.args.events.now) (ap length (sym c.deref.ensures.value) ∙ c.deref.ensures.len ∙ sym c.len.ensures) ∙ c.in_default.ensures;
     }
 
 pub step-requires : goal.step-requires
@@ -30,6 +32,7 @@ loop-index-preserved c =
           inv.run c.loop-index-test.true c.index-events-index.is e.as_many e.does.0 e.does.1);
       many = e.as_many ∙ inv.many;
       good = inv.good;
+      named = inv.named;
     }
 
 pub returns-in_err-trace-clause-refused : goal.returns-in_err-trace-clause-refused
@@ -37,8 +40,11 @@ returns-in_err-trace-clause-refused c =
     let inv = c.loop-index.invariant in
     let p = err_from_is_err_and c.from_residual-in_err-trace.result c.from_residual-in_err-trace.ensures.1 in
     let lt = c.loop-index-test.true in
-    let r = (step_refused c.loop-index.world c.step.new.self c.args.setups.items c.args.events.now c.loop-index.traces.items c.loop-index.index c.index-events-index.result c.in_err-trace.field-0.0 inv.good inv.many inv.run lt c.index-events-index.is c.in_err-trace.ensures.does) in
+    let r = (step_refused c.loop-index.world c.step.new.self c.args.setups.items c.args.events.now c.loop-index.traces.items c.loop-index.index c.index-events-index.result c.in_err-trace.field-0.0 inv.good inv.named inv.many inv.run lt c.index-events-index.is c.in_err-trace.ensures.does) in
     rw p.1 (subst (RunRefuses c.args.setups.items c.args.events.now) (sym p.2) r)
+
+pub returns-clause-agrees : goal.returns-clause-agrees
+returns-clause-agrees c = (all_run (start c.args.setups.items) c.loop-index.world.sites.items c.loop-index.world.parcels.items c.args.events.now c.loop-index.traces.items c.loop-index.index (omega arith) (omega arith) c.loop-index.invariant.run).agrees
 
 pub returns-clause-versions : goal.returns-clause-versions
 returns-clause-versions c = λ k number site e at.

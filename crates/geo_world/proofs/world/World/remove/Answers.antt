@@ -1,4 +1,4 @@
-use Rattle.std.proofs.Common.{◌-◌, length, arith, refl, sym, ◌∙◌}
+use Rattle.std.proofs.Common.{◌-◌, length, arith, refl}
 use Rattle.geo_world.proofs.Alone.{does_alone, removes_at}
 use Rattle.geo_world.proofs.Worlds.{there_is, read_is}
 use Rattle.geo_world.proofs.Answering.{remove_lawful, remove_agrees}

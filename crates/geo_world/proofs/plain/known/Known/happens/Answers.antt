@@ -1,4 +1,4 @@
-use Rattle.std.proofs.Common.{◌≡◌, ℕ, Bool, true, cond, Option, List, sym, subst, subst₂}
+use Rattle.std.proofs.Common.{◌≡◌, ℕ, Bool, cond, Option, List, sym, subst, subst₂}
 use Rattle.std.specs.Prelude.{IfOk, IfErr}
 use Rattle.geo_site.specs.declared.event.Event.{Event}
 use Rattle.geo_site.specs.declared.event.Trace.{Trace}
