@@ -33,7 +33,7 @@ use Rattle.geo_site.proofs.Victims.{AreQuiet, one_quiet, request_goes, victim_fi
 use Rattle.geo_world.proofs.Changing.{reached_stable, agrees_changed, count_same, agrees_still, agrees_acts, agrees_carried, agrees_flushed, agrees_evicted, agrees_missing}
 
 -- an element that is written twice
-set_twice : {A : Type 0} (xs : List A) (k : ℕ) (x y : A) → slice_set (slice_set xs k x) k y ≡ slice_set xs k y
+pub set_twice : {A : Type 0} (xs : List A) (k : ℕ) (x y : A) → slice_set (slice_set xs k x) k y ≡ slice_set xs k y
 set_twice [] k x y = refl
 set_twice (a ∷ xs) zero x y = refl
 set_twice (a ∷ xs) (suc k) x y = ap (λ ys. a ∷ ys) (set_twice xs k x y)
@@ -49,7 +49,7 @@ TellsVictim site now request reply victim = victim ≡ cond {A = Option (List �
 
 -- ---- a request where no flush is due
 module _ (sites : List Site) (parcels : List Parcel) (w : Known) (agrees : Agrees sites parcels w) (k s now : ℕ) (request : Request) (reply : Reply) (at_number : s ≡ k + 1) (hi : s ≤ length sites) (old new : Site) (got : slice_get sites k ≡ Some old) where
-  seen : visible_in (state_in old) now ≡ visible w s now
+  pub seen : visible_in (state_in old) now ≡ visible w s now
   seen = λ i key. entry_in now (state_version (length sites) s (agrees.each k s old at_number got).horizon (state_in old) (w.at s) (w.held s) key (agrees.each k s old at_number got).state i) ((agrees.each k s old at_number got).state.same_held key i)
 
   basis_same : basis_in old now ≡ basis w s now (state_in old).map (record_count old) (held_count old)
@@ -108,17 +108,17 @@ module _ (sites : List Site) (parcels : List Parcel) (w : Known) (agrees : Agree
 
 -- ---- after a due flush
 module _ (sites : List Site) (parcels : List Parcel) (w : Known) (agrees : Agrees sites parcels w) (k s now : ℕ) (at_number : s ≡ k + 1) (hi : s ≤ length sites) (old new : Site) (got : slice_get sites k ≡ Some old) where
-  stuck_is : is_stuck (waiting_in old) (clock_in old) now ≡ is_stuck (w.waiting s) (latest (w.at s)) now
+  pub stuck_is : is_stuck (waiting_in old) (clock_in old) now ≡ is_stuck (w.waiting s) (latest (w.at s)) now
   stuck_is = let st = agrees.each k s old at_number got in let clock = st.state.tells.clock in λ i. is_stuck (st.waiting i) (clock i) now
 
   module _ (mid : Site) (flush : FlushDoes old mid now) where
-    between : Agrees (slice_set sites k mid) parcels (flushed w s now)
+    pub between : Agrees (slice_set sites k mid) parcels (flushed w s now)
     between = agrees_flushed sites parcels w agrees k s at_number hi old mid got flush.stays now flush
 
-    there_still : s ≤ length (slice_set sites k mid)
+    pub there_still : s ≤ length (slice_set sites k mid)
     there_still = subst (λ n. s ≤ n) (sym (length-set sites k mid)) hi
 
-    found_still : slice_get (slice_set sites k mid) k ≡ Some mid
+    pub found_still : slice_get (slice_set sites k mid) k ≡ Some mid
     found_still = get_set sites k mid old got
 
     stands : Stands (length (slice_set sites k mid)) s mid (about (flushed w s now) s)
@@ -169,7 +169,7 @@ module _ (sites : List Site) (parcels : List Parcel) (w : Known) (agrees : Agree
       reapable : to_reap mid now key ≡ is_reapable s ((flushed w s now).limits s).reap_after now (version_of ((flushed w s now).at s) key)
       reapable = let st = stands mid flush in λ i. is_reapable (st.own i) (st.limits i).reap_after now (version i)
 
-      acts_are : reaped_in mid now key ≡ reaps_on (flushed w s now) s now key
+      pub acts_are : reaped_in mid now key ≡ reaps_on (flushed w s now) s now key
       acts_are = let st = stands mid flush in λ i. reap_acts (st.own i) (st.limits i).reap_after now key (version i)
 
       lacks_is : lacks (clock_in mid) (reaped_in mid now key) ≡ lacks (latest ((flushed w s now).at s)) (reaps_on (flushed w s now) s now key)

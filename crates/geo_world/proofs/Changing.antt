@@ -103,10 +103,10 @@ issues_sent w s [] = refl
 issues_sent w s (act ∷ acts) = issues_sent (settles w s (w.at s ++ new_operation w s act ∷ []) (act_held act (w.held s))) s acts
 
 -- ---- what is put at one site
-put_here : {A : Type 0} (f : ℕ → A) (s : ℕ) (x : A) → cond (s == s) x (f s) ≡ x
+pub put_here : {A : Type 0} (f : ℕ → A) (s : ℕ) (x : A) → cond (s == s) x (f s) ≡ x
 put_here f s x = elim (eqb_tells s s) [ inl p ↦ ap (λ b. cond b x (f s)) p.0 | inr p ↦ absurd (p.1 refl) ]
 
-put_there : {A : Type 0} (f : ℕ → A) (s : ℕ) (x : A) (t : ℕ) → t ≢ s → cond (t == s) x (f t) ≡ f t
+pub put_there : {A : Type 0} (f : ℕ → A) (s : ℕ) (x : A) (t : ℕ) → t ≢ s → cond (t == s) x (f t) ≡ f t
 put_there f s x t ne = elim (eqb_tells t s) [ inl p ↦ absurd (ne p.1) | inr p ↦ ap (λ b. cond b x (f t)) p.0 ]
 
 pub put_same : {A : Type 0} (f : ℕ → A) (s : ℕ) (x : A) → x ≡ f s → (t : ℕ) → cond (t == s) x (f t) ≡ f t

@@ -13,3 +13,4 @@ pub mod Happening
 pub mod Horizon
 pub mod Alone
 mod Coming
+mod Keeping

@@ -23,6 +23,8 @@ use Rattle.geo_world.proofs.Worlds.{some_none, get_appended}
 pub record Silent (n number : ℕ) (site : Site) (limits : Limits) : Type 0 where
   pub stands : Stands n number site (nothing_about limits)
   pub heard_none : heard_in site ≡ none_heard n
+  pub pages : ℕ
+  pub same : Same (fresh n pages) (state_in site)
 
 pub each_more : (limits : ℕ → Limits) (n k : ℕ) (xs : List Site) (x : Site) → length xs ≡ k → ((j number : ℕ) (site : Site) → number ≡ j + 1 → slice_get xs j ≡ Some site → Silent n number site (limits number)) → Silent n (k + 1) x (limits (k + 1))
     → (j number : ℕ) (site : Site) → number ≡ j + 1 → slice_get (xs ++ x ∷ []) j ≡ Some site → Silent n number site (limits number)
@@ -47,6 +49,8 @@ silent_of n number a b pages limits most site is at_most none waits heard same f
         rows = λ other lo hi. ap (λ h. length (row_of h other)) heard_none ∙ ap length (none_row n other lo (omega (arith, few, q, hi))) ∙ zeros_length n;
       };
       heard_none = heard_none;
+      pages = pages;
+      same = subst (λ m. Same (fresh m pages) (state_in site)) q same;
     }
 
 joined_zeros : (xs : List ℕ) (n : ℕ) → length xs ≡ n → vector_joined xs (zeros n) ≡ xs

@@ -20,6 +20,7 @@ use Rattle.geo_world.specs.declared.outcome.WorldError.{WorldError}
 use Rattle.geo_world.specs.declared.outcome.WorldError.TheVariants.{Setups, BadEvent, Memory}
 use Rattle.geo_world.specs.declared.world.World.{World}
 use Rattle.geo_world.specs.Setups.{are_setups, start}
+use Rattle.geo_world.specs.Tables.{Tables, kept_after, kept, Keep, Tallies, EachTallies, Tabled}
 use Rattle.geo_world.specs.Agreement.{SiteKnown, StepDoes, RunRefuses, Stands, Agrees, ShowsVersions, SameVersions}
 
 there_more : (n : ℕ) (w : Known) (es : List Event) (ts : List Trace) (e : Event) (t : Trace) → EachLawful w es ts → EachThere n w es ts → is_there n (length (known w es ts).sent) e ≡ true → EachThere n w (es ++ e ∷ []) (ts ++ t ∷ [])
@@ -28,36 +29,56 @@ there_more n w [] (u ∷ ts) e t h l p = absurd h
 there_more n w (d ∷ es) [] e t h l p = absurd h
 there_more n w (d ∷ es) (u ∷ ts) e t h l p = (l.0, there_more n (happens w d u) es ts e t h.1 l.1 p)
 
+kept_more : (w : Known) (all : Tables) (es : List Event) (ts : List Trace) (e : Event) (t : Trace) → EachLawful w es ts → kept w all (es ++ e ∷ []) (ts ++ t ∷ []) ≡ kept_after (known w es ts) (kept w all es ts) e t
+kept_more w all [] [] e t l = refl
+kept_more w all [] (u ∷ ts) e t l = absurd l
+kept_more w all (d ∷ es) [] e t l = absurd l
+kept_more w all (d ∷ es) (u ∷ ts) e t l = kept_more (happens w d u) (kept_after w all d u) es ts e t l.1
+
+tallies_more : (w : Known) (all : Tables) (es : List Event) (ts : List Trace) (e : Event) (t : Trace) → EachLawful w es ts → EachTallies w all es ts → Tallies (known w es ts) (kept w all es ts) e t → EachTallies w all (es ++ e ∷ []) (ts ++ t ∷ [])
+tallies_more w all [] [] e t l h p = (p, tt)
+tallies_more w all [] (u ∷ ts) e t l h p = absurd l
+tallies_more w all (d ∷ es) [] e t l h p = absurd l
+tallies_more w all (d ∷ es) (u ∷ ts) e t l h p = (h.0, tallies_more (happens w d u) (kept_after w all d u) es ts e t l.1 h.1 p)
+
 -- what has been run so far: the traces of the first events
-pub record HasRun (first : Known) (sites : List Site) (parcels : List Parcel) (events : List Event) (traces : List Trace) (index : ℕ) : Type 0 where
+pub record HasRun (first : Known) (none : Tables) (sites : List Site) (parcels : List Parcel) (events : List Event) (traces : List Trace) (index : ℕ) : Type 0 where
   pub told : length traces ≡ index
   pub lawful : EachLawful first (take index events) traces
   pub there : EachThere (length sites) first (take index events) traces
   pub agrees : Agrees sites parcels (known first (take index events) traces)
+  pub tallies : EachTallies first none (take index events) traces
+  pub keep : Keep sites parcels (kept first none (take index events) traces)
 
-pub record HasAllRun (first : Known) (sites : List Site) (parcels : List Parcel) (events : List Event) (traces : List Trace) : Type 0 where
+pub record HasAllRun (first : Known) (none : Tables) (sites : List Site) (parcels : List Parcel) (events : List Event) (traces : List Trace) : Type 0 where
   pub told : length traces ≡ length events
   pub lawful : EachLawful first events traces
   pub there : EachThere (length sites) first events traces
   pub agrees : Agrees sites parcels (known first events traces)
+  pub tallies : EachTallies first none events traces
+  pub keep : Keep sites parcels (kept first none events traces)
 
-module _ (first : Known) (sites sites' : List Site) (parcels parcels' : List Parcel) (events : List Event) (traces : List Trace) (index : ℕ) (event : Event) (trace : Trace) (run : HasRun first sites parcels events traces index)
+module _ (first : Known) (none : Tables) (sites sites' : List Site) (parcels parcels' : List Parcel) (events : List Event) (traces : List Trace) (index : ℕ) (event : Event) (trace : Trace) (run : HasRun first none sites parcels events traces index)
     (lt : index < length events) (at : event ≡ get_or events index event) (as_many : length sites' ≡ length sites)
     (there : is_there (length sites) (length parcels) event ≡ true)
-    (does : (w : Known) → Agrees sites parcels w → Lawful w event trace × Agrees sites' parcels' (happens w event trace)) where
+    (does : (w : Known) → Agrees sites parcels w → Lawful w event trace × Agrees sites' parcels' (happens w event trace)) (tabled : Tabled sites parcels sites' parcels' event trace) where
   more : take (index + 1) events ≡ take index events ++ event ∷ []
   more = take_more events index event lt ∙ ap (λ e. take index events ++ e ∷ []) (sym at)
 
-  pub run_more : HasRun first sites' parcels' events (traces ++ trace ∷ []) (index + 1)
+  pub run_more : HasRun first none sites' parcels' events (traces ++ trace ∷ []) (index + 1)
   run_more =
       let w = known first (take index events) traces in
       let d = does w run.agrees in
+      let all = kept first none (take index events) traces in
+      let t = tabled w all run.agrees run.keep in
       record {
         told = Rattle.std.proofs.lemmas.List.length-append traces (trace ∷ []) ∙ ap (λ n. n + 1) run.told;
         lawful = subst (λ es. EachLawful first es (traces ++ trace ∷ [])) (sym more) (lawful_more first (take index events) traces event trace run.lawful d.0);
         there = subst₂ (λ (n : ℕ) (es : List Event). EachThere n first es (traces ++ trace ∷ [])) (sym as_many) (sym more)
             (there_more (length sites) first (take index events) traces event trace run.lawful run.there (ap (λ p. is_there (length sites) p event) run.agrees.as_many ∙ there));
         agrees = subst (λ v. Agrees sites' parcels' v) (sym (ap (λ es. known first es (traces ++ trace ∷ [])) more ∙ known_more first (take index events) traces event trace run.lawful)) d.1;
+        tallies = subst (λ es. EachTallies first none es (traces ++ trace ∷ [])) (sym more) (tallies_more first none (take index events) traces event trace run.lawful run.tallies t.0);
+        keep = subst (λ all. Keep sites' parcels' all) (sym (ap (λ es. kept first none es (traces ++ trace ∷ [])) more ∙ kept_more first none (take index events) traces event trace run.lawful)) t.1;
       }
 
 -- each of the events is in time
@@ -74,18 +95,20 @@ in_time_at (e ∷ es) (suc i) event h lt at = in_time_at es i event (both (is_in
     both true b h = (refl, h)
     both false b h = absurd (true≢false (sym h))
 
-pub first_run : (first : Known) (sites : List Site) (parcels : List Parcel) (events : List Event) → Agrees sites parcels first → HasRun first sites parcels events [] 0
-first_run first sites parcels events agrees = record { told = refl; lawful = tt; there = tt; agrees = agrees }
+pub first_run : (first : Known) (none : Tables) (sites : List Site) (parcels : List Parcel) (events : List Event) → Agrees sites parcels first → Keep sites parcels none → HasRun first none sites parcels events [] 0
+first_run first none sites parcels events agrees keep = record { told = refl; lawful = tt; there = tt; agrees = agrees; tallies = tt; keep = keep }
 
 -- all has been run
-pub all_run : (first : Known) (sites : List Site) (parcels : List Parcel) (events : List Event) (traces : List Trace) (index : ℕ) → length events ≤ index → index ≤ length events → HasRun first sites parcels events traces index → HasAllRun first sites parcels events traces
-all_run first sites parcels events traces index le ge run =
+pub all_run : (first : Known) (none : Tables) (sites : List Site) (parcels : List Parcel) (events : List Event) (traces : List Trace) (index : ℕ) → length events ≤ index → index ≤ length events → HasRun first none sites parcels events traces index → HasAllRun first none sites parcels events traces
+all_run first none sites parcels events traces index le ge run =
     let all = take_all index events le in
     record {
       told = let t = run.told in omega (arith, t);
       lawful = subst (λ es. EachLawful first es traces) all run.lawful;
       there = subst (λ es. EachThere (length sites) first es traces) all run.there;
       agrees = subst (λ es. Agrees sites parcels (known first es traces)) all run.agrees;
+      tallies = subst (λ es. EachTallies first none es traces) all run.tallies;
+      keep = subst (λ es. Keep sites parcels (kept first none es traces)) all run.keep;
     }
 
 -- a site that is what it knows shows the versions that its operations name
@@ -104,10 +127,10 @@ same_versions one other ks ls a b same =
     }
 
 -- an event that is not there, or want of memory, ends the run
-pub step_refused : (old new : World) (setups : List Setup) (events : List Event) (traces : List Trace) (index : ℕ) (event : Event) (why : WorldError) → are_setups setups ≡ true → all_there (length setups) 0 events ≡ true → length old.sites.items ≡ length setups → HasRun (start setups) old.sites.items old.parcels.items events traces index → index < length events → event ≡ get_or events index event
+pub step_refused : (old new : World) (none : Tables) (setups : List Setup) (events : List Event) (traces : List Trace) (index : ℕ) (event : Event) (why : WorldError) → are_setups setups ≡ true → all_there (length setups) 0 events ≡ true → length old.sites.items ≡ length setups → HasRun (start setups) none old.sites.items old.parcels.items events traces index → index < length events → event ≡ get_or events index event
     → StepDoes old new event index (Err why) → RunRefuses setups events why
-step_refused old new setups events traces index event Setups good named many run lt at does = absurd does
-step_refused old new setups events traces index event (BadEvent i) good named many run lt at does = (
+step_refused old new none setups events traces index event Setups good named many run lt at does = absurd does
+step_refused old new none setups events traces index event (BadEvent i) good named many run lt at does = (
   good,
   inr (
     named,
@@ -122,4 +145,4 @@ step_refused old new setups events traces index event (BadEvent i) good named ma
     }),
   ),
 )
-step_refused old new setups events traces index event Memory good named many run lt at does = (good, named)
+step_refused old new none setups events traces index event Memory good named many run lt at does = (good, named)

@@ -2,4 +2,5 @@ pub mod Setups
 pub mod There
 pub mod Bounds
 pub mod Agreement
+pub mod Tables
 pub mod Plain

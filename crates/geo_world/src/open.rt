@@ -1,7 +1,8 @@
 //! Opening the sites of a cluster.
-ghost use Rattle.std.specs.Prelude.{◌≡◌};
+ghost use Rattle.std.specs.Prelude.{◌≡◌, length, IfOk};
 ghost use Rattle.geo_world.specs.Setups.{are_setups, is_setup};
 ghost use Rattle.geo_world.specs.Agreement.{WorldOpens};
+ghost use Rattle.geo_world.specs.Tables.{empty_tables, Keep};
 
 use crate::outcome::WorldError;
 use crate::world::World;
@@ -39,7 +40,8 @@ pub fn are_good(setups: &[Setup]) -> bool
 impl World {
     /// Sites that know nothing, and no parcel.
     pub fn open(alloc: Global, setups: Vec<Setup>) -> Result<World, WorldError>
-        ensures { WorldOpens setups.items result }
+        ensures opens { WorldOpens setups.items result }
+        ensures empty { IfOk result (λ world. Keep world.sites.items world.parcels.items (empty_tables (length setups.items))) }
     {
         if !are_good(&setups) {
             return Err(WorldError::Setups);

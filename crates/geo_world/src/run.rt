@@ -6,6 +6,7 @@ ghost use Rattle.geo_site.specs.Schedule.{Known, known, EachLawful};
 ghost use Rattle.geo_site.specs.Served.{NoCollision, AllServe};
 ghost use Rattle.geo_world.specs.Setups.{are_setups, start};
 ghost use Rattle.geo_world.specs.There.{is_in_time, all_in_time, EachThere};
+ghost use Rattle.geo_world.specs.Tables.{empty_tables, kept, Keep, EachTallies};
 ghost use Rattle.geo_world.specs.Agreement.{Agrees, ShowsVersions, SameVersions, RunRefuses};
 
 use crate::open::are_good;
@@ -61,6 +62,8 @@ pub fn run_schedule(
     ensures traced { IfOk result (λ o. length o.traces.items ≡ length events.now) }
     ensures there { IfOk result (λ o. EachThere (length setups.items) (start setups.items) events.now o.traces.items) }
     ensures lawful { IfOk result (λ o. EachLawful (start setups.items) events.now o.traces.items) }
+    ensures tallies { IfOk result (λ o. EachTallies (start setups.items) (empty_tables (length setups.items)) events.now o.traces.items) }
+    ensures keep { IfOk result (λ o. Keep o.sites.items o.parcels.items (kept (start setups.items) (empty_tables (length setups.items)) events.now o.traces.items)) }
     ensures agrees { IfOk result (λ o. Agrees o.sites.items o.parcels.items (known (start setups.items) events.now o.traces.items)) }
     ensures versions { IfOk result (λ o. (k number : ℕ) (site : Site) → number ≡ k + 1 → slice_get o.sites.items k ≡ Some site → ShowsVersions site ((known (start setups.items) events.now o.traces.items).at number)) }
     ensures equal { IfOk result (λ o. (j k : ℕ) (one other : Site) → slice_get o.sites.items j ≡ Some one → slice_get o.sites.items k ≡ Some other → SameOperations ((known (start setups.items) events.now o.traces.items).at (j + 1)) ((known (start setups.items) events.now o.traces.items).at (k + 1)) → SameVersions one other) }

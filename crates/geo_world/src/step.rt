@@ -3,6 +3,7 @@ ghost use Rattle.std.specs.Prelude.{◌≡◌, ℕ, ◌≤◌, ◌<◌, ◌^◌,
 ghost use Rattle.geo_site.specs.Schedule.{Known, happens, Lawful};
 ghost use Rattle.geo_world.specs.There.{is_site, is_there, is_in_time};
 ghost use Rattle.geo_world.specs.Agreement.{Agrees, DoesAlone, StepDoes};
+ghost use Rattle.geo_world.specs.Tables.{Tabled};
 
 use crate::outcome::WorldError;
 use crate::there::is_at_hand;
@@ -20,6 +21,7 @@ impl World {
         ensures lawful { (w : Known) → Agrees self.old.sites.items self.old.parcels.items w → Lawful w (Event.Command site now request.now) result }
         ensures kept { (w : Known) → Agrees self.old.sites.items self.old.parcels.items w → Agrees self.new.sites.items self.new.parcels.items (happens w (Event.Command site now request.now) result) }
         ensures alone { DoesAlone self.old.sites.items self.new.sites.items (Event.Command site now request.now) result }
+        ensures tables { Tabled self.old.sites.items self.old.parcels.items self.new.sites.items self.new.parcels.items (Event.Command site now request.now) result }
         ensures as_many { length self.new.sites.items ≡ length self.old.sites.items }
     {
         let at = &mut self.sites[site as usize - 1];
@@ -35,6 +37,7 @@ impl World {
         ensures lawful { (w : Known) → Agrees self.old.sites.items self.old.parcels.items w → Lawful w (Event.Evict site key.now) result }
         ensures kept { (w : Known) → Agrees self.old.sites.items self.old.parcels.items w → Agrees self.new.sites.items self.new.parcels.items (happens w (Event.Evict site key.now) result) }
         ensures alone { DoesAlone self.old.sites.items self.new.sites.items (Event.Evict site key.now) result }
+        ensures tables { Tabled self.old.sites.items self.old.parcels.items self.new.sites.items self.new.parcels.items (Event.Evict site key.now) result }
         ensures as_many { length self.new.sites.items ≡ length self.old.sites.items }
     {
         let at = &mut self.sites[site as usize - 1];
@@ -47,6 +50,7 @@ impl World {
         ensures lawful { (w : Known) → Agrees self.old.sites.items self.old.parcels.items w → Lawful w (Event.Remove site) result }
         ensures kept { (w : Known) → Agrees self.old.sites.items self.old.parcels.items w → Agrees self.new.sites.items self.new.parcels.items (happens w (Event.Remove site) result) }
         ensures alone { DoesAlone self.old.sites.items self.new.sites.items (Event.Remove site) result }
+        ensures tables { Tabled self.old.sites.items self.old.parcels.items self.new.sites.items self.new.parcels.items (Event.Remove site) result }
         ensures as_many { length self.new.sites.items ≡ length self.old.sites.items }
     {
         let at = &mut self.sites[site as usize - 1];
@@ -63,6 +67,7 @@ impl World {
         ensures lawful { (w : Known) → Agrees self.old.sites.items self.old.parcels.items w → Lawful w (Event.Tick site now) result }
         ensures kept { (w : Known) → Agrees self.old.sites.items self.old.parcels.items w → Agrees self.new.sites.items self.new.parcels.items (happens w (Event.Tick site now) result) }
         ensures alone { DoesAlone self.old.sites.items self.new.sites.items (Event.Tick site now) result }
+        ensures tables { Tabled self.old.sites.items self.old.parcels.items self.new.sites.items self.new.parcels.items (Event.Tick site now) result }
         ensures as_many { length self.new.sites.items ≡ length self.old.sites.items }
     {
         let at = &mut self.sites[site as usize - 1];
@@ -75,6 +80,7 @@ impl World {
         ensures lawful { (w : Known) → Agrees self.old.sites.items self.old.parcels.items w → Lawful w (Event.Reap site now key.now) result }
         ensures kept { (w : Known) → Agrees self.old.sites.items self.old.parcels.items w → Agrees self.new.sites.items self.new.parcels.items (happens w (Event.Reap site now key.now) result) }
         ensures alone { DoesAlone self.old.sites.items self.new.sites.items (Event.Reap site now key.now) result }
+        ensures tables { Tabled self.old.sites.items self.old.parcels.items self.new.sites.items self.new.parcels.items (Event.Reap site now key.now) result }
         ensures as_many { length self.new.sites.items ≡ length self.old.sites.items }
     {
         let at = &mut self.sites[site as usize - 1];
@@ -90,6 +96,7 @@ impl World {
         ensures lawful { IfOk result (λ trace. (w : Known) → Agrees self.old.sites.items self.old.parcels.items w → Lawful w (Event.Send site to) trace) }
         ensures kept { IfOk result (λ trace. (w : Known) → Agrees self.old.sites.items self.old.parcels.items w → Agrees self.new.sites.items self.new.parcels.items (happens w (Event.Send site to) trace)) }
         ensures alone { IfOk result (λ trace. DoesAlone self.old.sites.items self.new.sites.items (Event.Send site to) trace) }
+        ensures tables { IfOk result (λ trace. Tabled self.old.sites.items self.old.parcels.items self.new.sites.items self.new.parcels.items (Event.Send site to) trace) }
         ensures as_many { length self.new.sites.items ≡ length self.old.sites.items }
     {
         let at = &self.sites[site as usize - 1];
@@ -109,6 +116,7 @@ impl World {
         ensures lawful { IfOk result (λ trace. (w : Known) → Agrees self.old.sites.items self.old.parcels.items w → Lawful w (Event.Take site parcel) trace) }
         ensures kept { IfOk result (λ trace. (w : Known) → Agrees self.old.sites.items self.old.parcels.items w → Agrees self.new.sites.items self.new.parcels.items (happens w (Event.Take site parcel) trace)) }
         ensures alone { IfOk result (λ trace. DoesAlone self.old.sites.items self.new.sites.items (Event.Take site parcel) trace) }
+        ensures tables { IfOk result (λ trace. Tabled self.old.sites.items self.old.parcels.items self.new.sites.items self.new.parcels.items (Event.Take site parcel) trace) }
         ensures as_many { length self.new.sites.items ≡ length self.old.sites.items }
     {
         let sent = &self.parcels[parcel];
@@ -127,6 +135,7 @@ impl World {
         requires moment { is_in_time event.now ≡ true }
         ensures does { StepDoes self.old self.new event.now index result }
         ensures alone { IfOk result (λ trace. DoesAlone self.old.sites.items self.new.sites.items event.now trace) }
+        ensures tables { IfOk result (λ trace. Tabled self.old.sites.items self.old.parcels.items self.new.sites.items self.new.parcels.items event.now trace) }
         ensures as_many { length self.new.sites.items ≡ length self.old.sites.items }
     {
         if !is_at_hand(self.sites.len(), self.parcels.len(), event) {

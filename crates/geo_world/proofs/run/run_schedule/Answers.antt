@@ -3,6 +3,7 @@ use Rattle.std.proofs.lemmas.Result.{err_from_is_err_and}
 use Rattle.geo_site.proofs.Served.{all_serve}
 use Rattle.geo_site.proofs.Sound.{sound_nothing}
 use Rattle.geo_world.specs.Setups.{limits_of, start}
+use Rattle.geo_world.specs.Tables.{empty_tables}
 use Rattle.geo_world.specs.There.{all_there}
 use Rattle.geo_world.specs.Agreement.{RunRefuses}
 use Rattle.geo_world.proofs.Running.{HasRun, run_more, in_time_at, first_run, all_run, shows, same_versions, step_refused}
@@ -12,9 +13,9 @@ pub loop-index-init : goal.loop-index-init
 loop-index-init c =
     let e = c.in_ok-world.ensures in
     record {
-      run = subst (λ ts. HasRun (start c.args.setups.items) c.in_ok-world.world.sites.items c.in_ok-world.world.parcels.items c.args.events.now ts 0) (sym c.new-traces.ensures.items) (first_run (start c.args.setups.items) c.in_ok-world.world.sites.items c.in_ok-world.world.parcels.items c.args.events.now e.2);
-      many = e.1;
-      good = e.0;
+      run = subst (λ ts. HasRun (start c.args.setups.items) (empty_tables (length c.args.setups.items)) c.in_ok-world.world.sites.items c.in_ok-world.world.parcels.items c.args.events.now ts 0) (sym c.new-traces.ensures.items) (first_run (start c.args.setups.items) (empty_tables (length c.args.setups.items)) c.in_ok-world.world.sites.items c.in_ok-world.world.parcels.items c.args.events.now e.opens.2 e.empty);
+      many = e.opens.1;
+      good = e.opens.0;
       named = ap (λ n. all_there n 0 c.args.events.now) (ap length (sym c.deref.ensures.value) ∙ c.deref.ensures.len ∙ sym c.len.ensures) ∙ c.in_default.ensures;
     }
 
@@ -27,9 +28,9 @@ loop-index-preserved c =
     let e = c.in_ok-trace.ensures in
     let items : c.push.new.self.items ≡ c.loop-index.traces.items ++ c.in_ok-trace.trace ∷ [] = c.push.ensures.items ∙ ap (λ b. cond b (c.loop-index.traces.items ++ c.in_ok-trace.trace ∷ []) c.loop-index.traces.items) (c.is_err.ensures.negation ∙ ap not c.if-is_err.false) in
     record {
-      run = subst (λ ts. HasRun (start c.args.setups.items) c.step.new.self.sites.items c.step.new.self.parcels.items c.args.events.now ts (c.loop-index.index + 1)) (sym items)
-          (run_more (start c.args.setups.items) c.loop-index.world.sites.items c.step.new.self.sites.items c.loop-index.world.parcels.items c.step.new.self.parcels.items c.args.events.now c.loop-index.traces.items c.loop-index.index c.index-events-index.result c.in_ok-trace.trace
-          inv.run c.loop-index-test.true c.index-events-index.is e.as_many e.does.0 e.does.1);
+      run = subst (λ ts. HasRun (start c.args.setups.items) (empty_tables (length c.args.setups.items)) c.step.new.self.sites.items c.step.new.self.parcels.items c.args.events.now ts (c.loop-index.index + 1)) (sym items)
+          (run_more (start c.args.setups.items) (empty_tables (length c.args.setups.items)) c.loop-index.world.sites.items c.step.new.self.sites.items c.loop-index.world.parcels.items c.step.new.self.parcels.items c.args.events.now c.loop-index.traces.items c.loop-index.index c.index-events-index.result c.in_ok-trace.trace
+          inv.run c.loop-index-test.true c.index-events-index.is e.as_many e.does.0 e.does.1 e.tables);
       many = e.as_many ∙ inv.many;
       good = inv.good;
       named = inv.named;
@@ -40,23 +41,29 @@ returns-in_err-trace-clause-refused c =
     let inv = c.loop-index.invariant in
     let p = err_from_is_err_and c.from_residual-in_err-trace.result c.from_residual-in_err-trace.ensures.1 in
     let lt = c.loop-index-test.true in
-    let r = (step_refused c.loop-index.world c.step.new.self c.args.setups.items c.args.events.now c.loop-index.traces.items c.loop-index.index c.index-events-index.result c.in_err-trace.field-0.0 inv.good inv.named inv.many inv.run lt c.index-events-index.is c.in_err-trace.ensures.does) in
+    let r = (step_refused c.loop-index.world c.step.new.self (empty_tables (length c.args.setups.items)) c.args.setups.items c.args.events.now c.loop-index.traces.items c.loop-index.index c.index-events-index.result c.in_err-trace.field-0.0 inv.good inv.named inv.many inv.run lt c.index-events-index.is c.in_err-trace.ensures.does) in
     rw p.1 (subst (RunRefuses c.args.setups.items c.args.events.now) (sym p.2) r)
 
 pub returns-clause-agrees : goal.returns-clause-agrees
-returns-clause-agrees c = (all_run (start c.args.setups.items) c.loop-index.world.sites.items c.loop-index.world.parcels.items c.args.events.now c.loop-index.traces.items c.loop-index.index (omega arith) (omega arith) c.loop-index.invariant.run).agrees
+returns-clause-agrees c = (all_run (start c.args.setups.items) (empty_tables (length c.args.setups.items)) c.loop-index.world.sites.items c.loop-index.world.parcels.items c.args.events.now c.loop-index.traces.items c.loop-index.index (omega arith) (omega arith) c.loop-index.invariant.run).agrees
+
+pub returns-clause-keep : goal.returns-clause-keep
+returns-clause-keep c = (all_run (start c.args.setups.items) (empty_tables (length c.args.setups.items)) c.loop-index.world.sites.items c.loop-index.world.parcels.items c.args.events.now c.loop-index.traces.items c.loop-index.index (omega arith) (omega arith) c.loop-index.invariant.run).keep
+
+pub returns-clause-tallies : goal.returns-clause-tallies
+returns-clause-tallies c = (all_run (start c.args.setups.items) (empty_tables (length c.args.setups.items)) c.loop-index.world.sites.items c.loop-index.world.parcels.items c.args.events.now c.loop-index.traces.items c.loop-index.index (omega arith) (omega arith) c.loop-index.invariant.run).tallies
 
 pub returns-clause-versions : goal.returns-clause-versions
 returns-clause-versions c = λ k number site e at.
-    let run = all_run (start c.args.setups.items) c.loop-index.world.sites.items c.loop-index.world.parcels.items c.args.events.now c.loop-index.traces.items c.loop-index.index (omega arith) (omega arith) c.loop-index.invariant.run in
+    let run = all_run (start c.args.setups.items) (empty_tables (length c.args.setups.items)) c.loop-index.world.sites.items c.loop-index.world.parcels.items c.args.events.now c.loop-index.traces.items c.loop-index.index (omega arith) (omega arith) c.loop-index.invariant.run in
     shows _ number site _ (run.agrees.each k number site e at)
 
 pub returns-clause-equal : goal.returns-clause-equal
 returns-clause-equal c = λ j k one other at_one at_other same.
-    let run = all_run (start c.args.setups.items) c.loop-index.world.sites.items c.loop-index.world.parcels.items c.args.events.now c.loop-index.traces.items c.loop-index.index (omega arith) (omega arith) c.loop-index.invariant.run in
+    let run = all_run (start c.args.setups.items) (empty_tables (length c.args.setups.items)) c.loop-index.world.sites.items c.loop-index.world.parcels.items c.args.events.now c.loop-index.traces.items c.loop-index.index (omega arith) (omega arith) c.loop-index.invariant.run in
     same_versions one other _ _ (shows _ (j + 1) one _ (run.agrees.each j (j + 1) one refl at_one)) (shows _ (k + 1) other _ (run.agrees.each k (k + 1) other refl at_other)) same
 
 pub returns-clause-served : goal.returns-clause-served
 returns-clause-served c = λ apart.
-    let run = all_run (start c.args.setups.items) c.loop-index.world.sites.items c.loop-index.world.parcels.items c.args.events.now c.loop-index.traces.items c.loop-index.index (omega arith) (omega arith) c.loop-index.invariant.run in
+    let run = all_run (start c.args.setups.items) (empty_tables (length c.args.setups.items)) c.loop-index.world.sites.items c.loop-index.world.parcels.items c.args.events.now c.loop-index.traces.items c.loop-index.index (omega arith) (omega arith) c.loop-index.invariant.run in
     all_serve (start c.args.setups.items) c.args.events.now c.loop-index.traces.items (sound_nothing (length c.args.setups.items) (limits_of c.args.setups.items)) run.lawful apart

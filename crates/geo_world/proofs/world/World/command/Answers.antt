@@ -3,6 +3,7 @@ use Rattle.geo_grammar.specs.declared.reply.Reply.TheVariants.{OutOfMemory}
 use Rattle.geo_world.proofs.Alone.{does_alone}
 use Rattle.geo_world.proofs.Worlds.{there_is, read_is}
 use Rattle.geo_world.proofs.Answering.{command_lawful, command_agrees, for_itself}
+use Rattle.geo_world.proofs.Keeping.{keep_command}
 use Rattle.geo_world.proofs.world.World.command.Goals as goal
 
 pub returns-in-Ok-clause-lawful : goal.returns-in-Ok-clause-lawful
@@ -48,3 +49,21 @@ returns-in-Ok-clause-alone c = does_alone c.args.self.now.sites.items c.args.sit
 
 pub returns-in-Err-clause-alone : goal.returns-in-Err-clause-alone
 returns-in-Err-clause-alone c = does_alone c.args.self.now.sites.items c.args.site c.act_full.new.self (there_is (length c.args.self.now.sites.items) c.args.site c.requires.there).first _ _ refl tt
+
+pub returns-in-Ok-clause-tables : goal.returns-in-Ok-clause-tables
+returns-in-Ok-clause-tables c = λ w all agrees keep.
+    let n = length c.args.self.now.sites.items in
+    let there = there_is n c.args.site c.requires.there in
+    let lo = there.first in
+    let hi = there.last in
+    let got = read_is c.args.self.now.sites.items (c.args.site - 1) c.index_mut-at.result.now (omega arith) c.index_mut-at.ensures.value in
+    (tt, keep_command _ _ w agrees all keep (c.args.site - 1) c.args.site c.args.now (omega arith) hi c.index_mut-at.result.now c.act_full.new.self got c.args.request.now c.in-Ok.acted.reply c.in-Ok.acted.victim c.in-Ok.ensures.does.does)
+
+pub returns-in-Err-clause-tables : goal.returns-in-Err-clause-tables
+returns-in-Err-clause-tables c = λ w all agrees keep.
+    let n = length c.args.self.now.sites.items in
+    let there = there_is n c.args.site c.requires.there in
+    let lo = there.first in
+    let hi = there.last in
+    let got = read_is c.args.self.now.sites.items (c.args.site - 1) c.index_mut-at.result.now (omega arith) c.index_mut-at.ensures.value in
+    (tt, keep_command _ _ w agrees all keep (c.args.site - 1) c.args.site c.args.now (omega arith) hi c.index_mut-at.result.now c.act_full.new.self got c.args.request.now OutOfMemory None (for_itself c.index_mut-at.result.now c.act_full.new.self c.args.now c.args.request.now c.in-Err.ensures.does))

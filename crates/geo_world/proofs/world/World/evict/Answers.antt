@@ -2,6 +2,7 @@ use Rattle.std.proofs.Common.{◌-◌, length, arith, refl}
 use Rattle.geo_world.proofs.Alone.{does_alone}
 use Rattle.geo_world.proofs.Worlds.{there_is, read_is}
 use Rattle.geo_world.proofs.Answering.{evict_lawful, evict_agrees}
+use Rattle.geo_world.proofs.Keeping.{keep_evict}
 use Rattle.geo_world.proofs.world.World.evict.Goals as goal
 
 pub returns-clause-lawful : goal.returns-clause-lawful
@@ -24,3 +25,12 @@ returns-clause-kept c = λ w agrees.
 
 pub returns-clause-alone : goal.returns-clause-alone
 returns-clause-alone c = does_alone c.args.self.now.sites.items c.args.site c.evict.new.self (there_is (length c.args.self.now.sites.items) c.args.site c.requires.there).first _ _ refl tt
+
+pub returns-clause-tables : goal.returns-clause-tables
+returns-clause-tables c = λ w all agrees keep.
+    let n = length c.args.self.now.sites.items in
+    let there = there_is n c.args.site c.requires.there in
+    let lo = there.first in
+    let hi = there.last in
+    let got = read_is c.args.self.now.sites.items (c.args.site - 1) c.index_mut-at.result.now (omega arith) c.index_mut-at.ensures.value in
+    (tt, keep_evict _ _ all keep (c.args.site - 1) c.args.site (omega arith) c.index_mut-at.result.now c.evict.new.self got c.args.key.now c.evict.result c.evict.ensures)

@@ -4,6 +4,8 @@ use Rattle.geo_site.specs.declared.site.Site.{Site}
 use Rattle.geo_world.specs.Setups.{are_setups, limits_at, limits_of, start}
 use Rattle.geo_world.specs.Agreement.{Agrees}
 use Rattle.geo_world.proofs.Worlds.{numbered_get, limits_read, numbered_all}
+use Rattle.geo_world.specs.Tables.{empty_tables, Keep}
+use Rattle.geo_world.proofs.Keeping.{keep_open}
 use Rattle.geo_world.proofs.Opening.{Silent, silent_of, each_more, at_most_16, agrees_open}
 use Rattle.geo_world.proofs.world.World.open.Goals as goal
 
@@ -27,11 +29,17 @@ loop-setup-preserved c =
           (each_more (limits_of xs) n i c.loop-setup.sites.items c.in-Ok-new.site inv.many inv.each (subst (λ k. Silent n k c.in-Ok-new.site (limits_of xs k)) m (silent_of n (1 + i) _ _ _ (limits_of xs (1 + i)) _ c.in-Ok-new.site e.4 e.5 e.6 e.7 e.8 e.9 e.0.1 (numbered_get n 1 xs i _ all lt).site (numbered_get n 1 xs i _ all lt).sites_are (limits_read xs i _ lt ∙ ap (limits_at xs) place))));
     }
 
-pub returns : goal.returns
-returns c =
+pub returns-clause-opens : goal.returns-clause-opens
+returns-clause-opens c =
     let xs = c.deref-setup-items.result.now in
     let same : xs ≡ c.args.setups.items = c.deref-setup-items.ensures.value in
     let good : are_setups c.args.setups.items ≡ true = ap are_setups (sym c.deref.ensures.value) ∙ sym c.if-not-are_good.ensures in
     let inv = c.loop-setup.invariant in
     let many : length c.loop-setup.sites.items ≡ length xs = let h = inv.many in let a = c.loop-setup.auto.setup-index-end in let f = c.loop-setup-test.false in omega (arith, h, a, f) in
     (good, many ∙ ap length same, subst (λ ys. Agrees c.loop-setup.sites.items c.new-2.result.items (start ys)) same (agrees_open (limits_of xs) c.loop-setup.sites.items c.new-2.result.items (length xs) many (at_most_16 xs (ap are_setups same ∙ good)) c.new-2.ensures.items inv.each))
+
+pub returns-clause-empty : goal.returns-clause-empty
+returns-clause-empty c =
+    let xs = c.deref-setup-items.result.now in
+    let same : xs ≡ c.args.setups.items = c.deref-setup-items.ensures.value in
+    subst (λ ys. Keep c.loop-setup.sites.items c.new-2.result.items (empty_tables (length ys))) same (keep_open (limits_of xs) c.loop-setup.sites.items c.new-2.result.items (length xs) c.new-2.ensures.items c.loop-setup.invariant.each)

@@ -2,6 +2,7 @@ use Rattle.std.proofs.Common.{◌-◌, length, arith, refl}
 use Rattle.geo_world.proofs.Alone.{does_alone, removes_at}
 use Rattle.geo_world.proofs.Worlds.{there_is, read_is}
 use Rattle.geo_world.proofs.Answering.{remove_lawful, remove_agrees}
+use Rattle.geo_world.proofs.Keeping.{keep_removed, horizon_kept}
 use Rattle.geo_world.proofs.world.World.remove.Goals as goal
 
 pub returns-clause-lawful : goal.returns-clause-lawful
@@ -30,3 +31,13 @@ returns-clause-alone c =
     let hi = there.last in
     let got = read_is c.args.self.now.sites.items (c.args.site - 1) c.index_mut-at.result.now (omega arith) c.index_mut-at.ensures.value in
     does_alone c.args.self.now.sites.items c.args.site c.remove.new.self lo _ _ refl (removes_at c.args.self.now.sites.items c.args.site c.remove.new.self lo c.index_mut-at.result.now c.horizon-horizon.result c.remove.result got c.horizon-horizon.ensures c.remove.ensures)
+
+pub returns-clause-tables : goal.returns-clause-tables
+returns-clause-tables c = λ w all agrees keep.
+    let n = length c.args.self.now.sites.items in
+    let there = there_is n c.args.site c.requires.there in
+    let lo = there.first in
+    let hi = there.last in
+    let got = read_is c.args.self.now.sites.items (c.args.site - 1) c.index_mut-at.result.now (omega arith) c.index_mut-at.ensures.value in
+    let own = (agrees.each (c.args.site - 1) c.args.site c.index_mut-at.result.now (omega arith) got).own in
+    (horizon_kept _ _ all keep (c.args.site - 1) c.args.site (omega arith) c.index_mut-at.result.now c.remove.new.self got own c.horizon-horizon.result c.horizon-horizon.ensures, keep_removed _ _ all keep (c.args.site - 1) c.args.site (omega arith) c.index_mut-at.result.now c.remove.new.self got c.remove.result own c.remove.ensures)

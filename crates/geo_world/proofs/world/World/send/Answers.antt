@@ -1,9 +1,11 @@
 use Rattle.std.proofs.Common.{◌-◌, List, [], ◌∷◌, ◌++◌, length, arith, sym, ◌∙◌, subst}
 use Rattle.geo_delta.specs.declared.parcel.Parcel.{Parcel}
 use Rattle.geo_world.specs.Agreement.{Agrees, about}
+use Rattle.geo_world.specs.Tables.{cut_at, Keep}
 use Rattle.geo_world.proofs.Worlds.{there_is, read_is}
 use Rattle.geo_world.proofs.Changing.{reached_stable}
 use Rattle.geo_world.proofs.Exchanging.{carries_sent, agrees_sent, send_refused}
+use Rattle.geo_world.proofs.Keeping.{keep_sent}
 use Rattle.geo_world.proofs.world.World.send.Goals as goal
 
 pub returns-in_ok-push-in-Ok-clause-lawful : goal.returns-in_ok-push-in-Ok-clause-lawful
@@ -40,3 +42,16 @@ returns-in-Err-clause-lawful c = λ w agrees.
     let got = read_is c.args.self.now.sites.items (c.args.site - 1) c.index-at.result.now (omega arith) c.index-at.ensures in
     let st = agrees.each (c.args.site - 1) c.args.site c.index-at.result.now (omega arith) got in
     send_refused n c.args.site c.args.to c.index-at.result.now (about w c.args.site) st to_there.first to_there.last c.in-Err.why c.in-Err.ensures
+
+pub returns-in_ok-push-in-Ok-clause-tables : goal.returns-in_ok-push-in-Ok-clause-tables
+returns-in_ok-push-in-Ok-clause-tables c = λ w all agrees keep.
+    let n = length c.args.self.now.sites.items in
+    let there = there_is n c.args.site c.requires.there in
+    let lo = there.first in
+    let hi = there.last in
+    let got = read_is c.args.self.now.sites.items (c.args.site - 1) c.index-at.result.now (omega arith) c.index-at.ensures in
+    let own = (agrees.each (c.args.site - 1) c.args.site c.index-at.result.now (omega arith) got).own in (
+      tt,
+      subst (λ (ps : List Parcel). Keep c.args.self.now.sites.items ps (record { at = all.at; sent = all.sent ++ cut_at c.args.site c.args.to (all.at c.args.site) ∷ [] })) (sym c.in_ok-push-in-Ok.ensures.items)
+          (keep_sent _ _ all (c.args.site - 1) c.args.site c.args.to c.index-at.result.now c.in-Ok.parcel keep (omega arith) got own c.in-Ok.ensures.1),
+    )

@@ -1,0 +1,144 @@
+-- What each site keeps along a schedule, by the events and their traces alone: its vector, what it heard of the others, its floor, and
+-- its record of each key. (Joins of states and of deltas: Almeida et al. 2018; the clock: Lamport 1978.)
+use Rattle.std.specs.Prelude.{◌≡◌, ℕ, ◌+◌, cond, if◌then◌else◌, ◌==◌, List, [], ◌∷◌, ◌++◌, length, Option, None, Some, slice_get, slice_index_or}
+use Rattle.geo_stamp.specs.Acks.{row_of, none_heard, heard, horizon_of}
+use Rattle.geo_stamp.specs.Stamps.{Moment}
+use Rattle.geo_stamp.specs.Vectors.{zeros, vector_joined, greatest_of, raised}
+use Rattle.geo_versions.specs.Maps.{since, remaining, recent_both, floor_in, record_in}
+use Rattle.geo_versions.specs.Operations.{Act, Record, record_joined, floor_joined, above_both, body_of, expiry_of, flush_of, latest}
+use Rattle.geo_delta.specs.declared.parcel.Parcel.{Parcel}
+use Rattle.geo_site.specs.declared.site.Site.{Site}
+use Rattle.geo_site.specs.declared.event.Event.{Event}
+use Rattle.geo_site.specs.declared.event.Event.TheVariants.{Command, Send, Take, Remove, Tick, Reap}
+use Rattle.geo_site.specs.declared.event.Trace.{Trace}
+use Rattle.geo_site.specs.declared.event.Trace.TheVariants.{Replied, Sent, Taken, Removed, Ticked, Reaped, ReapRefused}
+use Rattle.geo_site.specs.Entries.{due_acts, is_done}
+use Rattle.geo_site.specs.Machine.{Delta, next_operation}
+use Rattle.geo_site.specs.Sites.{heard_in, delta_of}
+use Rattle.geo_world.specs.Agreement.{Agrees}
+use Rattle.geo_site.specs.Schedule.{Known, happens, flushed, issues_on, reaps_on}
+
+-- what a site keeps
+pub record Table : Type 0 where
+  pub vector : List ℕ
+  pub rows : List (List ℕ)
+  pub floor : Option Moment
+  pub kept : List ℕ → Record
+
+-- what a parcel brings, and from whom
+pub record Brought : Type 0 where
+  pub from : ℕ
+  pub delta : Delta
+
+-- what every site keeps, and what each parcel brings
+pub record Tables : Type 0 where
+  pub at : ℕ → Table
+  pub sent : List Brought
+
+-- at the start no site keeps anything
+abbrev pub empty_table : ℕ → Table
+empty_table sites = record { vector = zeros sites; rows = none_heard sites; floor = None; kept = λ _. (None, None) }
+
+abbrev pub empty_tables : ℕ → Tables
+empty_tables sites = record { at = λ _. empty_table sites; sent = [] }
+
+abbrev pub brings_nothing : Brought
+brings_nothing = record { from = 0; delta = record { upto = []; floor = None; map = λ _. (None, None) } }
+
+-- the time up to which the site knows that every site knows each operation
+abbrev pub horizon_at : ℕ → Table → ℕ
+horizon_at number t = horizon_of t.rows number t.vector
+
+-- it issues an operation: the join with that operation's one record
+abbrev pub issue_at : ℕ → Act → Table → Table
+issue_at number act t =
+    let op = next_operation (greatest_of t.vector) number act in
+    let floor = floor_joined t.floor (flush_of op) in
+    record {
+      vector = raised t.vector number (greatest_of t.vector + 1);
+      rows = t.rows;
+      floor = floor;
+      kept = λ key. above_both floor (record_joined (t.kept key) (body_of key op, expiry_of key op));
+    }
+
+-- one after the other
+abbrev pub issue_all_at : ℕ → List Act → Table → Table
+issue_all_at number [] t = t
+issue_all_at number (act ∷ acts) t = issue_all_at number acts (issue_at number act t)
+
+-- it takes a parcel: the join with its records as they were cut, sifted by the horizon that stood before
+abbrev pub take_at : ℕ → Brought → Table → Table
+take_at number b t =
+    let vector = vector_joined t.vector b.delta.upto in
+    let floor = floor_joined t.floor b.delta.floor in
+    record {
+      vector = raised vector number (greatest_of vector);
+      rows = heard t.rows b.from b.delta.upto;
+      floor = floor;
+      kept = λ key. above_both floor (record_joined (t.kept key) (recent_both (horizon_at number t) (b.delta.map key)));
+    }
+
+-- it drops exactly what lies at or below its horizon and has no version
+abbrev pub remove_at : ℕ → Table → Table
+remove_at number t = record { vector = t.vector; rows = t.rows; floor = t.floor; kept = λ key. remaining (horizon_at number t) (t.kept key) }
+
+-- what it cuts for another: the records that it did not hear the other to know
+abbrev pub cut_at : ℕ → ℕ → Table → Brought
+cut_at number to t = record { from = number; delta = record { upto = t.vector; floor = t.floor; map = λ key. since (row_of t.rows to) (t.kept key) } }
+
+-- a site keeps this now
+abbrev pub keeps : Tables → ℕ → Table → Tables
+keeps all site t = record { at = λ q. if q == site then t else all.at q; sent = all.sent }
+
+-- a site has issued operations
+abbrev pub issued_at : Tables → ℕ → List Act → Tables
+issued_at all site acts = keeps all site (issue_all_at site acts (all.at site))
+
+-- a site has carried out a flush that was due
+abbrev pub flushed_at : Known → Tables → ℕ → ℕ → Tables
+flushed_at w all site now = issued_at all site (due_acts (w.waiting site) (latest (w.at site)) now)
+
+-- what is kept after an event
+abbrev pub kept_after : Known → Tables → Event → Trace → Tables
+kept_after w all (Command site now request) (Replied reply victim) =
+    let mid = flushed_at w all site now in
+    cond (is_done reply) (issued_at mid site (issues_on (flushed w site now) site now request)) mid
+kept_after w all (Send site to) Sent = record { at = all.at; sent = all.sent ++ cut_at site to (all.at site) ∷ [] }
+kept_after w all (Take site parcel) Taken = keeps all site (take_at site (slice_index_or all.sent parcel brings_nothing) (all.at site))
+kept_after w all (Remove site) (Removed horizon count) = keeps all site (remove_at site (all.at site))
+kept_after w all (Tick site now) (Ticked done) = flushed_at w all site now
+kept_after w all (Reap site now key) (Reaped done) = issued_at (flushed_at w all site now) site (reaps_on (flushed w site now) site now key)
+kept_after w all (Reap site now key) (ReapRefused why) = flushed_at w all site now
+kept_after w all event trace = all
+
+-- what is kept after a schedule with its trace
+abbrev pub kept : Known → Tables → List Event → List Trace → Tables
+kept w all [] traces = all
+kept w all (event ∷ events) [] = all
+kept w all (event ∷ events) (trace ∷ traces) = kept (happens w event trace) (kept_after w all event trace) events traces
+
+-- a site of the code, and a parcel, are what is kept and brought
+abbrev pub table_in : Site → Table
+table_in site = record { vector = site.vector; rows = heard_in site; floor = floor_in site.versions; kept = record_in site.versions }
+
+abbrev pub brought_in : Parcel → Brought
+brought_in parcel = record { from = parcel.from; delta = delta_of parcel }
+
+pub record Keep (sites : List Site) (parcels : List Parcel) (all : Tables) : Type 0 where
+  pub each : (k number : ℕ) (site : Site) → number ≡ k + 1 → slice_get sites k ≡ Some site → table_in site ≡ all.at number
+  pub as_many : length all.sent ≡ length parcels
+  pub each_sent : (p : ℕ) (parcel : Parcel) → slice_get parcels p ≡ Some parcel → brought_in parcel ≡ slice_index_or all.sent p brings_nothing
+
+-- a removal goes by the site's own horizon
+abbrev pub Tallies : Known → Tables → Event → Trace → Type 0
+Tallies w all (Remove site) (Removed horizon count) = horizon ≡ horizon_at site (all.at site)
+Tallies w all event trace = Unit {0}
+
+abbrev pub EachTallies : Known → Tables → List Event → List Trace → Type 0
+EachTallies w all [] traces = Unit {0}
+EachTallies w all (event ∷ events) [] = Unit {0}
+EachTallies w all (event ∷ events) (trace ∷ traces) = Tallies w all event trace × EachTallies (happens w event trace) (kept_after w all event trace) events traces
+
+-- where sites and parcels are what is known and kept, an event tallies and leaves them so
+abbrev pub Tabled : List Site → List Parcel → List Site → List Parcel → Event → Trace → Type 0
+Tabled sites parcels later more event trace = (w : Known) (all : Tables) → Agrees sites parcels w → Keep sites parcels all → Tallies w all event trace × Keep later more (kept_after w all event trace)
