@@ -24,6 +24,7 @@ use Rattle.geo_site.proofs.Records.{holds_more}
 use Rattle.geo_stamp.specs.Acks.{row_of, with_own, horizon_of}
 use Rattle.geo_stamp.specs.Vectors.{entry_of}
 use Rattle.geo_world.specs.Agreement.{about, Stands, Agrees}
+use Rattle.geo_world.specs.Tables.{OwesOver}
 use Rattle.geo_world.proofs.Horizon.{horizon_at_most, horizon_at_least, horizon_in_range, own_here, stable_below}
 use Rattle.geo_world.proofs.Bounding.{bounded_same, vector_was, vector_here, vector_there, rows_stay}
 use Rattle.geo_world.specs.Bounds.{vectors, rows}
@@ -64,18 +65,29 @@ module _ (sites : List Site) (parcels : List Parcel) (w : Known) (agrees : Agree
         stats = record { curr_items = held_count old; get_hits = (known.counts i).hits; get_misses = (known.counts i).misses; evictions = (known.counts i).evictions; site = known.own i; clock = clock i; records = record_count old };
       }
 
+  -- over what it keeps
+  pub request_over : IsRecordCount (state_in old).map (record_count old) → IsHeldCount (state_in old).stock.held (held_count old) → RequestDoes old new now request reply → OwesOver w (state_in old).map s now request reply
+  request_over recorded held does = record {
+    records = record_count old;
+    items = held_count old;
+    recorded = recorded;
+    held = count_same (λ key. is_some ((state_in old).stock.held key)) (λ key. is_some (w.held s key)) (held_count old) (λ key. ap is_some ((agrees.each k s old at_number got).state.same_held key)) held;
+    answers = subst (λ (b : Basis). Answers now b request reply) basis_same does.answer;
+  }
+
   pub request_lawful : IsRecordCount (state_in old).map (record_count old) → IsHeldCount (state_in old).stock.held (held_count old) → RequestDoes old new now request reply → RepliesTo w s now request reply
   request_lawful recorded held does =
       let st = agrees.each k s old at_number got in
       let stable = reached_stable sites parcels w agrees k s at_number hi old got st.horizon st.reached in
+      let over = request_over recorded held does in
       record {
         kept = (state_in old).map;
-        records = record_count old;
-        items = held_count old;
+        records = over.records;
+        items = over.items;
         holds = λ key. holds_more (UpTo st.horizon) (Stable w) (λ time le. subst (λ n. StableAt n w.at time) (sym agrees.numbers) (stable_below (length sites) w.at st.horizon time le stable)) ((state_in old).map key) (w.at s) key (st.state.holds key);
-        recorded = recorded;
-        held = count_same (λ key. is_some ((state_in old).stock.held key)) (λ key. is_some (w.held s key)) (held_count old) (λ key. ap is_some (st.state.same_held key)) held;
-        answers = subst (λ (b : Basis). Answers now b request reply) basis_same does.answer;
+        recorded = over.recorded;
+        held = over.held;
+        answers = over.answers;
       }
 
   -- the victim of a request that was done; no other has one

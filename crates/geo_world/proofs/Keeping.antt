@@ -14,16 +14,16 @@ use Rattle.geo_site.specs.declared.event.Trace.TheVariants.{Replied, Ticked, Rea
 use Rattle.geo_site.specs.declared.refusal.ReapError.{ReapError}
 use Rattle.geo_site.specs.declared.refusal.ReapError.TheVariants.{ClockEnded, Memory}
 use Rattle.geo_site.specs.Entries.{issued, accesses, due_acts, is_stuck, is_done}
-use Rattle.geo_site.specs.Machine.{SiteState, Same, fresh, issue, issue_all, accessed, take, removed, sifted_delta, visible_in}
+use Rattle.geo_site.specs.Machine.{SiteState, Same, fresh, issue, issue_all, accessed, take, removed, sifted_delta, visible_in, IsRecordCount}
 use Rattle.geo_site.specs.Sites.{state_in, heard_in, horizon_in, delta_of, clock_in, waiting_in, HasIssued, HasIssuedAfter, FlushDoes, RequestDoes, RequestDoesBy, ActDoes, TickDoes, ReapDoes, ReapResult, RemoveDoes, EvictDoes, IsSent}
 use Rattle.geo_site.specs.Schedule.{Known, issues_on, reaps_on, flushed}
 use Rattle.geo_stamp.specs.Acks.{heard, none_heard}
 use Rattle.geo_world.specs.Agreement.{Agrees}
-use Rattle.geo_world.specs.Tables.{Table, Tables, brings_nothing, empty_tables, issue_all_at, take_at, remove_at, cut_at, horizon_at, keeps, issued_at, flushed_at, kept_after, table_in, brought_in, Keep}
+use Rattle.geo_world.specs.Tables.{Table, Tables, brings_nothing, empty_tables, issue_all_at, take_at, remove_at, cut_at, horizon_at, keeps, issued_at, flushed_at, kept_after, table_in, brought_in, Keep, OwesOver, OwesBy, CountsDropped}
 use Rattle.geo_world.proofs.Worlds.{some_none, get_appended}
 use Rattle.geo_world.proofs.Opening.{Silent}
 use Rattle.geo_world.proofs.Changing.{get_written, put_here, put_there}
-use Rattle.geo_world.proofs.Answering.{set_twice, seen, between, there_still, found_still, acts_are}
+use Rattle.geo_world.proofs.Answering.{set_twice, seen, stuck_is, request_over, between, there_still, found_still, acts_are}
 
 -- a state with what was heard
 abbrev table_of : List (List ℕ) → SiteState → Table
@@ -81,12 +81,25 @@ module _ (sites : List Site) (parcels : List Parcel) (all : Tables) (keep : Keep
     keep_issued_after keys has = keep_put (issue_all_at s acts (all.at s))
         (table_same (heard_in old) (heard_in new) (issue_all old.number acts (accessed keys (state_in old))) (state_in new) rows has ∙ table_issues old.number (heard_in old) acts (accessed keys (state_in old)) ∙ (λ i. issue_all_at (own i) acts (table_here i)))
 
-  pub keep_removed : (count : ℕ) → old.number ≡ s → RemoveDoes old new count → Keep (slice_set sites k new) parcels (keeps all s (remove_at s (all.at s)))
-  keep_removed count own does = keep_put (remove_at s (all.at s))
-      (table_same (heard_in old) (heard_in new) (removed (horizon_in old) (state_in old)) (state_in new) does.stays.2 does.left ∙ (λ i. remove_at (own i) (table_here i)))
+  module _ (own : old.number ≡ s) where
+    pub horizon_kept : (horizon : ℕ) → horizon ≡ horizon_in old → horizon ≡ horizon_at s (all.at s)
+    horizon_kept horizon is = is ∙ (λ i. horizon_at (own i) (table_here i))
 
-  pub horizon_kept : (own : old.number ≡ s) (horizon : ℕ) → horizon ≡ horizon_in old → horizon ≡ horizon_at s (all.at s)
-  horizon_kept own horizon is = is ∙ (λ i. horizon_at (own i) (table_here i))
+    module _ (count : ℕ) (does : RemoveDoes old new count) where
+      removed_table : table_in new ≡ remove_at s (all.at s)
+      removed_table = table_same (heard_in old) (heard_in new) (removed (horizon_in old) (state_in old)) (state_in new) does.stays.2 does.left ∙ (λ i. remove_at (own i) (table_here i))
+
+      pub keep_removed : Keep (slice_set sites k new) parcels (keeps all s (remove_at s (all.at s)))
+      keep_removed = keep_put (remove_at s (all.at s)) removed_table
+
+      pub drops_kept : (many left : ℕ) → IsRecordCount (state_in old).map many → IsRecordCount (state_in new).map left → left + count ≡ many → CountsDropped (all.at s).kept (remove_at s (all.at s)).kept count
+      drops_kept many left was is dropped = record {
+        many = many;
+        left = left;
+        was = subst (λ (t : Table). IsRecordCount t.kept many) table_here was;
+        is = subst (λ (t : Table). IsRecordCount t.kept left) removed_table is;
+        dropped = dropped;
+      }
 
   pub keep_evict : (key : List ℕ) (done : Bool) → EvictDoes old new key done → Keep (slice_set sites k new) parcels all
   keep_evict key done does = keep_same (table_same (heard_in old) (heard_in new) _ (state_in new) does.stays.2 does.left)
@@ -162,6 +175,19 @@ module _ (sites : List Site) (parcels : List Parcel) (w : Known) (agrees : Agree
       by : (b : Bool) → RequestDoesBy b mid new now request reply → Keep (slice_set sites k new) parcels (cond (is_done reply) (issued_at then s acts) then)
       by true d = subst (λ t. Keep (slice_set sites k new) parcels (cond t (issued_at then s acts) then)) (sym (ap is_done d.0)) (then_still mid does.flush d.3.2 d.1)
       by false d = by_done d (is_done reply) refl
+
+  pub owes_command : (request : Request) (reply : Reply) → ActDoes old new now request reply → OwesBy (is_stuck (w.waiting s) (latest (w.at s)) now) (flushed w s now) ((flushed_at w all s now).at s).kept s now request reply
+  owes_command request reply does = subst (λ b. OwesBy b (flushed w s now) ((flushed_at w all s now).at s).kept s now request reply) (stuck_is sites parcels w agrees k s now at_number hi old new got) (by (is_stuck (waiting_in old) (clock_in old) now) does.does)
+    where
+      by : (b : Bool) → RequestDoesBy b does.mid new now request reply → OwesBy b (flushed w s now) ((flushed_at w all s now).at s).kept s now request reply
+      by true d = d.0
+      by false d =
+          let mid = does.mid in
+          let met = between sites parcels w agrees k s now at_number hi old new got mid does.flush in
+          let there = there_still sites parcels w agrees k s now at_number hi old new got mid does.flush in
+          let found = found_still sites parcels w agrees k s now at_number hi old new got mid does.flush in
+          subst (λ (t : Table). OwesOver (flushed w s now) t.kept s now request reply) (table_here (slice_set sites k mid) parcels (flushed_at w all s now) (keep_flushed mid does.flush) k s at_number mid new found)
+          (request_over (slice_set sites k mid) parcels (flushed w s now) met k s now request reply at_number there mid new found does.recorded does.held d)
 
   module _ (key : List ℕ) where
     pub keep_reaped : (done : Bool) → ReapDoes old new now key (Ok done) → Keep (slice_set sites k new) parcels (kept_after w all (Reap s now key) (Reaped done))

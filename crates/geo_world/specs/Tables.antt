@@ -1,22 +1,25 @@
 -- What each site keeps along a schedule, by the events and their traces alone: its vector, what it heard of the others, its floor, and
 -- its record of each key. (Joins of states and of deltas: Almeida et al. 2018; the clock: Lamport 1978.)
-use Rattle.std.specs.Prelude.{◌≡◌, ℕ, ◌+◌, cond, if◌then◌else◌, ◌==◌, List, [], ◌∷◌, ◌++◌, length, Option, None, Some, slice_get, slice_index_or}
+use Rattle.std.specs.Prelude.{◌≡◌, ℕ, ◌+◌, cond, if◌then◌else◌, ◌==◌, Bool, true, false, List, [], ◌∷◌, ◌++◌, length, Option, None, Some, slice_get, slice_index_or}
 use Rattle.geo_stamp.specs.Acks.{row_of, none_heard, heard, horizon_of}
 use Rattle.geo_stamp.specs.Stamps.{Moment}
 use Rattle.geo_stamp.specs.Vectors.{zeros, vector_joined, greatest_of, raised}
 use Rattle.geo_versions.specs.Maps.{since, remaining, recent_both, floor_in, record_in}
 use Rattle.geo_versions.specs.Operations.{Act, Record, record_joined, floor_joined, above_both, body_of, expiry_of, flush_of, latest}
 use Rattle.geo_delta.specs.declared.parcel.Parcel.{Parcel}
+use Rattle.geo_grammar.specs.declared.request.Request.{Request}
+use Rattle.geo_grammar.specs.declared.reply.Reply.{Reply}
+use Rattle.geo_grammar.specs.declared.reply.Reply.TheVariants.{ClockEnded}
 use Rattle.geo_site.specs.declared.site.Site.{Site}
 use Rattle.geo_site.specs.declared.event.Event.{Event}
 use Rattle.geo_site.specs.declared.event.Event.TheVariants.{Command, Send, Take, Remove, Tick, Reap}
 use Rattle.geo_site.specs.declared.event.Trace.{Trace}
 use Rattle.geo_site.specs.declared.event.Trace.TheVariants.{Replied, Sent, Taken, Removed, Ticked, Reaped, ReapRefused}
-use Rattle.geo_site.specs.Entries.{due_acts, is_done}
-use Rattle.geo_site.specs.Machine.{Delta, next_operation}
+use Rattle.geo_site.specs.Entries.{Answers, due_acts, is_stuck, is_done}
+use Rattle.geo_site.specs.Machine.{Delta, next_operation, IsRecordCount, IsHeldCount}
 use Rattle.geo_site.specs.Sites.{heard_in, delta_of}
 use Rattle.geo_world.specs.Agreement.{Agrees}
-use Rattle.geo_site.specs.Schedule.{Known, happens, flushed, issues_on, reaps_on}
+use Rattle.geo_site.specs.Schedule.{Known, basis, happens, flushed, issues_on, reaps_on}
 
 -- what a site keeps
 pub record Table : Type 0 where
@@ -129,9 +132,31 @@ pub record Keep (sites : List Site) (parcels : List Parcel) (all : Tables) : Typ
   pub as_many : length all.sent ≡ length parcels
   pub each_sent : (p : ℕ) (parcel : Parcel) → slice_get parcels p ≡ Some parcel → brought_in parcel ≡ slice_index_or all.sent p brings_nothing
 
--- a removal goes by the site's own horizon
+-- the reply is what a site owes to the request that keeps this, or want of memory where it may be wanted
+pub record OwesOver (w : Known) (kept : List ℕ → Record) (site now : ℕ) (request : Request) (reply : Reply) : Type 0 where
+  pub records : ℕ
+  pub items : ℕ
+  pub recorded : IsRecordCount kept records
+  pub held : IsHeldCount (w.held site) items
+  pub answers : Answers now (basis w site now kept records items) request reply
+
+-- where no stamp is left for a flush that is due, all that it says is that its clock has ended
+abbrev pub OwesBy : Bool → Known → (List ℕ → Record) → ℕ → ℕ → Request → Reply → Type 0
+OwesBy true w kept site now request reply = reply ≡ ClockEnded
+OwesBy false w kept site now request reply = OwesOver w kept site now request reply
+
+-- so many fewer keys have a register
+pub record CountsDropped (before after : List ℕ → Record) (count : ℕ) : Type 0 where
+  pub many : ℕ
+  pub left : ℕ
+  pub was : IsRecordCount before many
+  pub is : IsRecordCount after left
+  pub dropped : left + count ≡ many
+
+-- a reply is owed over what its site keeps after a due flush, and a removal goes by its site's own horizon and tells how many it dropped
 abbrev pub Tallies : Known → Tables → Event → Trace → Type 0
-Tallies w all (Remove site) (Removed horizon count) = horizon ≡ horizon_at site (all.at site)
+Tallies w all (Command site now request) (Replied reply victim) = OwesBy (is_stuck (w.waiting site) (latest (w.at site)) now) (flushed w site now) ((flushed_at w all site now).at site).kept site now request reply
+Tallies w all (Remove site) (Removed horizon count) = (horizon ≡ horizon_at site (all.at site)) × CountsDropped (all.at site).kept (remove_at site (all.at site)).kept count
 Tallies w all event trace = Unit {0}
 
 abbrev pub EachTallies : Known → Tables → List Event → List Trace → Type 0

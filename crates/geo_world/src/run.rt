@@ -46,9 +46,12 @@ pub fn are_in_time(events: &[Event]) -> bool
 ///
 /// Whatever the schedule, each event has a trace that it can have: each reply is plain memcached's over what its site then
 /// holds, or the refusal that is due; a store evicts no key but another one of which bytes of the same class were held; a
-/// parcel's addressee never finds a gap. In the end sites and parcels are what is known along the schedule. Each site's floor and versions are those of the operations that it knows,
-/// whatever was evicted, so that sites which know the same operations hold equal versions. Bytes in a reply are what the
-/// operation wrote whose stamp the version has, unless two values that were written have one SHA-256.
+/// parcel's addressee never finds a gap. What a site keeps of each key is a function of the events and their traces, and so are
+/// whether its map is full, how many records `stats` tells, and what a removal drops and goes by.
+///
+/// In the end sites and parcels are what is known along the schedule. Each site's floor and versions are those of the operations
+/// that it knows, whatever was evicted, so that sites which know the same operations hold equal versions. Bytes in a reply are what
+/// the operation wrote whose stamp the version has, unless two values that were written have one SHA-256.
 ///
 /// An event that names a site or a parcel that cannot be there is told before anything is done, so that want of memory never takes
 /// its place. A parcel may also be missing because its send wanted memory.

@@ -55,10 +55,11 @@ impl World {
     {
         let at = &mut self.sites[site as usize - 1];
         let horizon = at.horizon();
-        Trace::Removed {
-            horizon,
-            count: at.remove(),
-        }
+        let before = at.records();
+        let count = at.remove();
+        let after = at.records();
+        prove!(after + count == before);
+        Trace::Removed { horizon, count }
     }
 
     /// A flush that waits is carried out where it is due.

@@ -3,7 +3,7 @@ use Rattle.geo_grammar.specs.declared.reply.Reply.TheVariants.{OutOfMemory}
 use Rattle.geo_world.proofs.Alone.{does_alone}
 use Rattle.geo_world.proofs.Worlds.{there_is, read_is}
 use Rattle.geo_world.proofs.Answering.{command_lawful, command_agrees, for_itself}
-use Rattle.geo_world.proofs.Keeping.{keep_command}
+use Rattle.geo_world.proofs.Keeping.{keep_command, owes_command}
 use Rattle.geo_world.proofs.world.World.command.Goals as goal
 
 pub returns-in-Ok-clause-lawful : goal.returns-in-Ok-clause-lawful
@@ -57,7 +57,7 @@ returns-in-Ok-clause-tables c = λ w all agrees keep.
     let lo = there.first in
     let hi = there.last in
     let got = read_is c.args.self.now.sites.items (c.args.site - 1) c.index_mut-at.result.now (omega arith) c.index_mut-at.ensures.value in
-    (tt, keep_command _ _ w agrees all keep (c.args.site - 1) c.args.site c.args.now (omega arith) hi c.index_mut-at.result.now c.act_full.new.self got c.args.request.now c.in-Ok.acted.reply c.in-Ok.acted.victim c.in-Ok.ensures.does.does)
+    (owes_command _ _ w agrees all keep (c.args.site - 1) c.args.site c.args.now (omega arith) hi c.index_mut-at.result.now c.act_full.new.self got c.args.request.now c.in-Ok.acted.reply c.in-Ok.ensures.does.does, keep_command _ _ w agrees all keep (c.args.site - 1) c.args.site c.args.now (omega arith) hi c.index_mut-at.result.now c.act_full.new.self got c.args.request.now c.in-Ok.acted.reply c.in-Ok.acted.victim c.in-Ok.ensures.does.does)
 
 pub returns-in-Err-clause-tables : goal.returns-in-Err-clause-tables
 returns-in-Err-clause-tables c = λ w all agrees keep.
@@ -66,4 +66,4 @@ returns-in-Err-clause-tables c = λ w all agrees keep.
     let lo = there.first in
     let hi = there.last in
     let got = read_is c.args.self.now.sites.items (c.args.site - 1) c.index_mut-at.result.now (omega arith) c.index_mut-at.ensures.value in
-    (tt, keep_command _ _ w agrees all keep (c.args.site - 1) c.args.site c.args.now (omega arith) hi c.index_mut-at.result.now c.act_full.new.self got c.args.request.now OutOfMemory None (for_itself c.index_mut-at.result.now c.act_full.new.self c.args.now c.args.request.now c.in-Err.ensures.does))
+    (owes_command _ _ w agrees all keep (c.args.site - 1) c.args.site c.args.now (omega arith) hi c.index_mut-at.result.now c.act_full.new.self got c.args.request.now OutOfMemory (for_itself c.index_mut-at.result.now c.act_full.new.self c.args.now c.args.request.now c.in-Err.ensures.does), keep_command _ _ w agrees all keep (c.args.site - 1) c.args.site c.args.now (omega arith) hi c.index_mut-at.result.now c.act_full.new.self got c.args.request.now OutOfMemory None (for_itself c.index_mut-at.result.now c.act_full.new.self c.args.now c.args.request.now c.in-Err.ensures.does))

@@ -1,8 +1,8 @@
-use Rattle.std.proofs.Common.{◌-◌, length, arith, refl}
+use Rattle.std.proofs.Common.{◌+◌, ◌-◌, ap, length, arith, refl, sym, ◌∙◌}
 use Rattle.geo_world.proofs.Alone.{does_alone, removes_at}
 use Rattle.geo_world.proofs.Worlds.{there_is, read_is}
 use Rattle.geo_world.proofs.Answering.{remove_lawful, remove_agrees}
-use Rattle.geo_world.proofs.Keeping.{keep_removed, horizon_kept}
+use Rattle.geo_world.proofs.Keeping.{keep_removed, horizon_kept, drops_kept}
 use Rattle.geo_world.proofs.world.World.remove.Goals as goal
 
 pub returns-clause-lawful : goal.returns-clause-lawful
@@ -12,7 +12,7 @@ returns-clause-lawful c = λ w agrees.
     let lo = there.first in
     let hi = there.last in
     let got = read_is c.args.self.now.sites.items (c.args.site - 1) c.index_mut-at.result.now (omega arith) c.index_mut-at.ensures.value in
-    remove_lawful _ _ w agrees (c.args.site - 1) c.args.site (omega arith) hi c.index_mut-at.result.now c.remove.new.self got c.horizon-horizon.result c.remove.result c.horizon-horizon.ensures
+    remove_lawful _ _ w agrees (c.args.site - 1) c.args.site (omega arith) hi c.index_mut-at.result.now c.remove-count.new.self got c.horizon-horizon.result c.remove-count.result c.horizon-horizon.ensures
 
 pub returns-clause-kept : goal.returns-clause-kept
 returns-clause-kept c = λ w agrees.
@@ -21,7 +21,7 @@ returns-clause-kept c = λ w agrees.
     let lo = there.first in
     let hi = there.last in
     let got = read_is c.args.self.now.sites.items (c.args.site - 1) c.index_mut-at.result.now (omega arith) c.index_mut-at.ensures.value in
-    remove_agrees _ _ w agrees (c.args.site - 1) c.args.site (omega arith) hi c.index_mut-at.result.now c.remove.new.self got c.horizon-horizon.result c.remove.result c.remove.ensures
+    remove_agrees _ _ w agrees (c.args.site - 1) c.args.site (omega arith) hi c.index_mut-at.result.now c.remove-count.new.self got c.horizon-horizon.result c.remove-count.result c.remove-count.ensures
 
 pub returns-clause-alone : goal.returns-clause-alone
 returns-clause-alone c =
@@ -30,7 +30,7 @@ returns-clause-alone c =
     let lo = there.first in
     let hi = there.last in
     let got = read_is c.args.self.now.sites.items (c.args.site - 1) c.index_mut-at.result.now (omega arith) c.index_mut-at.ensures.value in
-    does_alone c.args.self.now.sites.items c.args.site c.remove.new.self lo _ _ refl (removes_at c.args.self.now.sites.items c.args.site c.remove.new.self lo c.index_mut-at.result.now c.horizon-horizon.result c.remove.result got c.horizon-horizon.ensures c.remove.ensures)
+    does_alone c.args.self.now.sites.items c.args.site c.remove-count.new.self lo _ _ refl (removes_at c.args.self.now.sites.items c.args.site c.remove-count.new.self lo c.index_mut-at.result.now c.horizon-horizon.result c.remove-count.result got c.horizon-horizon.ensures c.remove-count.ensures)
 
 pub returns-clause-tables : goal.returns-clause-tables
 returns-clause-tables c = λ w all agrees keep.
@@ -39,5 +39,13 @@ returns-clause-tables c = λ w all agrees keep.
     let lo = there.first in
     let hi = there.last in
     let got = read_is c.args.self.now.sites.items (c.args.site - 1) c.index_mut-at.result.now (omega arith) c.index_mut-at.ensures.value in
-    let own = (agrees.each (c.args.site - 1) c.args.site c.index_mut-at.result.now (omega arith) got).own in
-    (horizon_kept _ _ all keep (c.args.site - 1) c.args.site (omega arith) c.index_mut-at.result.now c.remove.new.self got own c.horizon-horizon.result c.horizon-horizon.ensures, keep_removed _ _ all keep (c.args.site - 1) c.args.site (omega arith) c.index_mut-at.result.now c.remove.new.self got c.remove.result own c.remove.ensures)
+    let old = c.index_mut-at.result.now in
+    let new = c.remove-count.new.self in
+    let own = (agrees.each (c.args.site - 1) c.args.site old (omega arith) got).own in (
+      (
+        horizon_kept _ _ all keep (c.args.site - 1) c.args.site (omega arith) old new got own c.horizon-horizon.result c.horizon-horizon.ensures,
+        drops_kept _ _ all keep (c.args.site - 1) c.args.site (omega arith) old new got own c.remove-count.result c.remove-count.ensures c.records-before.result c.records-after.result c.records-before.ensures.records c.records-after.ensures.records
+            (ap (λ m. m + c.remove-count.result) c.records-after.ensures.count ∙ c.remove-count.ensures.counted ∙ sym c.records-before.ensures.count),
+      ),
+      keep_removed _ _ all keep (c.args.site - 1) c.args.site (omega arith) old new got own c.remove-count.result c.remove-count.ensures,
+    )

@@ -11,3 +11,6 @@ returns-in-Ok-take-clause-tables c = subst (λ (e : Event). Tabled c.args.self.n
 
 pub returns-in-Remove-clause-tables : goal.returns-in-Remove-clause-tables
 returns-in-Remove-clause-tables c = subst (λ (e : Event). Tabled c.args.self.now.sites.items c.args.self.now.parcels.items c.remove.new.self.sites.items c.remove.new.self.parcels.items e c.remove.result) (sym c.in-Remove.is) c.remove.ensures.tables
+
+pub returns-in-Command-clause-tables : goal.returns-in-Command-clause-tables
+returns-in-Command-clause-tables c = subst (λ (e : Event). Tabled c.args.self.now.sites.items c.args.self.now.parcels.items c.command.new.self.sites.items c.command.new.self.parcels.items e c.command.result) (sym c.in-Command.is) c.command.ensures.tables
