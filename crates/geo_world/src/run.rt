@@ -19,7 +19,8 @@ use std::alloc::Global;
 /// The greatest moment, in seconds.
 pub const LAST_MOMENT: u64 = 1 << 40;
 
-fn is_in_time_event(event: &Event) -> bool
+/// Whether the moment of an event, if it has one, is one of a schedule.
+pub(crate) fn is_in_time_event(event: &Event) -> bool
     ensures { result ≡ is_in_time event.now }
 {
     match event {

@@ -4,8 +4,8 @@ ghost use Rattle.geo_world.specs.There.{is_site, is_there, made_by, FirstMissing
 
 use geo_site::Event;
 
-/// Whether there is a site of this number.
-fn has_site(sites: usize, number: u8) -> bool
+/// Whether a site of this number is among so many.
+pub(crate) fn has_site(sites: usize, number: u8) -> bool
     ensures { result ≡ is_site sites number }
 {
     number >= 1 && number as usize <= sites

@@ -8,7 +8,8 @@ ghost use Rattle.geo_world.specs.Plain.{Meets, can_follow};
 
 use crate::plain::knowledge::{Knowledge, copies};
 use crate::plain::operation::Operation;
-use crate::run::LAST_MOMENT;
+use crate::run::is_in_time_event;
+use crate::there::{has_site, is_at_hand};
 use geo_grammar::Reply;
 use geo_lattice::Items;
 use geo_site::{Event, Setup, Trace};
@@ -45,7 +46,7 @@ impl Known {
     pub fn has(&self, site: u8) -> bool
         ensures { result ≡ is_site (length self.now.sites.items) site }
     {
-        site >= 1 && site as usize <= self.sites.len()
+        has_site(self.sites.len(), site)
     }
 
     fn send(&mut self, alloc: Global, site: u8, to: u8) -> Result<(), AllocError>
@@ -74,14 +75,7 @@ impl Known {
     fn can_follow(&self, event: &Event) -> bool
         ensures { result ≡ can_follow (length self.now.sites.items) (length self.now.sent.items) event.now }
     {
-        match event {
-            Event::Command { site, now, .. }
-            | Event::Tick { site, now }
-            | Event::Reap { site, now, .. } => self.has(*site) && *now <= LAST_MOMENT,
-            Event::Evict { site, .. } | Event::Remove { site } => self.has(*site),
-            Event::Send { site, to } => self.has(*site) && self.has(*to),
-            Event::Take { site, parcel } => self.has(*site) && *parcel < self.sent.len(),
-        }
+        is_at_hand(self.sites.len(), self.sent.len(), event) && is_in_time_event(event)
     }
 
     /// What an event with its trace adds.
