@@ -3,7 +3,7 @@ ghost use Rattle.std.specs.Prelude.{◌≤◌, ◌^◌};
 
 use geo_delta::Parcel;
 use geo_equal::Equal;
-use geo_grammar::Request;
+use geo_grammar::{Reply, Request};
 use geo_history::{Answer, Event, Step};
 use geo_lattice::Twin;
 use geo_site::{ReapError, SendError, Site, TakeError};
@@ -22,6 +22,15 @@ fn is_made(made: &Option<(Digest, u32)>, told: &Option<(Digest, u32)>) -> bool {
     }
 }
 
+/// Whether a request that was answered so stored bytes under another key than the victim's.
+fn stores_beside(victim: &Key, request: &Request, reply: &Reply) -> bool {
+    match (request, reply) {
+        (Request::Store { key, .. }, Reply::Stored)
+        | (Request::Arith { key, .. }, Reply::Number(_)) => key != victim,
+        _ => false,
+    }
+}
+
 /// Answers a request. The recorded victim goes first: with its chunk free the site evicts nothing itself, in whatever order it would
 /// have let go. A due flush was a step of its own.
 fn requests(
@@ -34,15 +43,15 @@ fn requests(
     if now > LAST_MOMENT || site.tick(now) {
         return Ok(false);
     }
+    let Answer::Replied(reply) = &step.answer else {
+        return Ok(false);
+    };
     if let Some(victim) = &step.victim
-        && !site.evict(victim)
+        && !(stores_beside(victim, request, reply) && site.evict(victim))
     {
         return Ok(false);
     }
     let acted = site.act_full(alloc, now, request, 0)?;
-    let Answer::Replied(reply) = &step.answer else {
-        return Ok(false);
-    };
     Ok(acted.victim.is_none() && is_made(&acted.made, &step.made) && acted.reply.equals(reply))
 }
 
