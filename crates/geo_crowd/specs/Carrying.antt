@@ -1,5 +1,5 @@
 -- A connection that a thread carries beside others: what it read and wrote, and what it owes.
-use Rattle.std.specs.Prelude.{◌≡◌, ℕ, true, List, [], ◌++◌, Option, ◌⊎◌}
+use Rattle.std.specs.Prelude.{◌≡◌, ◌≢◌, ℕ, true, List, [], ◌++◌, Option, Ok, Err, ◌⊎◌, ⊤}
 use Rattle.std.specs.Io.KnownBytes.{Appends, Consumes}
 use Rattle.geo_grammar.specs.Protocol.{items_of}
 use Rattle.geo_grammar.specs.declared.item.Item.{Item}
@@ -10,8 +10,11 @@ use Rattle.geo_session.specs.Connections.{Connection, Answered, Broken, BreaksFo
 use Rattle.geo_session.specs.Exchanges.{Exchange, items_in, text_of, Runs}
 use Rattle.geo_session.specs.Sessions.{Sends}
 use Rattle.geo_session.specs.declared.fault.SessionFault.{SessionFault}
+use Rattle.geo_session.specs.declared.fault.SessionFault.TheVariants.{Write}
 use Rattle.geo_crowd.specs.declared.carried.Came.{Came}
 use Rattle.geo_crowd.specs.declared.carried.Came.TheVariants as came
+use Rattle.geo_crowd.specs.declared.standing.Standing.{Standing}
+use Rattle.geo_crowd.specs.declared.standing.Standing.TheVariants.{Again, Waits, Over}
 
 -- what its client sends still, what was written to the client, where these are known, and its session
 pub record Carriage : Type 0 where
@@ -85,6 +88,13 @@ pub record Reads {S : Type 0} (answers : S → Request → Reply → S → Type 
   pub piece : List ℕ
   pub came : Consumes had has piece
   pub comes : Comes answers refuses result piece old new before after
+
+-- a connection is over once it is owed nothing, or can be written no more
+abbrev pub IsOver : Standing → List ℕ → Type 0
+IsOver Again owed = ⊤
+IsOver Waits owed = ⊤
+IsOver (Over (Ok end)) owed = owed ≡ []
+IsOver (Over (Err fault)) owed = fault ≢ Write → owed ≡ []
 
 -- a write sends a beginning of what is owed, and else changes nothing
 pub record Writes (old new : Carriage) : Type 0 where

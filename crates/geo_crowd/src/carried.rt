@@ -110,7 +110,7 @@ impl<S: Stream> Model for Carried<S> {
 impl<S: Stream> Carried<S> {
     ghost use Rattle.std.specs.Prelude.{◌≡◌};
     ghost use Rattle.geo_session.specs.Connections.{new_connection};
-    ghost use Rattle.geo_crowd.specs.Carrying.{Carries, Turns, Writes};
+    ghost use Rattle.geo_crowd.specs.Carrying.{Carries, IsOver, Turns, Writes};
 
     /// A connection on which nothing came and nothing was written, and of which it is not known whether it is ready.
     pub fn new(alloc: Global, stream: S) -> Carried<S>
@@ -204,7 +204,8 @@ impl<S: Stream> Carried<S> {
 
     /// How it stands.
     fn standing(&self) -> Standing
-        ensures { Carries self.now.written self.now.session }
+        ensures carries { Carries self.now.written self.now.session }
+        ensures over { IsOver result self.now.session.owed }
     {
         let owes = !self.session.owed().is_empty();
         match self.outcome {
@@ -226,6 +227,7 @@ impl<S: Stream> Carried<S> {
     ) -> Standing
         ensures turns { Turns B.answers B.refuses self.old self.new backend.old backend.new }
         ensures carries { Carries self.new.written self.new.session }
+        ensures over { IsOver result self.new.session.owed }
     {
         self.write();
         self.read(rt, alloc, backend, gate, buffer);

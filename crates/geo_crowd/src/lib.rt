@@ -9,10 +9,12 @@
 
 mod carried;
 mod crowd;
+mod polling;
 mod standing;
 mod stream;
 
 pub use carried::Carried;
 pub use crowd::{Crowd, Passed};
+pub use polling::{Polling, Ready};
 pub use standing::Standing;
 pub use stream::{Accepted, Given, Stream};

@@ -1,7 +1,7 @@
 //! A thread that carries clients' connections.
 use crate::mailbox::Mailbox;
 use crate::socket::Socket;
-use geo_crowd::{Carried, Crowd, Passed};
+use geo_crowd::{Carried, Crowd, Passed, Polling, Ready};
 use geo_session::{Backend, Gate};
 use mio::{Events, Interest, Poll, Token};
 use std::alloc::{AllocError, Global};
@@ -19,15 +19,52 @@ const EVENTS: usize = 256;
 /// For how many milliseconds a worker waits where nothing is ready, before it looks into its mailbox all the same.
 const PATIENCE: u64 = 1000;
 
+/// The sockets of a worker, as the system tells of them.
+#[derive(Drop)]
+struct Sockets {
+    poll: Poll,
+    events: Events<Global>,
+    /// Those that were ready when the last wait ended, as many as `events` has room for.
+    ready: Vec<Ready>,
+    /// Whether clients may have been handed in since.
+    is_called: bool,
+}
+
+impl Polling for Sockets {
+    fn wait(&mut self, at_once: bool) {
+        let most = if at_once { 0 } else { PATIENCE };
+        // a signal ends the wait, and no more
+        let _ = self
+            .poll
+            .poll(&mut self.events, Some(Duration::from_millis(most)));
+        self.ready.clear();
+        self.is_called = self.events.is_empty() && !at_once;
+        for event in self.events.iter() {
+            let Token(number) = event.token();
+            if event.token() == HANDED_IN {
+                self.is_called = true;
+                continue;
+            }
+            let is_over = event.is_read_closed() || event.is_error();
+            let _ = self.ready.push(Ready {
+                number,
+                readable: event.is_readable() || is_over,
+                writable: event.is_writable() || is_over,
+            });
+        }
+    }
+
+    fn ready(&self) -> &[Ready] {
+        self.ready.as_slice()
+    }
+}
+
 /// A thread that carries clients' connections, as many as come.
 #[derive(Drop)]
 pub(crate) struct Worker<'a> {
-    poll: Poll,
-    events: Events<Global>,
+    sockets: Sockets,
     crowd: Crowd<Socket>,
     mailbox: &'a Mailbox,
-    /// Whether some connection can go on at once.
-    goes_on: bool,
     /// Whether no more clients come.
     is_closed: bool,
 }
@@ -38,12 +75,16 @@ impl<'a> Worker<'a> {
         poll: Poll,
         mailbox: &'a Mailbox,
     ) -> Result<Worker<'a>, AllocError> {
-        Ok(Worker {
+        let sockets = Sockets {
             poll,
             events: Events::with_capacity(alloc, EVENTS)?,
+            ready: Vec::with_capacity(alloc, EVENTS)?,
+            is_called: false,
+        };
+        Ok(Worker {
+            sockets,
             crowd: Crowd::new(alloc)?,
             mailbox,
-            goes_on: false,
             is_closed: false,
         })
     }
@@ -57,6 +98,7 @@ impl<'a> Worker<'a> {
         let token = Token(self.crowd.next_number());
         let interests = Interest::READABLE | Interest::WRITABLE;
         if self
+            .sockets
             .poll
             .registry()
             .register(&mut stream, token, interests)
@@ -74,40 +116,13 @@ impl<'a> Worker<'a> {
         let (clients, is_closed) = self.mailbox.take(rt, alloc);
         self.is_closed = is_closed;
         for client in clients {
-            self.goes_on = true;
             if !self.add(alloc, client) {
                 self.mailbox.have_ended(1);
             }
         }
     }
 
-    /// Waits until a connection is ready or clients are handed in, or not at all where some connection can go on.
-    fn wait<R: Wait>(&mut self, rt: &R, alloc: Global) {
-        let most = if self.goes_on { 0 } else { PATIENCE };
-        // a signal ends the wait, and no more
-        let _ = self
-            .poll
-            .poll(&mut self.events, Some(Duration::from_millis(most)));
-        let mut is_called = self.events.is_empty() && !self.goes_on;
-        for event in self.events.iter() {
-            if event.token() == HANDED_IN {
-                is_called = true;
-            } else {
-                let Token(number) = event.token();
-                let is_over = event.is_read_closed() || event.is_error();
-                self.crowd.is_ready(
-                    number,
-                    event.is_readable() || is_over,
-                    event.is_writable() || is_over,
-                );
-            }
-        }
-        if is_called {
-            self.take_in(rt, alloc);
-        }
-    }
-
-    /// Carries connections until no more clients come and all have ended. Each pass that ended some is told.
+    /// Gives each connection that is ready its turn, and takes in who was handed in meanwhile. What ended is told.
     pub(crate) fn turn<R: Wait + Clock, B: Backend, G: Gate>(
         &mut self,
         rt: &R,
@@ -115,10 +130,11 @@ impl<'a> Worker<'a> {
         backend: &mut B,
         gate: &G,
     ) -> Passed {
-        self.wait(rt, alloc);
-        let passed = self.crowd.pass(rt, backend, gate);
-        self.goes_on = passed.goes_on;
+        let passed = self.crowd.round(rt, &mut self.sockets, backend, gate);
         self.mailbox.have_ended(passed.ended);
+        if self.sockets.is_called {
+            self.take_in(rt, alloc);
+        }
         passed
     }
 

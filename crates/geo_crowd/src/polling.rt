@@ -1,0 +1,20 @@
+//! What tells which connections are ready.
+
+/// A connection that can be read, or written, or both.
+#[derive(Clone, Copy, Debug, PartialEq, Eq)]
+pub struct Ready {
+    /// Its number.
+    pub number: usize,
+    pub readable: bool,
+    pub writable: bool,
+}
+
+/// What tells a thread which of its connections are ready: the system's sockets, or a list in memory. It may tell of a connection twice,
+/// of one that isn't ready, and of one that has gone.
+pub trait Polling {
+    /// Waits until some connection is ready, or for nothing where others can go on at once.
+    fn wait(&mut self, at_once: bool);
+
+    /// Those that were ready when the last wait ended.
+    fn ready(&self) -> &[Ready];
+}
