@@ -94,6 +94,8 @@ pub struct Carried<S: Stream> {
     // It may be read, as far as is known.
     is_readable: bool,
     is_writable: bool,
+    // The client sends no more: what is left is read up to the end, of which nobody tells again.
+    is_ending: bool,
     outcome: Option<Result<SessionEnd, SessionFault>>,
 }
 
@@ -121,14 +123,16 @@ impl<S: Stream> Carried<S> {
             session: Session::new(alloc),
             is_readable: true,
             is_writable: true,
+            is_ending: false,
             outcome: None,
         }
     }
 
-    /// It can be read, or written, or both, from now on.
-    pub fn is_ready(&mut self, readable: bool, writable: bool)
+    /// It can be read, or written, or both, from now on, and whether its client has sent all.
+    pub fn is_ready(&mut self, readable: bool, writable: bool, ending: bool)
         ensures { self.new ≡ self.old }
     {
+        self.is_ending = self.is_ending || ending;
         self.is_readable = self.is_readable || readable;
         self.is_writable = self.is_writable || writable;
     }
@@ -183,8 +187,8 @@ impl<S: Stream> Carried<S> {
             gate,
             buffer,
         ) {
-            // a socket that gave less than there was room for has no more, and tells when it has
-            Came::Answered(None, is_full) => self.is_readable = is_full,
+            // a socket that gave less than there was room for has no more, and tells when it has, but for its end, if that is known
+            Came::Answered(None, is_full) => self.is_readable = is_full | self.is_ending,
             Came::Answered(Some(end), _) => self.outcome = Some(Ok(end)),
             Came::Broken(fault) => self.outcome = Some(Err(fault)),
             Came::Later => self.is_readable = false,

@@ -3,7 +3,7 @@ ghost use Rattle.std.specs.Prelude.{◌≡◌, ◌≢◌, ◌++◌, ◌∷◌, �
 ghost use Rattle.geo_crowd.specs.Crowds.{next_due};
 
 use crate::carried::Carried;
-use crate::polling::Polling;
+use crate::polling::{Polling, Ready};
 use crate::standing::Standing;
 use crate::stream::Stream;
 use geo_session::{Backend, Gate};
@@ -117,15 +117,21 @@ impl<S: Stream + Drop> Crowd<S> {
         Ok(number)
     }
 
-    /// A connection can be read, or written, or both: it is given a turn in the next pass.
-    pub fn is_ready(&mut self, number: usize, readable: bool, writable: bool)
+    /// A connection is ready: it is given a turn in the next pass.
+    pub fn is_ready(&mut self, ready: Ready)
         ensures stand { Stand (at self.old) (at self.new) }
-        ensures due { (due self.new ≡ due self.old) ⊎ (due self.new ≡ due self.old ++ (number ∷ [])) }
+        ensures due { (due self.new ≡ due self.old) ⊎ (due self.new ≡ due self.old ++ (ready.number ∷ [])) }
     {
+        let Ready {
+            number,
+            readable,
+            writable,
+            ending,
+        } = ready;
         let Some(member) = self.members.get_mut(number) else {
             return;
         };
-        member.carried.is_ready(readable, writable);
+        member.carried.is_ready(readable, writable, ending);
         if !member.is_listed && self.listed.push(number).is_ok() {
             member.is_listed = true;
         }
@@ -199,7 +205,7 @@ impl<S: Stream + Drop> Crowd<S> {
     {
         polling.wait(!self.listed.is_empty());
         for ready in polling.ready() {
-            self.is_ready(ready.number, ready.readable, ready.writable);
+            self.is_ready(*ready);
         }
         self.pass(rt, backend, gate)
     }

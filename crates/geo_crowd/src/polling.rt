@@ -7,6 +7,8 @@ pub struct Ready {
     pub number: usize,
     pub readable: bool,
     pub writable: bool,
+    /// Its client has sent all, which is told once.
+    pub ending: bool,
 }
 
 /// What tells a thread which of its connections are ready: the system's sockets, or a list in memory. It may tell of a connection twice,

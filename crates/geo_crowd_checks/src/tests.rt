@@ -1,5 +1,5 @@
 //! What no clause says: that turns succeed where there is memory, how a connection stands after them, and that each gets its own.
-use geo_crowd::{Accepted, Carried, Crowd, Given, Passed, Standing, Stream};
+use geo_crowd::{Accepted, Carried, Crowd, Given, Passed, Ready, Standing, Stream};
 use geo_grammar::{Reply, Request};
 use geo_session::{Backend, OpenGate, SessionEnd, SessionFault};
 use std::alloc::Global;
@@ -90,6 +90,15 @@ impl Backend for Idle {
     }
 }
 
+fn ready(number: usize, ending: bool) -> Ready {
+    Ready {
+        number,
+        readable: true,
+        writable: true,
+        ending,
+    }
+}
+
 /// Passes until none can go on, with all ready again after each: how many ended, and how many by a fault.
 fn ended<R: Wait + Clock>(rt: &R, crowd: &mut Crowd<Fake>, numbers: &[usize]) -> (usize, usize) {
     let mut all = (0usize, 0usize);
@@ -97,7 +106,7 @@ fn ended<R: Wait + Clock>(rt: &R, crowd: &mut Crowd<Fake>, numbers: &[usize]) ->
         let Passed { ended, faults, .. } = crowd.pass(rt, &mut Idle, &OpenGate);
         all = (all.0.saturating_add(ended), all.1.saturating_add(faults));
         for number in numbers.iter() {
-            crowd.is_ready(*number, true, true);
+            crowd.is_ready(ready(*number, false));
         }
     }
     all
@@ -143,7 +152,7 @@ fn carried<R: Wait + Clock>(
             let Fake { written, .. } = carried.into_stream();
             return Some((written, outcome));
         }
-        carried.is_ready(true, true);
+        carried.is_ready(true, true, false);
     }
     None
 }
@@ -188,5 +197,52 @@ fn a_quit_is_the_end(rt: HostRuntime) -> Result<(), Fail> {
     let (written, outcome) = carried(&rt, alloc, stream, buffer.as_mut_slice()).ok_or("no end")?;
     assert_eq!(rt; written.as_slice(), b"STORED\r\nSTORED\r\n".as_slice());
     assert_eq!(rt; outcome, Ok(SessionEnd::Quit));
+    Ok(())
+}
+
+/// A connection that gives all at once and then its end, and takes nothing.
+#[derive(Drop)]
+struct Brief {
+    input: &'static [u8],
+}
+
+impl Stream for Brief {
+    ghost use Rattle.std.specs.Prelude.{Some, None};
+
+    ghost remaining = { λ s. Some s.input.now };
+
+    ghost contents = { λ _. None };
+
+    fn read(&mut self, buffer: &mut [u8]) -> Given {
+        let count = self.input.len().min(buffer.len());
+        if count == 0 {
+            return Given::End;
+        }
+        let (piece, rest) = self.input.split_at(count);
+        let (front, _) = buffer.split_at_mut(count);
+        front.copy_from_slice(piece);
+        self.input = rest;
+        Given::Bytes(count)
+    }
+
+    fn write(&mut self, _bytes: &[u8]) -> Accepted {
+        Accepted::Later
+    }
+}
+
+#[test]
+fn an_end_that_is_told_with_the_last_bytes_is_read(rt: HostRuntime) -> Result<(), Fail> {
+    let alloc = rt.alloc();
+    let mut crowd = Crowd::new(alloc)?;
+    let half = crowd.add(Carried::new(
+        alloc,
+        Brief {
+            input: b"set a 0 0 2\r\nh",
+        },
+    ))?;
+    crowd.is_ready(ready(half, true));
+    let Passed { ended: early, .. } = crowd.pass(&rt, &mut Idle, &OpenGate);
+    let Passed { ended, .. } = crowd.pass(&rt, &mut Idle, &OpenGate);
+    assert_eq!(rt; (early, ended), (0, 1));
     Ok(())
 }

@@ -50,6 +50,7 @@ impl Polling for Sockets {
                 number,
                 readable: event.is_readable() || is_over,
                 writable: event.is_writable() || is_over,
+                ending: is_over,
             });
         }
     }
