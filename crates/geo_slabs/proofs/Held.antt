@@ -1,15 +1,17 @@
 -- A write to one chunk leaves the bytes of the others.
-use Rattle.std.proofs.Common.{◌≡◌, ◌≢◌, ℕ, zero, suc, ◌+◌, ◌*◌, ◌/◌, ◌%◌, ◌-◌, ◌<◌, ◌≤◌, ◌⊎◌, inl, inr, true, false, List, [], ◌∷◌, ◌++◌, length, take, drop, get_or, Option, Some, None, slice_get, IsSome, IsSomeAnd, refl, sym, ap, ◌∙◌, arith, add-zero, zero-add, length-append, length-drop, replicate, subst, append_assoc, append-nil, Vec}
+use Rattle.std.proofs.Common.{◌≡◌, ◌≢◌, ℕ, zero, suc, ◌+◌, ◌*◌, ◌/◌, ◌%◌, ◌-◌, ◌^◌, ◌<◌, ◌≤◌, ◌==◌, ◌⊎◌, inl, inr, true, false, if◌then◌else◌, List, [], ◌∷◌, ◌++◌, length, take, drop, get_or, Option, Some, None, slice_get, IsSome, IsSomeAnd, refl, sym, ap, ◌∙◌, arith, add-zero, zero-add, length-append, length-drop, replicate, subst, append_assoc, append-nil, Vec}
 use Rattle.std.proofs.Math.ListN.{set, get_or-append}
 use Rattle.std.proofs.Math.Nat.{mul-le-mul_left, mul-le-mul_right, div-add-mod}
-use Rattle.std.proofs.lemmas.List.{drop-take, take-append-le, get_or-set_same, get_or-set_other, length-set, length-map, length-take, length-replicate}
+use Rattle.std.proofs.lemmas.List.{drop-take, take-append-le, get_or-set_same, get_or-set_other, length-set, length-map, length-take, length-take-le, length-replicate}
 use Rattle.std.proofs.lemmas.Option.{slice_get_within, slice_get_past}
-use Rattle.std.proofs.lemmas.Bool.{cases_eq, cases_lt, cases_order}
+use Rattle.std.proofs.lemmas.Bool.{cases_eq, cases_lt, cases_order, eq-eqb, eqb-true, false_from_ne_true}
 use Rattle.std.proofs.lemmas.Slice.{take-put_mid_below, drop-put_mid, between-put_mid}
 use Rattle.std.proofs.lemmas.Nat.{div_below, mod_below}
 use borrow.Rule.Slice.PartMut.{put_mid}
 use Rattle.std.specs.declared.alloc.Global.{Global}
-use Rattle.geo_slabs.specs.Chunks.{IsClass, bytes_of, read, chunks_from, free_cell, times, ListsFree, AllFit, AllReach, count_free, grown, with_fresh, TakeDoes}
+use Rattle.std.specs.Int.{w32, from_be_bytes}
+use Rattle.geo_slabs.specs.declared.«class».FreeChunks.{FreeChunks}
+use Rattle.geo_slabs.specs.Chunks.{IsClass, HasLink, HoldsSoMany, bytes_of, read, chunks_from, free_cell, times, ListsFree, AllFit, AllReach, count_free, grown, with_fresh, placed, link, freed_from, freed_in, TakeDoes}
 
 pub times-append : (k : ℕ) (xs ys : List ℕ) → times k (xs ++ ys) ≡ times k xs + times k ys
 times-append k [] ys = omega arith
@@ -26,10 +28,33 @@ free_cell-pos None h = absurd (omega arith)
 free_cell-pos (Some None) h = refl
 free_cell-pos (Some (Some n)) h = absurd (omega arith)
 
--- the number that is taken off the free list is a free cell's
-pub popped-free : (os : List (Option ℕ)) (free rest : List ℕ) (i : ℕ) → ListsFree os free → free ≡ rest ++ i ∷ [] → slice_get os i ≡ Some None
-popped-free os free rest i h e =
-    free_cell-pos (slice_get os i) (omega (arith, h i, ap (times i) e, times-append i rest (i ∷ []), times-self i))
+times-first : (k : ℕ) (xs : List ℕ) → times k (k ∷ xs) ≡ 1 + times k xs
+times-first k xs = omega (arith, times-append k (k ∷ []) xs, times-self k)
+
+times-later : (k x : ℕ) (xs : List ℕ) → k ≢ x → times k (x ∷ xs) ≡ times k xs
+times-later k x xs ne = omega (arith, times-append k (x ∷ []) xs, times-none k x ne)
+
+-- a chunk that is listed is free
+pub listed-free : (os : List (Option ℕ)) (free : List ℕ) (k : ℕ) → ListsFree os free → 0 < times k free → slice_get os k ≡ Some None
+listed-free os free k h there = free_cell-pos (slice_get os k) (omega (arith, h k, there))
+
+-- so is the first that is listed
+pub first-free : (os : List (Option ℕ)) (rest : List ℕ) (i : ℕ) → ListsFree os (i ∷ rest) → slice_get os i ≡ Some None
+first-free os rest i h = listed-free os (i ∷ rest) i h (omega (arith, times-first i rest))
+
+-- the chunks that were freed are the same where each of them leads to the same
+pub freed-same : (next next' : ℕ → ℕ) (last n : ℕ) → ((k : ℕ) → 0 < times k (freed_from next last n) → next' k ≡ next k) → freed_from next' last n ≡ freed_from next last n
+freed-same next next' last zero same = refl
+freed-same next next' last (suc n) same =
+    let here : next' last ≡ next last = same last (omega (arith, times-first last (freed_from next (next last) n))) in
+    rw here (ap (λ l. last ∷ l) (freed-same next next' (next last) n (λ k there.
+    same k (omega (arith, times-append k (last ∷ []) (freed_from next (next last) n), there)))))
+
+-- the last that was freed, and those before it
+pub freed-more : (next : ℕ → ℕ) (free rest : FreeChunks) → free.freed ≡ rest.freed + 1 → rest.last ≡ next free.last → freed_in next free ≡ free.last ∷ freed_in next rest
+freed-more next free rest many last =
+    let more : free.freed ≡ suc rest.freed = omega (arith, many) in
+    ap (freed_from next free.last) more ∙ ap (λ l. free.last ∷ freed_from next l rest.freed) (sym last)
 
 shift : (j k : ℕ) → j + suc k ≡ suc j + k
 shift j k = omega arith
@@ -174,12 +199,12 @@ place-below per size l p i h e lt = div_below i per p (positive per size h) (ome
 pub place-fits : (per size i n : ℕ) → per * size ≡ 1048576 → n ≤ size → (i % per) * size + n ≤ 1048576
 place-fits per size i n h hn = omega (arith, mul-le-mul_right {m = i % per + 1} {n = per} size (omega (arith, mod_below i per (positive per size h))))
 
-pub listed-after : (os : List (Option ℕ)) (free rest : List ℕ) (i n : ℕ) → ListsFree os free → free ≡ rest ++ i ∷ [] → i < length os → ListsFree (set os i (Some n)) rest
-listed-after os free rest i n h e lt k = elim (cases_eq k i) [
+pub listed-after : (os : List (Option ℕ)) (rest : List ℕ) (i n : ℕ) → ListsFree os (i ∷ rest) → i < length os → ListsFree (set os i (Some n)) rest
+listed-after os rest i n h lt k = elim (cases_eq k i) [
   | inl same ↦ rw same (let gone = ap free_cell (slice_get-set_same os i (Some n) lt) in
-      omega (arith, gone, h i, ap (times i) e, times-append i rest (i ∷ []), times-self i, ap free_cell (popped-free os free rest i h e)))
+      omega (arith, gone, h i, times-first i rest, ap free_cell (first-free os rest i h)))
   | inr other ↦ let stays = ap free_cell (slice_get-set_other os i k (Some n) other) in
-      omega (arith, stays, h k, ap (times k) e, times-append k rest (i ∷ []), times-none k i other)
+      omega (arith, stays, h k, times-later k i rest other)
 ]
 
 pub fits-after : (size : ℕ) (os : List (Option ℕ)) (i n : ℕ) → AllFit size os → n ≤ size → i < length os → AllFit size (set os i (Some n))
@@ -229,12 +254,12 @@ cell-held look j (Some m ∷ os) zero h = (m, refl)
 cell-held look j (None ∷ os) (suc i) h = cell-held look (suc j) os i h
 cell-held look j (Some m ∷ os) (suc i) h = cell-held look (suc j) os i h
 
-pub listed-more : (os : List (Option ℕ)) (free : List ℕ) (i n : ℕ) → ListsFree os free → slice_get os i ≡ Some (Some n) → ListsFree (set os i None) (free ++ i ∷ [])
+pub listed-more : (os : List (Option ℕ)) (free : List ℕ) (i n : ℕ) → ListsFree os free → slice_get os i ≡ Some (Some n) → ListsFree (set os i None) (i ∷ free)
 listed-more os free i n h e k = elim (cases_eq k i) [
-  | inl same ↦ rw same (let now = ap free_cell (slice_get-set_same os i None (slice_get_within os i (Some n) e)) in
-      omega (arith, now, h i, ap free_cell e, times-append i free (i ∷ []), times-self i))
+  | inl same ↦ subst (λ j. times j (i ∷ free) ≡ free_cell (slice_get (set os i None) j)) (sym same) (let now = ap free_cell (slice_get-set_same os i None (slice_get_within os i (Some n) e)) in
+      omega (arith, now, h i, ap free_cell e, times-first i free))
   | inr other ↦ let stays = ap free_cell (slice_get-set_other os i k None other) in
-      omega (arith, stays, h k, times-append k free (i ∷ []), times-none k i other)
+      omega (arith, stays, h k, times-later k i free other)
 ]
 
 pub fits-drop : (size : ℕ) (os : List (Option ℕ)) (i : ℕ) → AllFit size os → i < length os → AllFit size (set os i None)
@@ -308,59 +333,96 @@ with_fresh-more os many more h =
     let split : (many + more) - length os ≡ (many - length os) + more = omega arith in
     rw (split, replicate-add (many - length os) more) (sym (append_assoc os (replicate (many - length os) None) (replicate more None)))
 
-listed-one : (os : List (Option ℕ)) (free : List ℕ) → ListsFree os free → ListsFree (os ++ None ∷ []) (free ++ length os ∷ [])
+listed-one : (os : List (Option ℕ)) (free : List ℕ) → ListsFree os free → ListsFree (os ++ None ∷ []) (length os ∷ free)
 listed-one os free h k = elim (cases_order k (length os)) [
-  | inl e ↦ rw e (omega (
+  | inl e ↦ subst (λ j. times j (length os ∷ free) ≡ free_cell (slice_get (os ++ None ∷ []) j)) (sym e) (omega (
     arith,
-    times-append (length os) free (length os ∷ []),
-    times-self (length os),
+    times-first (length os) free,
     h (length os),
     ap free_cell (slice_get_past os (length os) (omega arith)),
     ap free_cell (slice_get-nones os 1 (length os) (omega arith) (omega arith)),
   ))
-  | inr (inl lt) ↦ omega (arith, times-append k free (length os ∷ []), times-none k (length os) (omega arith), h k, ap free_cell (slice_get-left os (None ∷ []) k lt))
+  | inr (inl lt) ↦ omega (arith, times-later k (length os) free (omega arith), h k, ap free_cell (slice_get-left os (None ∷ []) k lt))
   | inr (inr gt) ↦ omega (
     arith,
-    times-append k free (length os ∷ []),
-    times-none k (length os) (omega arith),
+    times-later k (length os) free (omega arith),
     h k,
     ap free_cell (slice_get_past os k (omega arith)),
     ap free_cell (slice_get_past (os ++ None ∷ []) k (omega (arith, length-append os (None ∷ [])))),
   )
 ]
 
--- what holds once a number is taken, whether it was freed or never used
-pub record IsReady (size many : ℕ) (os os' : List (Option ℕ)) (rest : List ℕ) (i : ℕ) : Type 0 where
-  pub listed : ListsFree os' (rest ++ i ∷ [])
-  pub fit : AllFit size os'
-  pub counted : length rest + 1 ≡ count_free os'
-  pub within : length os' ≤ many
-  pub same : with_fresh os' many ≡ with_fresh os many
-  pub free : slice_get os' i ≡ Some None
-  pub others : (k : ℕ) → k < length os' → k ≢ i → k < length os
+-- the chunks that were used, the one that is taken among them
+abbrev pub readied : List (Option ℕ) → ℕ → List (Option ℕ)
+readied os i = if i == length os then os ++ None ∷ [] else os
 
-pub ready : (size many : ℕ) (os os' : List (Option ℕ)) (free rest : List ℕ) (i : ℕ) → ListsFree os free → AllFit size os → length free ≡ count_free os → length os ≤ many
-    → TakeDoes many os free os' rest (Some i) → IsReady size many os os' rest i
-ready size many os os' free rest i listed fit counted within (inl (popped, kept)) = record {
-  listed = rw (kept, ← popped) listed;
-  fit = rw kept fit;
-  counted = rw kept (omega (arith, counted, ap length popped, length-append rest (i ∷ [])));
-  within = rw kept within;
-  same = rw kept refl;
-  free = rw kept (popped-free os free rest i listed popped);
-  others = λ k below ne. omega (arith, below, ap length kept);
-}
-ready size many os os' free rest i listed fit counted within (inr (none, none', next, lt, pushed)) =
-    let one : many - length os ≡ suc (many - (length os + 1)) = omega (arith, next, lt) in
-    let longer : length (os ++ None ∷ []) ≡ length os + 1 = length-append os (None ∷ []) in
+readied-new : (os : List (Option ℕ)) (i : ℕ) → i ≡ length os → readied os i ≡ os ++ None ∷ []
+readied-new os i e = ap (λ b. if b then os ++ None ∷ [] else os) (eq-eqb i (length os) e)
+
+is-other : (i n : ℕ) → i ≢ n → (i == n) ≡ false
+is-other i n ne = false_from_ne_true (i == n) (λ yes. ne (eqb-true i n yes))
+
+readied-old : (os : List (Option ℕ)) (i : ℕ) → i < length os → readied os i ≡ os
+readied-old os i lt = ap (λ b. if b then os ++ None ∷ [] else os) (is-other i (length os) (omega arith))
+
+set-last : (os : List (Option ℕ)) (o : Option ℕ) → set (os ++ None ∷ []) (length os) o ≡ os ++ o ∷ []
+set-last [] o = refl
+set-last (p ∷ os) o = ap (λ l. p ∷ l) (set-last os o)
+
+pub placed-old : (os : List (Option ℕ)) (i : ℕ) (o : Option ℕ) → i < length os → placed os i o ≡ set os i o
+placed-old os i o lt = ap (λ b. if b then os ++ o ∷ [] else set os i o) (is-other i (length os) (omega arith))
+
+placed-new : (os : List (Option ℕ)) (i : ℕ) (o : Option ℕ) → i ≡ length os → placed os i o ≡ os ++ o ∷ []
+placed-new os i o e = ap (λ b. if b then os ++ o ∷ [] else set os i o) (eq-eqb i (length os) e)
+
+-- what holds once a chunk is taken, whether it was freed or never used
+pub record IsReady (next : ℕ → ℕ) (size many : ℕ) (os : List (Option ℕ)) (rest : FreeChunks) (i : ℕ) : Type 0 where
+  pub listed : ListsFree (readied os i) (i ∷ freed_in next rest)
+  pub fit : AllFit size (readied os i)
+  pub used : rest.used ≡ length (readied os i)
+  pub counted : rest.freed + 1 ≡ count_free (readied os i)
+  pub within : length (readied os i) ≤ many
+  pub same : with_fresh (readied os i) many ≡ with_fresh os many
+  pub free : slice_get (readied os i) i ≡ Some None
+  pub others : (k : ℕ) → k < length (readied os i) → k ≢ i → k < length os
+  pub place : (o : Option ℕ) → placed os i o ≡ set (readied os i) i o
+
+pub ready : (next : ℕ → ℕ) (size many : ℕ) (os : List (Option ℕ)) (free rest : FreeChunks) (i : ℕ) → ListsFree os (freed_in next free) → AllFit size os
+    → free.freed ≡ count_free os → free.used ≡ length os → length os ≤ many → TakeDoes next many free (Some (i, rest)) → IsReady next size many os rest i
+ready next size many os free rest i listed fit counted used within (inl (last, fewer, before, same)) =
+    let chain : freed_in next free ≡ i ∷ freed_in next rest = freed-more next free rest fewer before ∙ ap (λ l. l ∷ freed_in next rest) (sym last) in
+    let known : ListsFree os (i ∷ freed_in next rest) = subst (ListsFree os) chain listed in
+    let empty : slice_get os i ≡ Some None = first-free os (freed_in next rest) i known in
+    let below : i < length os = slice_get_within os i None empty in
+    let old : readied os i ≡ os = readied-old os i below in
     record {
-      listed = rw (pushed, none', next) (subst (λ f. ListsFree (os ++ None ∷ []) (f ++ length os ∷ [])) none (listed-one os free listed));
-      fit = rw pushed (fits-page size os 1 fit);
-      counted = rw pushed (omega (arith, ap length none, ap length none', counted, count_free-page os 1));
-      within = rw pushed (omega (arith, longer, next, lt));
-      same = rw (pushed, longer, one) (append_assoc os (None ∷ []) (replicate (many - (length os + 1)) None));
-      free = rw (pushed, next) (slice_get-nones os 1 (length os) (omega arith) (omega arith));
-      others = λ k below ne. omega (arith, below, ne, ap length pushed, longer, next);
+      listed = rw old known;
+      fit = rw old fit;
+      used = rw old (same ∙ used);
+      counted = rw old (omega (arith, counted, fewer));
+      within = rw old within;
+      same = rw old refl;
+      free = rw old empty;
+      others = λ k lt ne. rw old at lt;
+      place = λ o. rw old (placed-old os i o below);
+    }
+ready next size many os free rest i listed fit counted used within (inr (none, none', fresh, lt, more)) =
+    let next_is : i ≡ length os = fresh ∙ used in
+    let new : readied os i ≡ os ++ None ∷ [] = readied-new os i next_is in
+    let one : many - length os ≡ suc (many - (length os + 1)) = omega (arith, next_is, lt) in
+    let longer : length (os ++ None ∷ []) ≡ length os + 1 = length-append os (None ∷ []) in
+    let empty_before : freed_in next free ≡ [] = ap (freed_from next free.last) none in
+    let empty_after : freed_in next rest ≡ [] = ap (freed_from next rest.last) none' in
+    record {
+      listed = rw (new, empty_after, next_is) (listed-one os [] (subst (ListsFree os) empty_before listed));
+      fit = rw new (fits-page size os 1 fit);
+      used = rw new (omega (arith, more, used, longer));
+      counted = rw new (omega (arith, none, none', counted, count_free-page os 1));
+      within = rw new (omega (arith, longer, next_is, lt));
+      same = rw (new, longer, one) (append_assoc os (None ∷ []) (replicate (many - (length os + 1)) None));
+      free = rw (new, next_is) (slice_get-nones os 1 (length os) (omega arith) (omega arith));
+      others = λ k below ne. omega (arith, below, ne, ap length new, longer, next_is);
+      place = λ o. rw (new, placed-new os i o next_is, next_is) (sym (set-last os o));
     }
 
 -- what is known of the chunk that is taken
@@ -435,39 +497,124 @@ module _ {size per many : ℕ} {pages : List (List ℕ)} {os : List (Option ℕ)
       let was : slice_get os k ≡ Some (Some m) = with_fresh-held os many k m g in
       rw zero-add (read-other size per pages i bytes k m ne (lengths k m was) fits h.page (omega (arith, reach k (slice_get_within os k (Some m) was), lengths k m was))))
 
+  -- it is freed, and something is written into it
+  pub chunks-freed : (bytes : List ℕ) → length bytes ≤ size → length os ≤ many → AllFit size os → AllReach size per pages (length os)
+      → chunks_from (read size per (written size per pages i bytes)) 0 (with_fresh (set os i None) many) ≡ set (chunks_from (read size per pages) 0 (with_fresh os many)) i None
+  chunks-freed bytes fits used lengths reach =
+      chunks-same (read size per pages) (read size per (written size per pages i bytes)) 0 (with_fresh (set os i None) many) (λ k m g.
+      let still : slice_get (set os i None) k ≡ Some (Some m) = with_fresh-held (set os i None) many k m g in
+      let other : k ≢ i = λ e. let gone : slice_get (set os i None) k ≡ Some None = rw e (slice_get-set_same os i None h.below) in absurd cc in
+      let was : slice_get os k ≡ Some (Some m) = sym (slice_get-set_other os i k None other) ∙ still in
+      rw zero-add (read-other size per pages i bytes k m other (lengths k m was) fits h.page (omega (arith, reach k (slice_get_within os k (Some m) was), lengths k m was))))
+      ∙ ap (chunks_from (read size per pages) 0) (with_fresh-set os many i None h.below)
+      ∙ chunks-drop (read size per pages) 0 (with_fresh os many) i
+
+  -- how many bytes it holds
+  pub held-many : (long : ℕ) → HoldsSoMany long (slice_get (chunks_from (read size per pages) 0 (with_fresh os many)) i) → h.len ≡ long
+  held-many long so =
+      let many_are : length (read size per pages i h.len) ≡ long = subst (HoldsSoMany long) h.shows so in
+      let left : length (drop ((i % per) * size) (get_or pages (i / per) [])) ≡ length (get_or pages (i / per) []) - (i % per) * size = length-drop ((i % per) * size) (get_or pages (i / per) []) in
+      let all : length (read size per pages i h.len) ≡ h.len = length-take-le h.len (drop ((i % per) * size) (get_or pages (i / per) [])) (omega (arith, left, h.within)) in
+      sym all ∙ many_are
+
+pub holds-some : (long : ℕ) (cell : Option (Option (List ℕ))) → HoldsSoMany long cell → IsSomeAnd cell IsSome
+holds-some long None h = absurd h
+holds-some long (Some None) h = absurd h
+holds-some long (Some (Some held)) h = refl
+
 -- the same, told of a class
-module _ (pages : List (Vec ℕ Global)) {size per most : ℕ} {os : List (Option ℕ)} {free : List ℕ} {has_pages has_lengths has_free : ℕ} (is : IsClass size per most pages os free has_pages has_lengths has_free) where
+module _ (pages : List (Vec ℕ Global)) {size per most : ℕ} {os : List (Option ℕ)} {free : FreeChunks} {has_pages : ℕ} (is : IsClass size per most pages os free has_pages) where
+  abbrev next : ℕ → ℕ
+  next = link size per (bytes_of pages)
+
   pub class-many : per * length pages ≡ per * length (bytes_of pages)
   class-many = ap (λ n. per * n) (sym (length-map pages (λ p. p.items)))
 
   pub class-used : length os ≤ per * length pages
   class-used = omega (arith, is.many, class-many)
 
-  pub class-most : per * length pages ≤ per * most
-  class-most = mul-le-mul_left per (omega (arith, is.within, length-map pages (λ p. p.items)))
+  pub class-few : per * length pages < 2 ^ 32
+  class-few =
+      let within : per * length (bytes_of pages) ≤ per * most = mul-le-mul_left per is.within in
+      omega (arith, is.numbered, within, class-many)
 
   pub class-held : (i : ℕ) → IsSomeAnd (slice_get (chunks_from (read size per (bytes_of pages)) 0 (with_fresh os (per * length pages))) i) IsSome
       → IsHeldAt size per (per * length pages) (bytes_of pages) os i
   class-held i h = held-at size per (per * length pages) (bytes_of pages) os i is.whole class-many class-used is.fit is.reach h
 
-  pub class-ready : (os' : List (Option ℕ)) (rest : List ℕ) (i : ℕ) → TakeDoes (per * length pages) os free os' rest (Some i) → IsReady size (per * length pages) os os' rest i
-  class-ready os' rest i does = ready size (per * length pages) os os' free rest i is.listed is.fit is.counted class-used does
+  -- a chunk that was used has its first four bytes
+  used-linked : (k : ℕ) → k < length os → HasLink size per (bytes_of pages) k
+  used-linked k below = record {
+    page = place-below per size (per * length (bytes_of pages)) (length (bytes_of pages)) k is.whole refl (omega (arith, below, is.many));
+    within = omega (arith, is.reach k below, is.least);
+  }
 
-  pub class-taken : (os' : List (Option ℕ)) (rest : List ℕ) (i : ℕ) → IsReady size (per * length pages) os os' rest i → IsTaken size per (bytes_of pages) (with_fresh os' (per * length pages)) i
-  class-taken os' rest i r = record {
+  pub class-linked : 0 < free.freed → HasLink size per (bytes_of pages) free.last
+  class-linked some = linked-by free.freed some refl where
+    linked-by : (n : ℕ) → 0 < n → free.freed ≡ n → HasLink size per (bytes_of pages) free.last
+    linked-by zero lt e = absurd (omega (arith, lt))
+    linked-by (suc n) lt e =
+        let known : ListsFree os (free.last ∷ freed_from next (next free.last) n) = subst (λ m. ListsFree os (freed_from next free.last m)) e is.listed in
+        used-linked free.last (slice_get_within os free.last None (first-free os (freed_from next (next free.last) n) free.last known))
+
+  pub class-ready : (rest : FreeChunks) (i : ℕ) → TakeDoes next (per * length pages) free (Some (i, rest)) → IsReady next size (per * length pages) os rest i
+  class-ready rest i does = ready next size (per * length pages) os free rest i is.listed is.fit is.counted is.used class-used does
+
+  pub class-taken : (rest : FreeChunks) (i : ℕ) → IsReady next size (per * length pages) os rest i → IsTaken size per (bytes_of pages) (with_fresh (readied os i) (per * length pages)) i
+  class-taken rest i r = record {
     whole = is.whole;
-    many = length-with_fresh os' (per * length pages) r.within ∙ class-many;
-    lengths = fits-page size os' ((per * length pages) - length os') r.fit;
+    many = length-with_fresh (readied os i) (per * length pages) r.within ∙ class-many;
+    lengths = fits-page size (readied os i) ((per * length pages) - length (readied os i)) r.fit;
     within = λ k m g.
         let used : slice_get os k ≡ Some (Some m) = with_fresh-held os (per * length pages) k m (rw r.same at g) in
         omega (arith, is.reach k (slice_get_within os k (Some m) used), is.fit k m used);
-    free = with_fresh-free os' (per * length pages) i r.free;
+    free = with_fresh-free (readied os i) (per * length pages) i r.free;
   }
 
-  pub class-full : (os' : List (Option ℕ)) (rest : List ℕ) → TakeDoes (per * length pages) os free os' rest None
+  pub class-full : TakeDoes next (per * length pages) free None
       → (k : ℕ) → slice_get (chunks_from (read size per (bytes_of pages)) 0 (with_fresh os (per * length pages))) k ≡ Some None → ⊥
-  class-full os' rest (none, _, all, _) k h =
-      none-free (read size per (bytes_of pages)) os free is.listed (ap length none) k (rw (with_fresh-all os (per * length pages) all) at h)
+  class-full (none, all) k h =
+      none-free (read size per (bytes_of pages)) os (freed_in next free) is.listed (ap (λ n. length (freed_from next free.last n)) none) k
+      (rw (with_fresh-all os (per * length pages) (omega (arith, all, is.used))) at h)
+
+  -- chunks that were freed still lead to one another once something is written into another chunk
+  pub freed-kept : (i : ℕ) (bytes : List ℕ) (last n : ℕ) → i / per < length (bytes_of pages) → length bytes ≤ size
+      → ((k : ℕ) → 0 < times k (freed_from next last n) → (k ≢ i) × (k < length os))
+      → freed_from (link size per (written size per (bytes_of pages) i bytes)) last n ≡ freed_from next last n
+  freed-kept i bytes last n page fits apart_from = freed-same next (link size per (written size per (bytes_of pages) i bytes)) last n (λ k there.
+      let other = apart_from k there in
+      ap (from_be_bytes w32) (read-other size per (bytes_of pages) i bytes k 4 other.0 is.least fits page (omega (arith, is.reach k other.1, is.least))))
+
+  -- those that are left once a chunk is taken
+  pub left-apart : (rest : FreeChunks) (i : ℕ) → IsReady next size (per * length pages) os rest i → (k : ℕ) → 0 < times k (freed_in next rest) → (k ≢ i) × (k < length os)
+  left-apart rest i r k there =
+      let listed_too : 0 < times k (i ∷ freed_in next rest) = omega (arith, times-append k (i ∷ []) (freed_in next rest), there) in
+      let empty : slice_get (readied os i) k ≡ Some None = listed-free (readied os i) (i ∷ freed_in next rest) k r.listed listed_too in
+      let other : k ≢ i = λ e. let once = r.listed k in
+      let twice : times k (i ∷ freed_in next rest) ≡ 1 + times k (freed_in next rest) =
+      subst (λ j. times j (i ∷ freed_in next rest) ≡ 1 + times j (freed_in next rest)) (sym e) (times-first i (freed_in next rest)) in
+      absurd (omega (arith, once, twice, there, ap free_cell empty)) in
+      (other, r.others k (slice_get_within (readied os i) k None empty) other)
+
+  -- those that are free, beside a chunk that is held
+  pub freed-apart : (i n : ℕ) → slice_get os i ≡ Some (Some n) → (k : ℕ) → 0 < times k (freed_in next free) → (k ≢ i) × (k < length os)
+  freed-apart i n held k there =
+      let empty : slice_get os k ≡ Some None = listed-free os (freed_in next free) k is.listed there in
+      ((λ e. let same : slice_get os k ≡ Some (Some n) = rw e held in absurd cc), slice_get_within os k None empty)
+
+  -- a chunk that is freed comes before those that were, to the last of which it leads
+  pub freed-again : (i n : ℕ) (bytes : List ℕ) → slice_get os i ≡ Some (Some n) → i / per < length (bytes_of pages) → length bytes ≤ size → length bytes ≡ 4 → from_be_bytes w32 bytes ≡ free.last
+      → freed_from (link size per (written size per (bytes_of pages) i bytes)) i (free.freed + 1) ≡ i ∷ freed_in next free
+  freed-again i n bytes held page fits four back =
+      let after : ℕ → ℕ = link size per (written size per (bytes_of pages) i bytes) in
+      let leads : after i ≡ free.last =
+      ap (λ m. from_be_bytes w32 (read size per (written size per (bytes_of pages) i bytes) i m)) (sym four)
+      ∙ ap (from_be_bytes w32) (read-same size per (bytes_of pages) i bytes page fits)
+      ∙ back in
+      let more : free.freed + 1 ≡ suc free.freed = omega arith in
+      ap (freed_from after i) more
+      ∙ ap (λ l. i ∷ freed_from after l free.freed) leads
+      ∙ ap (λ l. i ∷ l) (freed-kept i bytes free.last free.freed page fits (freed-apart i n held))
 
 -- a page that comes
 chunks-none : (look : ℕ → ℕ → List ℕ) (j n : ℕ) → chunks_from look j (replicate n None) ≡ replicate n None
@@ -490,3 +637,15 @@ chunks-page size per pages page os whole many =
 pub reach-page : (size per : ℕ) (pages : List (List ℕ)) (page : List ℕ) (used : ℕ) → per * size ≡ 1048576 → used ≤ per * length pages → AllReach size per pages used → AllReach size per (pages ++ page ∷ []) used
 reach-page size per pages page used whole le reach k below =
     rw (get_or-append pages (page ∷ []) [] (k / per) (place-below per size (per * length pages) (length pages) k whole refl (omega (arith, below, le)))) (reach k below)
+
+-- the chunks that were freed lead to one another as before
+pub listed-page : (pages : List (Vec ℕ Global)) (page : List ℕ) {size per most : ℕ} {os : List (Option ℕ)} {free : FreeChunks} {has_pages : ℕ} → IsClass size per most pages os free has_pages
+    → ListsFree os (freed_in (link size per (bytes_of pages ++ page ∷ [])) free)
+listed-page pages page {size = size} {per = per} {os = os} {free = free} is =
+    let same : freed_in (link size per (bytes_of pages ++ page ∷ [])) free ≡ freed_in (link size per (bytes_of pages)) free =
+    freed-same (link size per (bytes_of pages)) (link size per (bytes_of pages ++ page ∷ [])) free.last free.freed (λ k there.
+    let empty : slice_get os k ≡ Some None = listed-free os (freed_in (link size per (bytes_of pages)) free) k is.listed there in
+    let below : k < length os = slice_get_within os k None empty in
+    ap (λ p. from_be_bytes w32 (take 4 (drop ((k % per) * size) p))) (get_or-append (bytes_of pages) (page ∷ []) [] (k / per)
+    (place-below per size (per * length (bytes_of pages)) (length (bytes_of pages)) k is.whole refl (omega (arith, below, is.many))))) in
+    subst (ListsFree os) (sym same) is.listed

@@ -1,5 +1,5 @@
 -- The chunks of all slab classes, and the pages that no class has.
-use Rattle.std.specs.Prelude.{◌≡◌, ℕ, zero, suc, ◌+◌, ◌-◌, ◌*◌, ◌^◌, ◌<◌, ◌≤◌, List, [], ◌∷◌, ◌++◌, length, replicate, Option, Some, None, slice_get, slice_set, slice_index_or, ◌⊎◌, Result, Ok, Err}
+use Rattle.std.specs.Prelude.{◌≡◌, ℕ, zero, suc, ◌+◌, ◌-◌, ◌*◌, ◌^◌, ◌<◌, ◌≤◌, ◌==◌, if◌then◌else◌, List, [], ◌∷◌, ◌++◌, length, replicate, Option, Some, None, slice_get, slice_set, slice_index_or, ◌⊎◌, Result, Ok, Err}
 use Rattle.geo_slabs.specs.declared.slabs.SlabsError.{SlabsError}
 use Rattle.geo_slabs.specs.declared.slabs.SlabsError.TheVariants.{TooFewPages, TooManyPages, Memory}
 use Rattle.geo_slabs.specs.Chunks.{ClassState}
@@ -35,13 +35,18 @@ class_in storage class = slice_index_or storage.classes class no_class
 abbrev pub chunks_in : Storage → ℕ → List (Option (List ℕ))
 chunks_in storage class = (class_in storage class).chunks
 
--- the bytes that a chunk holds
-abbrev pub held_of : Option (Option (List ℕ)) → Option (List ℕ)
-held_of None = None
-held_of (Some held) = held
+-- the bytes that a chunk holds, which are as many as its length says
+abbrev pub held_of : ℕ → Option (Option (List ℕ)) → Option (List ℕ)
+held_of long None = None
+held_of long (Some None) = None
+held_of long (Some (Some held)) = if length held == long then Some held else None
 
 abbrev pub held_in : Storage → Chunk → Option (List ℕ)
-held_in storage chunk = held_of (slice_get (chunks_in storage chunk.class) chunk.number)
+held_in storage chunk = held_of chunk.length (slice_get (chunks_in storage chunk.class) chunk.number)
+
+-- a chunk once it holds these bytes
+abbrev pub so_long : Chunk → List ℕ → Chunk
+so_long chunk bytes = record chunk { length = length bytes }
 
 -- no chunk of these is free
 abbrev pub AllHeld : List (Option (List ℕ)) → Type 0
@@ -70,6 +75,7 @@ with_held storage class number held = with_chunks storage class (slice_set (chun
 -- bytes are put into a chunk of the class that was free
 pub record IsPut (old new : Storage) (class : ℕ) (bytes : List ℕ) (chunk : Chunk) : Type 0 where
   pub class_is : chunk.class ≡ class
+  pub length_is : chunk.length ≡ length bytes
   pub was_free : slice_get (chunks_in old class) chunk.number ≡ Some None
   pub holds : new ≡ with_held old class chunk.number (Some bytes)
 

@@ -1,8 +1,10 @@
 //! The chunks of one slab class.
 ghost use Rattle.std.specs.Prelude.{◌≡◌, ℕ, ◌+◌, ◌*◌, ◌<◌, ◌≤◌, [], length, Some, None, IfSome, IfNone, IfOk, slice_get, slice_set, slice_index_or, IsSome, IsSomeAnd, take, drop, ◌^◌, ◌++◌, ◌-◌, replicate, vec_capacity};
 ghost use borrow.Rule.Slice.PartMut.{put_mid};
-ghost use Rattle.geo_slabs.specs.Chunks.{ClassState, AllReserved, bytes_of, grown, page_bytes, TakeDoes};
+ghost use Rattle.std.specs.Int.{w32, from_be_bytes};
+ghost use Rattle.geo_slabs.specs.Chunks.{ClassState, AllReserved, bytes_of, grown, page_bytes, link, HasLink, HoldsSoMany, TakeDoes};
 
+use crate::lengths::Lengths;
 use std::alloc::{AllocError, Global};
 use std::marker::Model;
 
@@ -46,36 +48,72 @@ fn read_in(pages: &Vec<Vec<u8>>, at: usize, from: usize, len: usize) -> &[u8]
     &pages[at][from..from + len]
 }
 
-/// Takes the number of a chunk, of which there are so many: the one that was freed last, else the next that was never used.
-fn take_number(lengths: &mut Vec<Option<u32>>, free: &mut Vec<u32>, chunks: usize) -> Option<u32>
-    requires few { chunks < 2 ^ 32 }
-    requires room { chunks ≤ vec_capacity lengths.old }
-    ensures does { TakeDoes chunks lengths.old.items free.old.items lengths.new.items free.new.items result }
-    ensures lengths_capacity { vec_capacity lengths.old ≤ vec_capacity lengths.new }
-    ensures free_capacity { vec_capacity free.new ≡ vec_capacity free.old }
+/// The number in four bytes of one page.
+fn link_in(pages: &Vec<Vec<u8>>, at: usize, from: usize) -> u32
+    requires at { at < length pages.now.items }
+    requires from { from + 4 ≤ length (slice_index_or (bytes_of pages.now.items) at []) }
+    requires size { from + 4 < 2 ^ 64 }
+    ensures { result ≡ from_be_bytes w32 (take 4 (drop from (slice_index_or (bytes_of pages.now.items) at []))) }
 {
-    if let Some(number) = free.pop() {
-        return Some(number);
-    }
-    let fresh = lengths.len();
-    if fresh >= chunks {
-        return None;
-    }
-    let _pushed = lengths.push(None);
-    Some(fresh as u32)
+    let Some((field, _)) = read_in(pages, at, from, 4).split_first_chunk::<4>() else {
+        unreachable!();
+    };
+    u32::from_be_bytes(*field)
 }
 
-/// Pages cut into chunks of one size. A page has its memory at once, and grows up to the last chunk of it that was used. Chunks
-/// that were used have an entry in `lengths`, in the order of their first use: the length of the value, or None. Those that were
-/// freed are listed in `free`.
+/// Which chunks are free: those from `used` on, which never were used, and `freed` that were. Of these `last` was freed last; in its first
+/// four bytes stands the one that was freed before it, and so on.
+#[derive(Clone, Copy)]
+pub(crate) struct FreeChunks {
+    used: u32,
+    freed: u32,
+    last: u32,
+}
+
+/// Takes a free chunk of those that these pages have: the one that was freed last, else the next that was never used. None where there is
+/// no other.
+fn take_number(
+    free: FreeChunks,
+    pages: &Vec<Vec<u8>>,
+    chunk_bytes: usize,
+    per_page: usize,
+) -> Option<(u32, FreeChunks)>
+    requires whole { per_page * chunk_bytes ≡ 1048576 }
+    requires few { per_page * length pages.now.items < 2 ^ 32 }
+    requires linked { 0 < free.freed → HasLink chunk_bytes per_page (bytes_of pages.now.items) free.last }
+    ensures { TakeDoes (link chunk_bytes per_page (bytes_of pages.now.items)) (per_page * length pages.now.items) free result }
+{
+    if free.freed > 0 {
+        let index = free.last as usize;
+        let last = link_in(pages, index / per_page, index % per_page * chunk_bytes);
+        let rest = FreeChunks {
+            used: free.used,
+            freed: free.freed - 1,
+            last,
+        };
+        return Some((free.last, rest));
+    }
+    if free.used as usize >= per_page * pages.len() {
+        return None;
+    }
+    let rest = FreeChunks {
+        used: free.used + 1,
+        freed: 0,
+        last: free.last,
+    };
+    Some((free.used, rest))
+}
+
+/// Pages cut into chunks of one size. A page has its memory at once, and grows up to the last chunk of it that was used. What is known of a
+/// chunk that holds no value stands in the chunk, and the length of a value with whoever has its chunk.
 #[derive(Drop)]
 pub(crate) struct Class {
     chunk_bytes: usize,
     per_page: usize,
     most_pages: usize,
     pages: Vec<Vec<u8>>,
-    lengths: Vec<Option<u32>>,
-    free: Vec<u32>,
+    free: FreeChunks,
+    lengths: Lengths,
 }
 
 impl Model for Class {
@@ -85,9 +123,14 @@ impl Model for Class {
 
     ghost Value = { ClassState };
 
-    ghost view = { λ s. record { chunks = chunks_from (read s.chunk_bytes s.per_page (bytes_of s.pages.items)) 0 (with_fresh s.lengths.items (s.per_page * length s.pages.items)); chunk_bytes = s.chunk_bytes; per_page = s.per_page; room = s.most_pages - length s.pages.items } };
+    ghost view = { λ s. record {
+      chunks = chunks_from (read s.chunk_bytes s.per_page (bytes_of s.pages.items)) 0 (with_fresh s.lengths.each (s.per_page * length s.pages.items));
+      chunk_bytes = s.chunk_bytes;
+      per_page = s.per_page;
+      room = s.most_pages - length s.pages.items;
+    } };
 
-    ghost invariant = { λ s. IsClass s.chunk_bytes s.per_page s.most_pages s.pages.items s.lengths.items s.free.items (vec_capacity s.pages) (vec_capacity s.lengths) (vec_capacity s.free) };
+    ghost invariant = { λ s. IsClass s.chunk_bytes s.per_page s.most_pages s.pages.items s.lengths.each s.free (vec_capacity s.pages) };
 }
 
 impl Class {
@@ -101,19 +144,23 @@ impl Class {
         most_pages: usize,
     ) -> Result<Class, AllocError>
         requires whole { per_page * chunk_bytes ≡ 1048576 }
+        requires least { 4 ≤ chunk_bytes }
         requires numbered { per_page * most_pages ≤ 1073741824 }
         ensures { IfOk result (λ s. s ≡ record { chunks = []; chunk_bytes = chunk_bytes; per_page = per_page; room = most_pages }) }
     {
         let pages = Vec::with_capacity(alloc, most_pages)?;
-        let lengths = Vec::with_capacity(alloc, per_page * most_pages)?;
-        let free = Vec::with_capacity(alloc, per_page * most_pages)?;
+        let free = FreeChunks {
+            used: 0,
+            freed: 0,
+            last: 0,
+        };
         Ok(Class {
             chunk_bytes,
             per_page,
             most_pages,
             pages,
-            lengths,
             free,
+            lengths: Lengths::new(),
         })
     }
 
@@ -134,38 +181,40 @@ impl Class {
         ensures full { IfNone result ((k : ℕ) → slice_get self.old.chunks k ≡ Some None → ⊥) }
         ensures unchanged { IfNone result (self.new ≡ self.old) }
     {
-        let chunks = self.per_page * self.pages.len();
-        let number = take_number(&mut self.lengths, &mut self.free, chunks)?;
+        let (number, free) = take_number(self.free, &self.pages, self.chunk_bytes, self.per_page)?;
         let index = number as usize;
         let page = index / self.per_page;
         let from = index % self.per_page * self.chunk_bytes;
         write_in(&mut self.pages, page, from, from + self.chunk_bytes, bytes);
-        self.lengths[index] = Some(bytes.len() as u32);
+        self.free = free;
+        self.lengths.note(&[number, bytes.len() as u32]);
         Some(number)
     }
 
-    /// The bytes that a chunk holds.
-    pub(crate) fn bytes(&self, number: u32) -> &[u8]
-        requires { IsSomeAnd (slice_get self.now.chunks number) IsSome }
+    /// The bytes that a chunk holds, which are so many.
+    pub(crate) fn bytes(&self, number: u32, length: u32) -> &[u8]
+        requires { HoldsSoMany length (slice_get self.now.chunks number) }
         ensures { slice_get self.now.chunks number ≡ Some (Some result.now) }
     {
         let index = number as usize;
-        let length = self.lengths[index].unwrap_or(0) as usize;
         let from = index % self.per_page * self.chunk_bytes;
-        read_in(&self.pages, index / self.per_page, from, length)
+        read_in(&self.pages, index / self.per_page, from, length as usize)
     }
 
-    /// Puts other bytes into a chunk that holds some.
-    pub(crate) fn replace(&mut self, number: u32, bytes: &[u8])
+    /// Puts other bytes into a chunk that holds some, and tells how many.
+    pub(crate) fn replace(&mut self, number: u32, bytes: &[u8]) -> u32
         requires held { IsSomeAnd (slice_get self.old.chunks number) IsSome }
         requires fits { length bytes.now ≤ self.old.chunk_bytes }
-        ensures { self.new ≡ record self.old { chunks = slice_set self.old.chunks number (Some bytes.now) } }
+        ensures holds { self.new ≡ record self.old { chunks = slice_set self.old.chunks number (Some bytes.now) } }
+        ensures many { result ≡ length bytes.now }
     {
         let taken = number as usize;
         let from = taken % self.per_page * self.chunk_bytes;
         let end = from + self.chunk_bytes;
         write_in(&mut self.pages, taken / self.per_page, from, end, bytes);
-        self.lengths[taken] = Some(bytes.len() as u32);
+        let length = bytes.len() as u32;
+        self.lengths.note(&[number, length]);
+        length
     }
 
     /// Frees a chunk.
@@ -173,7 +222,16 @@ impl Class {
         requires { IsSomeAnd (slice_get self.old.chunks number) IsSome }
         ensures { self.new ≡ record self.old { chunks = slice_set self.old.chunks number None } }
     {
-        self.lengths[number as usize] = None;
-        let _pushed = self.free.push(number);
+        let freed = number as usize;
+        let from = freed % self.per_page * self.chunk_bytes;
+        let end = from + self.chunk_bytes;
+        let before = self.free.last.to_be_bytes();
+        write_in(&mut self.pages, freed / self.per_page, from, end, &before);
+        self.free = FreeChunks {
+            used: self.free.used,
+            freed: self.free.freed + 1,
+            last: number,
+        };
+        self.lengths.note(&[number]);
     }
 }

@@ -6,6 +6,7 @@
 #![tactic(auto)]
 
 mod class;
+mod lengths;
 pub mod slabs;
 
 pub use slabs::{CLASSES, Chunk, MOST_PAGES, Slabs, SlabsError, class_of};

@@ -1,7 +1,7 @@
 //! All slab classes, and the pages that none of them has yet.
 ghost use Rattle.std.specs.Prelude.{◌≡◌, ◌≢◌, ◌≤◌, ◌<◌, ◌+◌, Some, None, IsSome, IfSome, IfNone, IfOk, true, false, length, vec_capacity};
 ghost use Rattle.geo_slabs.specs.Chunks.{AllReserved, page_bytes};
-ghost use Rattle.geo_slabs.specs.Storage.{class_count, chunk_bytes, chunks_a_page, held_in, with_held, IsClassOf, most_pages, first_class, first_classes};
+ghost use Rattle.geo_slabs.specs.Storage.{class_count, chunk_bytes, chunks_a_page, held_in, with_held, so_long, IsClassOf, most_pages, first_class, first_classes};
 
 use crate::class::{Class, PAGE_BYTES};
 use std::alloc::{AllocError, Global};
@@ -24,11 +24,13 @@ pub enum SlabsError {
     Memory,
 }
 
-/// A chunk that holds a value. It can't be copied, so it is given back at most once. One that is dropped and not given back stays taken.
+/// A chunk that holds a value, and how many bytes that has. It can't be copied, so it is given back at most once. One that is dropped and
+/// not given back stays taken.
 #[derive(Drop)]
 pub struct Chunk {
     class: u8,
     number: u32,
+    length: u32,
 }
 
 /// How many bytes a chunk of a class has room for.
@@ -162,6 +164,7 @@ impl Slabs {
         Some(Chunk {
             class: class as u8,
             number,
+            length: bytes.len() as u32,
         })
     }
 
@@ -210,16 +213,17 @@ impl Slabs {
         requires { IsSome (held_in self.now chunk.now) }
         ensures { held_in self.now chunk.now ≡ Some result.now }
     {
-        self.classes[chunk.class as usize].bytes(chunk.number)
+        self.classes[chunk.class as usize].bytes(chunk.number, chunk.length)
     }
 
     /// Puts other bytes into a chunk that holds some, in place of them.
-    pub fn replace(&mut self, chunk: &Chunk, bytes: &[u8])
-        requires held { IsSome (held_in self.old chunk.now) }
-        requires fits { length bytes.now ≤ chunk_bytes chunk.now.class }
-        ensures holds { self.new ≡ with_held self.old chunk.now.class chunk.now.number (Some bytes.now) }
-        ensures gives { held_in self.new chunk.now ≡ Some bytes.now }
-        ensures others { (other : Chunk) → other ≢ chunk.now → held_in self.new other ≡ held_in self.old other }
+    pub fn replace(&mut self, chunk: &mut Chunk, bytes: &[u8])
+        requires held { IsSome (held_in self.old chunk.old) }
+        requires fits { length bytes.now ≤ chunk_bytes chunk.old.class }
+        ensures chunk { chunk.new ≡ so_long chunk.old bytes.now }
+        ensures holds { self.new ≡ with_held self.old chunk.old.class chunk.old.number (Some bytes.now) }
+        ensures gives { held_in self.new chunk.new ≡ Some bytes.now }
+        ensures others { (other : Chunk) → other ≢ chunk.old → other ≢ chunk.new → held_in self.new other ≡ held_in self.old other }
     {
         self.replace_in(chunk, bytes);
     }
@@ -234,12 +238,14 @@ impl Slabs {
     }
 
     /// Puts other bytes into its class's chunk.
-    fn replace_in(&mut self, chunk: &Chunk, bytes: &[u8])
-        requires held { IsSome (held_in self.old chunk.now) }
-        requires fits { length bytes.now ≤ chunk_bytes chunk.now.class }
-        ensures { self.new ≡ with_held self.old chunk.now.class chunk.now.number (Some bytes.now) }
+    fn replace_in(&mut self, chunk: &mut Chunk, bytes: &[u8])
+        requires held { IsSome (held_in self.old chunk.old) }
+        requires fits { length bytes.now ≤ chunk_bytes chunk.old.class }
+        ensures chunk { chunk.new ≡ so_long chunk.old bytes.now }
+        ensures holds { self.new ≡ with_held self.old chunk.old.class chunk.old.number (Some bytes.now) }
     {
-        self.classes[chunk.class as usize].replace(chunk.number, bytes);
+        let class = &mut self.classes[chunk.class as usize];
+        chunk.length = class.replace(chunk.number, bytes);
     }
 
     /// Frees its class's chunk.

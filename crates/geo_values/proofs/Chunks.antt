@@ -6,16 +6,20 @@ use Rattle.std.proofs.lemmas.Bool.{cases_eq, cases_lt}
 use Rattle.geo_slabs.specs.Chunks.{ClassState}
 use Rattle.geo_slabs.specs.Storage.{Storage, chunks_in, class_in, held_in, held_of, no_class, with_chunks}
 use Rattle.geo_slabs.specs.declared.slabs.Chunk.{Chunk}
+use Rattle.geo_slabs.proofs.Kept.{finds, finds_none}
 use Rattle.geo_values.specs.Links.{held_count}
 
 -- the cell of a chunk that holds bytes
-held_cell : (cell : Option (Option (List ℕ))) (held : List ℕ) → held_of cell ≡ Some held → cell ≡ Some (Some held)
-held_cell None held h = cc
-held_cell (Some None) held h = cc
-held_cell (Some (Some b)) held h = ap Some h
+held_cell : (long : ℕ) (cell : Option (Option (List ℕ))) (held : List ℕ) → held_of long cell ≡ Some held → cell ≡ Some (Some held)
+held_cell long None held h = cc
+held_cell long (Some None) held h = cc
+held_cell long (Some (Some b)) held h = elim (cases_eq (length b) long) [
+  | inl same ↦ ap Some (sym (finds long b same) ∙ h)
+  | inr other ↦ let none : None ≡ Some held = sym (finds_none long b other) ∙ h in absurd cc
+]
 
 pub cell_of : (storage : Storage) (chunk : Chunk) (held : List ℕ) → held_in storage chunk ≡ Some held → slice_get (chunks_in storage chunk.class) chunk.number ≡ Some (Some held)
-cell_of storage chunk held h = held_cell (slice_get (chunks_in storage chunk.class) chunk.number) held h
+cell_of storage chunk held h = held_cell chunk.length (slice_get (chunks_in storage chunk.class) chunk.number) held h
 
 pub class_there : (storage : Storage) (class number : ℕ) (cell : Option (List ℕ)) → slice_get (chunks_in storage class) number ≡ Some cell → class < length storage.classes
 class_there storage class number cell there = elim (cases_lt class (length storage.classes)) [

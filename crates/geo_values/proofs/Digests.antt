@@ -1,6 +1,6 @@
 -- What is held, listed by rising key with its SHA-256 and length.
-use Rattle.std.proofs.Common.{rules, ◌≡◌, ℕ, ◌+◌, ◌^◌, ◌≤◌, ◌<◌, List, ◌∷◌, [], ◌++◌, map, length, Option, None, Some, option_map, refl, sym, ap, subst, ◌∙◌, arith, get_or, take, slice_get}
-use Rattle.std.specs.Ordering.{is_lt, is_eq, nat_cmp}
+use Rattle.std.proofs.Common.{rules, ◌≡◌, ℕ, ◌+◌, List, ◌∷◌, [], ◌++◌, length, Option, None, Some, option_map, refl, sym, ap, subst, ◌∙◌, arith, take, slice_get}
+use Rattle.std.specs.Ordering.{is_lt, nat_cmp}
 use Rattle.std.specs.Cmp.Lexicographic.{slice_cmp, nat_list_eq_equiv}
 use Rattle.std.specs.Cmp.Rules.{comparing}
 use Rattle.std.specs.List.{IsDistinct}

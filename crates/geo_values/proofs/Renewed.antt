@@ -3,13 +3,13 @@ use Rattle.std.proofs.Common.{◌≡◌, ℕ, inl, inr, Bool, true, false, nat_e
 use Rattle.std.proofs.lemmas.Bool.{cases_eq}
 use Rattle.sha2.specs.Sha256.{sha256}
 use Rattle.geo_versions.specs.Keys.{same_key}
-use Rattle.geo_slabs.specs.Storage.{Storage, IsClassOf, with_held}
+use Rattle.geo_slabs.specs.Storage.{Storage, IsClassOf, so_long, with_held}
 use Rattle.geo_slabs.specs.declared.slabs.Chunk.{Chunk}
 use Rattle.geo_slabs.proofs.Kept.{replace_puts}
 use Rattle.geo_lru.specs.Lists.{Lists, left, entered}
 use Rattle.geo_values.specs.Stock.{IsStored}
 use Rattle.geo_values.specs.Links.{Links, IsLinked, stock_of}
-use Rattle.geo_values.specs.Steps.{SameLinks, IsPutIn, Renews, taken_out, admitted, with_item}
+use Rattle.geo_values.specs.Steps.{SameLinks, IsPutIn, Renews, rewritten, taken_out, admitted, with_item}
 use Rattle.geo_values.specs.declared.parts.Item.{Item}
 use Rattle.geo_values.proofs.Linked.{same_self, same_numbers, other_numbers, holds_some}
 use Rattle.geo_values.proofs.Taken.{linked-out, stock-out}
@@ -19,8 +19,11 @@ module _ {base l' : Links} (h : IsLinked base) (key : List ℕ) (class : ℕ) (b
   abbrev n : ℕ
   n = r.item.number
 
+  abbrev was : Chunk
+  was = r.item.chunk
+
   abbrev chunk : Chunk
-  chunk = r.item.chunk
+  chunk = so_long was bytes
 
   abbrev new_item : Item
   new_item = record { number = n; digest = sha256 bytes; class = class; chunk = chunk }
@@ -56,17 +59,17 @@ module _ {base l' : Links} (h : IsLinked base) (key : List ℕ) (class : ℕ) (b
   put_in = record {
     item = λ q. refl;
     key = λ m. refl;
-    put = inl (replace_puts base.storage storage class chunk bytes refl (holds_some h key r.item r.is) home);
+    put = inl (replace_puts base.storage storage class was bytes refl (holds_some h key r.item r.is) home);
     lists = λ c. refl;
   }
 
   items : (q : List ℕ) → l'.item q ≡ cond (same_key q key) (Some new_item) (below.item q)
   items q = r.done.item q ∙ by (same_key q key) (base.item q)
     where
-      renamed : record r.item { digest = sha256 bytes } ≡ new_item
+      renamed : rewritten r.item bytes ≡ new_item
       renamed = λ i. record { number = n; digest = sha256 bytes; class = r.class_is i; chunk = chunk }
 
-      by : (t : Bool) (o : Option Item) → cond t (Some (record r.item { digest = sha256 bytes })) o ≡ cond t (Some new_item) (cond t None o)
+      by : (t : Bool) (o : Option Item) → cond t (Some (rewritten r.item bytes)) o ≡ cond t (Some new_item) (cond t None o)
       by true o = ap (λ (i : Item). Some i) renamed
       by false o = refl
 

@@ -3,7 +3,7 @@ use Rattle.std.specs.Prelude.{◌≡◌, ℕ, ◌<◌, ◌⊎◌, Bool, true, fa
 use Rattle.std.specs.Option.{unwrap_or}
 use Rattle.sha2.specs.Sha256.{sha256}
 use Rattle.geo_versions.specs.Keys.{same_key}
-use Rattle.geo_slabs.specs.Storage.{class_count, held_in, with_held, IsFull, PutDoes}
+use Rattle.geo_slabs.specs.Storage.{class_count, held_in, so_long, with_held, IsFull, PutDoes}
 use Rattle.geo_slabs.specs.declared.slabs.Chunk.{Chunk}
 use Rattle.geo_lru.specs.Lists.{present, entered, left, touched_at, juggled, victim_of}
 use Rattle.geo_values.specs.Links.{Links, bytes_of}
@@ -43,10 +43,14 @@ TakesOut old new key (Some item) = SameLinks (taken_out key item old) new
 abbrev pub MayAnswer : (List ℕ → List ℕ → Bool → Type 0) → Links → List ℕ → Bool → Type 0
 MayAnswer may l key answer = (bytes : List ℕ) → bytes_of l.storage (l.item key) ≡ Some bytes → may key bytes answer
 
+-- an item once its chunk holds these bytes
+abbrev pub rewritten : Item → List ℕ → Item
+rewritten item bytes = record item { digest = sha256 bytes; chunk = so_long item.chunk bytes }
+
 -- other bytes in a key's chunk, and its number comes anew in the lists
 abbrev pub renewed : List ℕ → Item → List ℕ → Links → Links
 renewed key item bytes l = record {
-  item = λ q. cond (same_key q key) (Some (record item { digest = sha256 bytes })) (l.item q);
+  item = λ q. cond (same_key q key) (Some (rewritten item bytes)) (l.item q);
   key = l.key;
   storage = with_held l.storage item.chunk.class item.chunk.number (Some bytes);
   lists = λ class. cond (nat_eq class item.class) (entered item.number (left item.number (l.lists class))) (l.lists class);

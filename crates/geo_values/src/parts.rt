@@ -1,11 +1,11 @@
 //! What values are made of. A call may leave these parts for a while without the links that a whole `Values` has.
 ghost use Rattle.std.specs.Prelude.{◌≡◌, ◌+◌, ◌<◌, ◌≤◌, ℕ, cond, List, Option, Some, None, IsTrue, IsSome, is_some, IfSome, IfOk, OnOk, OnErr, length, slice_get, slice_index_or, slice_set, swap_remove, option_map};
 ghost use Rattle.indexmap.specs.IndexMap.{get, spare};
-ghost use Rattle.sha2.specs.Sha256.{sha256};
 ghost use Rattle.geo_versions.specs.Keys.{same_key};
 ghost use Rattle.geo_slabs.specs.Storage.{class_count, chunk_bytes, held_in, with_held};
 ghost use Rattle.geo_lru.specs.Lists.{left, places, juggled, leaves_list, victim_of};
 ghost use Rattle.geo_values.specs.Stock.{no_items};
+ghost use Rattle.geo_values.specs.Steps.{rewritten};
 
 use crate::blob::Blob;
 use geo_lattice::Twin;
@@ -55,14 +55,14 @@ fn rewrite(items: &mut IndexMap<Key, Item, RandomState>, slabs: &mut Slabs, key:
     requires held { IfSome (get same_key items.old key.now) (λ item. IsSome (held_in slabs.old item.chunk)) }
     requires fits { IfSome (get same_key items.old key.now) (λ item. length blob.now ≤ chunk_bytes item.chunk.class) }
     ensures items { IfSome (get same_key items.old key.now) (λ item. (q : List ℕ) → get same_key items.new q
-        ≡ cond (same_key q key.now) (Some (record item { digest = sha256 blob.now })) (get same_key items.old q)) }
+        ≡ cond (same_key q key.now) (Some (rewritten item blob.now)) (get same_key items.old q)) }
     ensures slabs { IfSome (get same_key items.old key.now) (λ item. slabs.new
         ≡ with_held slabs.old item.chunk.class item.chunk.number (Some blob.now)) }
 {
     let Some(item) = items.get_mut(key) else {
         unreachable!();
     };
-    slabs.replace(&item.chunk, blob.bytes());
+    slabs.replace(&mut item.chunk, blob.bytes());
     item.digest = blob.digest();
 }
 

@@ -93,8 +93,8 @@ fn put(slabs: &mut Slabs, class: usize, bytes: &[u8]) -> Option<Chunk>
 
 /// Whether other bytes take the place of those that a chunk holds.
 fn replaces(slabs: &mut Slabs) -> Option<bool> {
-    let chunk = put(slabs, 3, b"first")?;
-    slabs.replace(&chunk, b"another");
+    let mut chunk = put(slabs, 3, b"first")?;
+    slabs.replace(&mut chunk, b"another");
     Some(slabs.bytes(&chunk) == b"another".as_slice())
 }
 

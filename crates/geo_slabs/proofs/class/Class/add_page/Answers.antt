@@ -4,7 +4,7 @@ use Rattle.std.proofs.lemmas.List.{map-append, length-map}
 use Rattle.std.proofs.lemmas.List.Elements.{All-append, All-cons, All-nil}
 use Rattle.std.specs.declared.alloc.Global.{Global}
 use Rattle.geo_slabs.specs.Chunks.{ClassState, bytes_of, with_fresh}
-use Rattle.geo_slabs.proofs.Held.{class-used, class-many, reach-page, chunks-page, with_fresh-more, length-with_fresh}
+use Rattle.geo_slabs.proofs.Held.{class-used, class-many, reach-page, listed-page, chunks-page, with_fresh-more, length-with_fresh}
 use Rattle.geo_slabs.proofs.class.Class.add_page.Goals as goal
 
 pub invariant_of-self : goal.invariant_of-self
@@ -17,17 +17,16 @@ invariant_of-self c =
     let grown : c.self.inside.per_page * length (bytes_of c.self.inside.pages.items) ≤ c.self.inside.per_page * length (bytes_of c.push-pushed.new.self.items) = mul-le-mul_left c.self.inside.per_page (omega (arith, more)) in
     record {
       whole = c.self.invariant.whole;
+      least = c.self.invariant.least;
+      used = c.self.invariant.used;
       many = omega (arith, c.self.invariant.many, grown);
-      listed = c.self.invariant.listed;
+      listed = rw bytes (listed-page c.self.inside.pages.items c.args.page.items c.self.invariant);
       fit = c.self.invariant.fit;
-      reach = rw bytes (reach-page c.self.inside.chunk_bytes c.self.inside.per_page (bytes_of c.self.inside.pages.items) c.args.page.items (length c.self.inside.lengths.items) c.self.invariant.whole c.self.invariant.many c.self.invariant.reach);
+      reach = rw bytes (reach-page c.self.inside.chunk_bytes c.self.inside.per_page (bytes_of c.self.inside.pages.items) c.args.page.items (length c.self.inside.lengths.each) c.self.invariant.whole c.self.invariant.many c.self.invariant.reach);
       reserved = rw pages (All-append (λ (page : Vec ℕ Global). 1048576 ≤ vec_capacity page) c.self.inside.pages.items (c.args.page ∷ []) c.self.invariant.reserved (All-cons (λ (page : Vec ℕ Global). 1048576 ≤ vec_capacity page) c.args.page [] c.requires.reserved (All-nil (λ (page : Vec ℕ Global). 1048576 ≤ vec_capacity page))));
-      free_room = c.self.invariant.free_room;
       counted = c.self.invariant.counted;
       within = omega (arith, more, length-map c.self.inside.pages.items (λ p. p.items), room_is, c.requires.room);
       pages_room = omega (arith, c.self.invariant.pages_room, c.push-pushed.ensures.capacity);
-      lengths_room = c.self.invariant.lengths_room;
-      free_most = c.self.invariant.free_most;
       numbered = c.self.invariant.numbered;
     }
 
@@ -35,7 +34,7 @@ pub returns : goal.returns
 returns c =
     let size = c.self.inside.chunk_bytes in
     let per = c.self.inside.per_page in
-    let os = c.self.inside.lengths.items in
+    let os = c.self.inside.lengths.each in
     let old = c.self.inside.pages.items in
     let room_is : c.self.inside.most_pages - length old ≡ c.args.self.now.room = ap (λ (l : ClassState). l.room) c.self.view_is in
     let pushed : IsOk c.push-pushed.result = c.push-pushed.ensures.succeeds (omega (arith, c.self.invariant.pages_room, c.self.inside.pages.ok.0, room_is, c.requires.room)) in
