@@ -11,7 +11,7 @@ mod parcels;
 mod replies;
 mod requests;
 
-use geo_grammar::ValueBytes;
+use geo_grammar::{Shared, ValueBytes};
 use geo_lattice::{Exact, Items};
 use geo_versions::Key;
 use std::cmp::Ordering;
@@ -23,18 +23,30 @@ pub trait Equal {
         ensures { MatchBool result (self.now ≡ other.now) (self.now ≢ other.now) };
 }
 
-impl<T: Equal> Equal for Items<T> {
-    fn equals(&self, other: &Self) -> bool {
-        let (one, two) = (self.as_slice(), other.as_slice());
-        if one.len() != two.len() {
+/// Whether two lists have equal elements, one by one.
+fn are_equal<T: Equal>(one: &[T], two: &[T]) -> bool
+    ensures { MatchBool result (one.now ≡ two.now) (one.now ≢ two.now) }
+{
+    if one.len() != two.len() {
+        return false;
+    }
+    for at in 0..one.len() {
+        if !one[at].equals(&two[at]) {
             return false;
         }
-        for at in 0..one.len() {
-            if !one[at].equals(&two[at]) {
-                return false;
-            }
-        }
-        true
+    }
+    true
+}
+
+impl<T: Equal> Equal for Items<T> {
+    fn equals(&self, other: &Self) -> bool {
+        are_equal(self.as_slice(), other.as_slice())
+    }
+}
+
+impl<T: Equal> Equal for Shared<T> {
+    fn equals(&self, other: &Self) -> bool {
+        are_equal(self.as_slice(), other.as_slice())
     }
 }
 

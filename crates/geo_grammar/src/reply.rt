@@ -2,9 +2,10 @@
 ghost use Rattle.std.specs.Prelude.{◌≡◌, true, false, MatchOption};
 ghost use Rattle.geo_grammar.specs.Replies.{is_short};
 
+use crate::shared::Shared;
 use crate::stats::Stats;
 use crate::value::ValueBytes;
-use geo_lattice::{Items, Twin};
+use geo_lattice::Twin;
 use geo_versions::Key;
 use std::alloc::{AllocError, Global};
 
@@ -48,7 +49,7 @@ pub enum Reply {
     /// The number that the value is now.
     Number(u64),
     /// The values that were found, in the order of the request's keys.
-    Values(Items<Found>),
+    Values(Shared<Found>),
     /// The version of the server.
     Version,
     /// The site's numbers.

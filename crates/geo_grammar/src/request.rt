@@ -105,6 +105,25 @@ impl Request {
             | Request::Quit => false,
         }
     }
+
+    /// Computes the SHA-256 of the data, if it brings any, which [`ValueBytes`] knows from then on unless there is no memory to keep
+    /// it in. Whoever is about to wait for a site's lock does it before.
+    pub fn know_digest(&mut self, alloc: Global)
+        ensures { self.new ≡ self.old }
+    {
+        if let Request::Store { bytes, .. } = self {
+            bytes.know_digest(alloc);
+        }
+    }
+
+    /// Lets go of that SHA-256, so that it takes no memory where the request is kept.
+    pub fn forget_digest(&mut self)
+        ensures { self.new ≡ self.old }
+    {
+        if let Request::Store { bytes, .. } = self {
+            bytes.forget_digest();
+        }
+    }
 }
 
 fn twin_of_touches(

@@ -44,7 +44,8 @@ impl Parts {
         ensures site { self.new.site ≡ self.old.site }
         ensures setup { self.new.setup ≡ self.old.setup }
         ensures opening { self.new.opening ≡ self.old.opening }
-        ensures steps { self.new.steps.items ≡ self.old.steps.items ++ step_with seat (made_in self.old.opening self.old.steps.items seat + 1) event answer victim made ∷ [] }
+        ensures steps { self.new.steps.items ≡ self.old.steps.items
+            ++ step_with seat (made_in self.old.opening self.old.steps.items seat + 1) event answer victim made ∷ [] }
         ensures counted { IsCounted self.new.opening self.new.steps.items self.new.counts.items }
         ensures room { self.new.steps.room + 1 ≡ self.old.steps.room }
     {
@@ -86,7 +87,7 @@ impl Parts {
         alloc: Global,
         seat: u8,
         now: u64,
-        request: Request,
+        mut request: Request,
     ) -> Result<(Reply, Reply), AllocError>
         requires moment { now ≤ 2 ^ 40 }
         requires counted { IsCounted self.old.opening self.old.steps.items self.old.counts.items }
@@ -110,6 +111,7 @@ impl Parts {
         let (Some(one), Some(two)) = (copies.pop(), copies.pop()) else {
             unreachable!();
         };
+        request.forget_digest();
         let event = Event::Command { now, request };
         self.append(seat, event, Answer::Replied(reply), victim, made);
         Ok((one, two))

@@ -2,11 +2,9 @@
 ghost use Rattle.std.specs.Prelude.{◌≤◌, ◌^◌};
 
 use geo_session::clock::Clock;
+use geo_site::LAST_MOMENT;
 use std::rt;
 use std::time::{SystemTime, UNIX_EPOCH};
-
-/// The last moment, in seconds: some 34,000 years from now.
-const LAST_MOMENT: u64 = 1 << 40;
 
 /// The system's clock, in seconds since 1970. Where it can't be read, or is set before 1970, the moment is 1.
 #[derive(Clone, Copy, Debug)]

@@ -76,12 +76,18 @@ impl Site {
     ) -> Result<Acted, AllocError>
         requires moment { now ≤ 2 ^ 40 }
         ensures answer { Answers now (basis_in self.old now) request.now (reply_in result) }
-        ensures done { is_done (reply_in result) ≡ true → HasIssuedAfter (accesses now (visible_in (state_in self.old) now) request.now) self.old self.new (issued_in self.old now request.now) }
+        ensures done { is_done (reply_in result) ≡ true
+            → HasIssuedAfter (accesses now (visible_in (state_in self.old) now) request.now) self.old self.new
+            (issued_in self.old now request.now) }
         ensures refused { is_done (reply_in result) ≡ false → Same (state_in self.old) (state_in self.new) }
-        ensures counts { counts_in self.new ≡ cond (is_done (reply_in result)) (evicted_on (victim_in self.old (issued_in self.old now request.now)) (counted (visible_in (state_in self.old) now) request.now (counts_in self.old))) (counts_in self.old) }
+        ensures counts { counts_in self.new
+            ≡ cond (is_done (reply_in result)) (evicted_on (victim_in self.old (issued_in self.old now request.now)) (counted
+            (visible_in (state_in self.old) now) request.now (counts_in self.old))) (counts_in self.old) }
         ensures victim { is_done (reply_in result) ≡ true → FirstVictimFits self.old (issued_in self.old now request.now) }
-        ensures told { IfOk result (Tells self.old copies.wanted (issued_in self.old now request.now) (made_on now (visible_in (state_in self.old) now) request.now)) }
-        ensures waiting { waiting_in self.new ≡ cond (is_done (reply_in result)) (waits_after now request.now (waiting_in self.old)) (waiting_in self.old) }
+        ensures told { IfOk result (Tells self.old copies.wanted (issued_in self.old now request.now) (made_on now
+            (visible_in (state_in self.old) now) request.now)) }
+        ensures waiting { waiting_in self.new
+            ≡ cond (is_done (reply_in result)) (waits_after now request.now (waiting_in self.old)) (waiting_in self.old) }
         ensures stays { Stays self.old self.new }
     {
         if let Some((key, ask)) = ask_of(request) {
@@ -172,8 +178,10 @@ impl Site {
     ) -> Result<Acted, AllocError>
         requires moment { now ≤ 2 ^ 40 }
         requires change { is_change ask.now ≡ true }
-        ensures does { ChangeDoes self.old self.new key.now (bytes_in ask.now) (decided (visible_in (state_in self.old) now key.now) now ask.now) (reply_in result) }
-        ensures told { IfOk result (TellsChange self.old copies.wanted key.now (bytes_in ask.now) (decided (visible_in (state_in self.old) now key.now) now ask.now)) }
+        ensures does { ChangeDoes self.old self.new key.now (bytes_in ask.now) (decided
+            (visible_in (state_in self.old) now key.now) now ask.now) (reply_in result) }
+        ensures told { IfOk result (TellsChange self.old copies.wanted key.now (bytes_in ask.now) (decided
+            (visible_in (state_in self.old) now key.now) now ask.now)) }
         ensures waiting { waiting_in self.new ≡ waiting_in self.old }
         ensures stays { Stays self.old self.new }
     {

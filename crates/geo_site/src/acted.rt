@@ -4,8 +4,8 @@ ghost use Rattle.geo_grammar.specs.Replies.{is_short};
 ghost use Rattle.geo_grammar.specs.declared.reply.Reply.TheVariants.{Values, OutOfMemory};
 ghost use Rattle.geo_site.specs.Sites.{TellsPlain};
 
-use geo_grammar::{Found, Reply};
-use geo_lattice::{Items, Twin};
+use geo_grammar::{Found, Reply, Shared};
+use geo_lattice::Twin;
 use geo_versions::{Digest, Key};
 use std::alloc::{AllocError, Global};
 
@@ -82,11 +82,11 @@ impl Copies {
         room
     }
 
-    /// Copies of a reply that shows these values.
+    /// Copies of a reply that shows these values, which they share.
     pub(crate) fn of_values(
         self,
         alloc: Global,
-        found: &Items<Found>,
+        found: &Shared<Found>,
     ) -> Result<Vec<Reply>, AllocError>
         ensures { IfOk result (λ all. all.items ≡ replicate self.wanted (Values found.now)) }
     {
@@ -128,7 +128,7 @@ impl Acted {
     }
 
     /// A reply that shows values.
-    pub(crate) fn values(found: Items<Found>, copies: Vec<Reply>) -> Acted
+    pub(crate) fn values(found: Shared<Found>, copies: Vec<Reply>) -> Acted
         ensures reply { result.reply ≡ Values found }
         ensures copies { result.copies ≡ copies }
         ensures victim { result.victim ≡ None }

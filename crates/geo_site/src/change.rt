@@ -14,7 +14,6 @@ use crate::notes::note;
 use crate::reap::earlier;
 use crate::refusal::WriteError;
 use crate::site::Site;
-use geo_grammar::ValueBytes;
 use geo_lattice::{Lww, Pair, Twin};
 use geo_memcache::{Ask, Effect};
 use geo_stamp::Stamp;
@@ -22,17 +21,17 @@ use geo_values::Blob;
 use geo_versions::{Body, Key, Length, Rec};
 use std::alloc::{AllocError, Global};
 
-/// A copy of the bytes that are asked to be stored; none where none are asked to be.
-pub fn asked_bytes(alloc: Global, ask: &Ask<'_>) -> Result<ValueBytes, AllocError>
-    ensures { IfOk result (λ bytes. bytes ≡ bytes_in ask.now) }
+/// The bytes that are asked to be stored, where they stand; none where none are asked to be.
+fn asked<'a>(ask: &Ask<'a>) -> Blob<'a>
+    ensures { result ≡ bytes_in ask.now }
 {
-    match ask {
-        Ask::Store { bytes, .. } => Ok(bytes.twin(alloc)?),
+    match *ask {
+        Ask::Store { bytes, .. } => Blob::known(bytes.as_slice(), bytes.digest()),
         Ask::Fetch { .. }
         | Ask::FetchTouch { .. }
         | Ask::Delete
         | Ask::Touch { .. }
-        | Ask::Arith { .. } => Ok(ValueBytes::of(Vec::new(alloc))),
+        | Ask::Arith { .. } => Blob::new(&[]),
     }
 }
 
@@ -86,7 +85,7 @@ impl Site {
         key: &Key,
         flags: u32,
         expiry: u64,
-        value: &Blob,
+        value: &Blob<'_>,
     ) -> Result<Option<Key>, AllocError>
         requires next { stamp ≡ next_stamp_of self.old }
         requires short { length value.now ≤ longest_value }
@@ -149,8 +148,7 @@ impl Site {
             Effect::Nothing => Ok(Beside::nothing()),
             Effect::Keep { flags, expiry } => {
                 let stamp = self.next_stamp(key)?;
-                let bytes = asked_bytes(alloc, ask)?;
-                let value = Blob::new(bytes.into_vec());
+                let value = asked(ask);
                 let victim = self.write(alloc, stamp, key, flags, expiry, &value)?;
                 self.count_victim(&victim);
                 Ok(Beside { victim, made: None })
@@ -162,7 +160,7 @@ impl Site {
             } => {
                 let stamp = self.next_stamp(key)?;
                 let length = bytes.len() as u32;
-                let value = Blob::new(bytes.into_vec());
+                let value = Blob::new(bytes.as_slice());
                 let victim = self.write(alloc, stamp, key, flags, expiry, &value)?;
                 self.count_victim(&victim);
                 let made = Some((value.digest(), length));

@@ -3,6 +3,9 @@ use crate::refusal::{ReapError, SendError, TakeError};
 use geo_grammar::{Reply, Request};
 use geo_versions::Key;
 
+/// The greatest moment, in seconds.
+pub const LAST_MOMENT: u64 = 1 << 40;
+
 /// What happens next: one atomic step of one site. Sites are numbered from 1, parcels from 0 by the sends that succeeded.
 #[derive(Drop)]
 pub enum Event {

@@ -119,7 +119,8 @@ fn is_current(values: &Values, key: &Key, version: Option<Version>) -> bool
 fn drop_outdated(values: &mut Values, versions: &Versions, records: &[(Key, Rec)])
     requires rising { Rising records.now }
     requires settled { Settled (record_in versions.now) (stock_in values.old).held }
-    ensures kept { stocks.Same (settled (λ q. above_both (floor_in versions.now) (record_joined (record_in versions.now q) (listed_at records.now q))) (stock_in values.old)) (stock_in values.new) }
+    ensures kept { stocks.Same (settled (λ q. above_both (floor_in versions.now) (record_joined (record_in versions.now q)
+        (listed_at records.now q))) (stock_in values.old)) (stock_in values.new) }
     ensures no_more { count_in values.new ≤ count_in values.old }
 {
     for (key, rec) in records {
@@ -150,7 +151,8 @@ fn join_both(
     requires room { HasRoomFor versions.old records }
     requires settled { Settled (record_in versions.old) (stock_in values.old).held }
     ensures floor { floor_in versions.new ≡ floor_joined (floor_in versions.old) floor }
-    ensures records { (q : List ℕ) → record_in versions.new q ≡ above_both (floor_in versions.new) (record_joined (record_in versions.old q) (listed_at records q)) }
+    ensures records { (q : List ℕ) → record_in versions.new q
+        ≡ above_both (floor_in versions.new) (record_joined (record_in versions.old q) (listed_at records q)) }
     ensures kept { stocks.Same (settled (record_in versions.new) (stock_in values.old)) (stock_in values.new) }
     ensures no_more { count_in values.new ≤ count_in values.old }
 {
@@ -251,7 +253,8 @@ impl Site {
         requires many { length upto ≡ length self.old.vector }
         requires floor_known { knows_floor upto floor ≡ true }
         requires records_known { knows_all upto records ≡ true }
-        ensures joined { Same (take self.old.number (record { upto = upto; floor = floor; map = listed_at records }) (state_in self.old)) (state_in self.new) }
+        ensures joined { Same (take self.old.number (record { upto = upto; floor = floor; map = listed_at records })
+            (state_in self.old)) (state_in self.new) }
         ensures rose { IsTrue result.rose ↔ (vector_joined self.old.vector upto ≢ self.old.vector) }
         ensures dropped { held_count self.new + result.dropped ≡ held_count self.old }
         ensures rests { Rests self.old self.new }

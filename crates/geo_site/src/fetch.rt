@@ -6,8 +6,8 @@ ghost use Rattle.geo_site.specs.Sites.{state_in, counts_in, limits_of, waiting_i
 
 use crate::acted::{Acted, Copies};
 use crate::site::Site;
-use geo_grammar::{Found, ValueBytes};
-use geo_lattice::{Items, Twin};
+use geo_grammar::{Found, Shared, ValueBytes};
+use geo_lattice::Twin;
 use geo_versions::Key;
 use std::alloc::{AllocError, Global};
 
@@ -77,7 +77,7 @@ impl Site {
         ensures told { IfOk result (TellsPlain copies.wanted) }
     {
         let all = self.found(alloc, now, keys, numbers)?;
-        let found = Items::of(all);
+        let found = Shared::of(alloc, all)?;
         let copies = copies.of_values(alloc, &found)?;
         self.note_hits(found.as_slice());
         let hits = found.as_slice().len();

@@ -18,7 +18,8 @@ use geo_stamp::Stamp;
 impl Site {
     /// The stamp of the next operation; None where none is left.
     pub(crate) fn stamp(&self) -> Option<Stamp>
-        ensures { MatchOption result (last_time < clock_of (state_in self.now) + 1) (λ stamp. (clock_of (state_in self.now) + 1 ≤ last_time) × (stamp ≡ next_stamp_of self.now)) }
+        ensures { MatchOption result (last_time < clock_of (state_in self.now) + 1) (λ stamp.
+            (clock_of (state_in self.now) + 1 ≤ last_time) × (stamp ≡ next_stamp_of self.now)) }
     {
         Stamp::new(self.vector.greatest() + 1, self.number)
     }
@@ -66,7 +67,8 @@ impl Site {
     pub(crate) fn flush_all(&mut self, now: u64, delay: i64) -> Reply
         requires moment { now ≤ 2 ^ 40 }
         ensures issued { IssuesAs [] self.old self.new (flush_acts delay now) Done result }
-        ensures waiting { waiting_in self.new ≡ cond (is_done result) (cond (flushes_now delay now) None (Some (expiry_at delay now))) (waiting_in self.old) }
+        ensures waiting { waiting_in self.new
+            ≡ cond (is_done result) (cond (flushes_now delay now) None (Some (expiry_at delay now))) (waiting_in self.old) }
         ensures counts { counts_in self.new ≡ counts_in self.old }
         ensures stays { Stays self.old self.new }
     {

@@ -24,10 +24,9 @@ pub mod state;
 pub mod touch;
 
 pub use acted::Acted;
-pub use change::asked_bytes;
-pub use event::{Event, Trace};
+pub use event::{Event, LAST_MOMENT, Trace};
 pub use exchange::{Refused, Taken};
 pub use refusal::{ReapError, SendError, SetupError, TakeError, WriteError};
-pub use setup::{Limits, Setup};
+pub use setup::{Limits, MOST_RECORDS, MOST_SITES, Setup};
 pub use site::Site;
 pub use state::SiteState;

@@ -10,7 +10,8 @@ use geo_versions::{Key, Rec};
 
 /// Notes that the record of a key changed, and what is known after that.
 pub(crate) fn note(changes: &mut Changes, key: &Key, after: &Vector)
-    ensures { (map : List ℕ → Record) → KnowsBut nothing_pending after.now map → Traced (is_key key.now) map changes.old → Traced nothing_pending map changes.new }
+    ensures { (map : List ℕ → Record) → KnowsBut nothing_pending after.now map → Traced (is_key key.now) map changes.old
+        → Traced nothing_pending map changes.new }
 {
     changes.note(key, after);
 }
@@ -18,7 +19,8 @@ pub(crate) fn note(changes: &mut Changes, key: &Key, after: &Vector)
 /// Notes that these records changed, and what is known after that. Of more than there is a place for none is noted: who does not
 /// know what is known after them may lack one that would have fallen out, and who knows it lacks none.
 pub(crate) fn note_each(changes: &mut Changes, records: &[(Key, Rec)], after: &Vector)
-    ensures { (map : List ℕ → Record) → KnowsBut nothing_pending after.now map → Traced (is_listed records.now) map changes.old → Traced nothing_pending map changes.new }
+    ensures { (map : List ℕ → Record) → KnowsBut nothing_pending after.now map → Traced (is_listed records.now) map changes.old
+        → Traced nothing_pending map changes.new }
 {
     if records.len() > MOST_CHANGES {
         changes.lose(after);

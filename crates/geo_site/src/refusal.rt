@@ -1,9 +1,7 @@
 //! Why a call is refused.
 ghost use Rattle.std.specs.Prelude.{◌≡◌};
-ghost use Rattle.geo_site.specs.Changes.{refusal_reply};
 ghost use Rattle.geo_site.specs.declared.refusal.WriteError.TheVariants.{Memory};
 
-use geo_grammar::Reply;
 use std::alloc::AllocError;
 
 /// Why there is no site, tested in this order.
@@ -64,19 +62,6 @@ pub enum WriteError {
     ClockEnded,
     /// Memory was wanted.
     Memory,
-}
-
-impl WriteError {
-    /// The reply in which a client is told.
-    pub fn reply(self) -> Reply
-        ensures { result ≡ refusal_reply self }
-    {
-        match self {
-            WriteError::MapFull => Reply::MapFull,
-            WriteError::ClockEnded => Reply::ClockEnded,
-            WriteError::Memory => Reply::OutOfMemory,
-        }
-    }
 }
 
 impl From<AllocError> for WriteError {

@@ -10,9 +10,9 @@ ghost use Rattle.geo_delta.specs.Changes.{Traced, nothing_pending, traced_prop};
 ghost use Rattle.geo_site.specs.Machine.{Numbered, HasRows, Covers, Settled, EndsFrom, knows_floor};
 
 use crate::refusal::SetupError;
-use crate::setup::{Limits, Setup};
+use crate::setup::{Limits, MOST_RECORDS, MOST_SITES, Setup};
 use geo_delta::Changes;
-use geo_slabs::Slabs;
+use geo_slabs::{CLASSES, MOST_PAGES, Slabs};
 use geo_stamp::{Acks, Stamp, Vector};
 use geo_values::Values;
 use geo_versions::{Key, Version, Versions};
@@ -70,19 +70,19 @@ impl Site {
     pub fn new(alloc: Global, setup: Setup) -> Result<Site, SetupError>
         ensures { OpenDoes setup result }
     {
-        if setup.sites == 0 || setup.sites > 16 {
+        if setup.sites == 0 || setup.sites > MOST_SITES {
             return Err(SetupError::Sites);
         }
         if setup.site == 0 || setup.site > setup.sites {
             return Err(SetupError::SiteNumber);
         }
-        if setup.pages < 15 {
+        if (setup.pages as usize) < CLASSES {
             return Err(SetupError::TooFewPages);
         }
-        if setup.pages > 65_536 {
+        if setup.pages as usize > MOST_PAGES {
             return Err(SetupError::TooManyPages);
         }
-        if setup.max_records == 0 || setup.max_records > 1_000_000 {
+        if setup.max_records == 0 || setup.max_records > MOST_RECORDS {
             return Err(SetupError::Records);
         }
         let Ok(hasher) = setup.hasher.clone() else {

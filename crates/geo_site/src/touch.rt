@@ -14,8 +14,7 @@ use crate::acted::{Acted, Copies};
 use crate::notes::note;
 use crate::reap::earlier;
 use crate::site::Site;
-use geo_grammar::{Found, Reply};
-use geo_lattice::Items;
+use geo_grammar::{Found, Reply, Shared};
 use geo_memcache::live;
 use geo_stamp::{LAST_TIME, Stamp};
 use geo_versions::Key;
@@ -46,7 +45,8 @@ impl Site {
 
     /// Whether a touch with this expiry finds a key, after those of the keys before it: one that ended it leaves nothing to find.
     fn is_found(&self, now: u64, expiry: u64, before: &[Key], key: &Key) -> bool
-        ensures { (numbers : Bool) → length (found_after now expiry numbers (visible_in (state_in self.now) now) before.now key.now) ≡ cond result 1 0 }
+        ensures { (numbers : Bool) → length (found_after now expiry numbers (visible_in (state_in self.now) now) before.now key.now)
+            ≡ cond result 1 0 }
     {
         self.entry(now, key).is_some() && (live(expiry, now) || !is_among(before, key))
     }
@@ -97,7 +97,8 @@ impl Site {
 
     /// Whether stamps are left for the touches that a fetch of these keys makes.
     fn can_touch(&self, now: u64, expiry: u64, keys: &[Key]) -> bool
-        ensures left { (numbers : Bool) → result ≡ nat_le (clock_of (state_in self.now) + length (touched_in self.now now expiry keys.now numbers)) last_time }
+        ensures left { (numbers : Bool) → result
+            ≡ nat_le (clock_of (state_in self.now) + length (touched_in self.now now expiry keys.now numbers)) last_time }
         ensures some { (numbers : Bool) → result ≡ false → 1 ≤ length (touched_in self.now now expiry keys.now numbers) }
     {
         if self.has_stamps(keys.len()) {
@@ -141,7 +142,7 @@ impl Site {
             return Ok(Acted::plain(Reply::ClockEnded, copies));
         }
         let all = self.found_to_touch(alloc, now, expiry, keys, numbers)?;
-        let found = Items::of(all);
+        let found = Shared::of(alloc, all)?;
         let copies = copies.of_values(alloc, &found)?;
         self.note_hits(found.as_slice());
         self.renew_all(expiry, found.as_slice());

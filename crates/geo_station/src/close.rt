@@ -29,7 +29,8 @@ pub struct Unclosed<L: Ledger> {
 
 /// Whether the history tells of a seat what the seat keeps.
 fn fits<L: Ledger>(kept: &Kept, seat: &Seat<L>) -> bool
-    ensures { MatchBool result (FitsIn (story_in kept.now).opening (story_in kept.now).steps seat.now) (FitsIn (story_in kept.now).opening (story_in kept.now).steps seat.now → ⊥) }
+    ensures { MatchBool result (FitsIn (story_in kept.now).opening (story_in kept.now).steps seat.now) (FitsIn
+        (story_in kept.now).opening (story_in kept.now).steps seat.now → ⊥) }
 {
     if MOST_STEPS - kept.left(seat.number) != seat.account.count {
         return false;
@@ -44,7 +45,8 @@ fn fits<L: Ledger>(kept: &Kept, seat: &Seat<L>) -> bool
 
 /// Whether it does of each.
 pub fn all_fit<L: Ledger>(kept: &Kept, seats: &[Seat<L>]) -> bool
-    ensures { MatchBool result (All (FitsIn (story_in kept.now).opening (story_in kept.now).steps) seats.now) (All (FitsIn (story_in kept.now).opening (story_in kept.now).steps) seats.now → ⊥) }
+    ensures { MatchBool result (All (FitsIn (story_in kept.now).opening (story_in kept.now).steps) seats.now) (All
+        (FitsIn (story_in kept.now).opening (story_in kept.now).steps) seats.now → ⊥) }
 {
     for seat in seats {
         if !fits(kept, seat) {

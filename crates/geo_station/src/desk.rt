@@ -153,7 +153,8 @@ impl<L: Ledger> Desk<L> {
     pub(crate) fn renew(&mut self, alloc: Global, after: u64) -> Result<Option<History>, AllocError>
         ensures lawful { IfOk result (λ ended. IfSome ended IsLawful) }
         ensures due { IfOk result (λ ended. IfSome ended (λ history. after ≤ length history.steps.items)) }
-        ensures early { IfOk result (λ ended. IfNone ended ((length (story_in self.old.kept).steps < after) ⊎ ((story_in self.old.kept).opening.era ≡ last_era))) }
+        ensures early { IfOk result (λ ended. IfNone ended ((length (story_in self.old.kept).steps < after)
+            ⊎ ((story_in self.old.kept).opening.era ≡ last_era))) }
     {
         if (self.kept.steps().len() as u64) < after {
             return Ok(None);

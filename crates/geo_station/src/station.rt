@@ -91,7 +91,7 @@ impl<L: Ledger> Station<L> {
         alloc: Global,
         seat: &mut Seat<L>,
         now: u64,
-        request: Request,
+        mut request: Request,
     ) -> Result<Reply, SeatSpent>
         requires { now ≤ 2 ^ 40 }
         ensures acts { ActsBy seat.old seat.new now request result }
@@ -110,6 +110,8 @@ impl<L: Ledger> Station<L> {
         let (Ok(()), Ok(copy)) = (calls.reserve(1), request.twin(alloc)) else {
             return Ok(Reply::OutOfMemory);
         };
+        // SHA-256 is most of a set, and no other thread waits for it here.
+        request.know_digest(alloc);
         let done = self
             .desk
             .lock(rt)
@@ -262,7 +264,8 @@ impl<L: Ledger> Station<L> {
     /// come back as they were.
     pub fn close(self, seats: Vec<Seat<L>>) -> Result<History, Unclosed<L>>
         ensures lawful { IfOk result (λ history. IsLawful history) }
-        ensures sum { IfOk result (λ history. opened_total history.opening + length history.steps.items ≡ sum_by (λ s. s.steps) seats.items) }
+        ensures sum { IfOk result (λ history. opened_total history.opening + length history.steps.items
+            ≡ sum_by (λ s. s.steps) seats.items) }
         ensures each { IfOk result (λ history. All (FitsIn history.opening history.steps.items) seats.items) }
         ensures all { IfOk result (λ _. vec_len seats ≡ self) }
         ensures missing { IfErr result (λ unclosed. unclosed.why ≡ Missing → vec_len seats ≢ self) }

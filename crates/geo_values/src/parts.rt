@@ -50,7 +50,12 @@ fn release(slabs: &mut Slabs, classes: &mut Vec<Segments>, item: Item)
 }
 
 /// Puts other bytes into the chunk of a key's item.
-fn rewrite(items: &mut IndexMap<Key, Item, RandomState>, slabs: &mut Slabs, key: &Key, blob: &Blob)
+fn rewrite(
+    items: &mut IndexMap<Key, Item, RandomState>,
+    slabs: &mut Slabs,
+    key: &Key,
+    blob: &Blob<'_>,
+)
     requires there { IsSome (get same_key items.old key.now) }
     requires held { IfSome (get same_key items.old key.now) (λ item. IsSome (held_in slabs.old item.chunk)) }
     requires fits { IfSome (get same_key items.old key.now) (λ item. length blob.now ≤ chunk_bytes item.chunk.class) }
@@ -223,7 +228,12 @@ impl Parts {
 
     /// Where a key has an item of this class, its bytes become these, and its number comes anew in the lists. Tells whether it has one.
     /// Only an item that is not in HOT asks for memory.
-    pub(crate) fn renew(&mut self, key: &Key, class: usize, blob: &Blob) -> Result<bool, AllocError>
+    pub(crate) fn renew(
+        &mut self,
+        key: &Key,
+        class: usize,
+        blob: &Blob<'_>,
+    ) -> Result<bool, AllocError>
         requires classes { length self.old.classes.items ≡ class_count }
         requires linked { IsLinked (links_in self.old) }
         requires class { IsClassOf (length blob.now) class }

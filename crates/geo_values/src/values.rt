@@ -166,7 +166,7 @@ impl Values {
         &mut self,
         alloc: Global,
         key: &Key,
-        blob: &Blob,
+        blob: &Blob<'_>,
     ) -> Result<Option<Key>, AllocError>
         requires { length blob.now ≤ 1048576 }
         ensures stored { IfOk result (λ evicted. IsStored (stock_in self.old) (stock_in self.new) key.now blob.now evicted) }
@@ -187,7 +187,7 @@ impl Values {
         alloc: Global,
         key: &Key,
         class: usize,
-        blob: &Blob,
+        blob: &Blob<'_>,
     ) -> Result<Option<Key>, AllocError>
         requires class { IsClassOf (length blob.now) class }
         ensures stored { IfOk result (λ evicted. IsStored (stock_in self.old) (stock_in self.new) key.now blob.now evicted) }

@@ -87,6 +87,14 @@ WorldOpens setups (Err Setups) = are_setups setups ≡ false
 WorldOpens setups (Err (BadEvent index)) = ⊥
 WorldOpens setups (Err Memory) = are_setups setups ≡ true
 
+-- whatever is known of the world, the trace is one that the event can have there, and what is known of it then is what comes of both
+abbrev pub HasLawfulTrace : World → Event → Trace → Type 0
+HasLawfulTrace old event trace = (w : Known) → Agrees old.sites.items old.parcels.items w → Lawful w event trace
+
+abbrev pub LeadsOn : World → World → Event → Trace → Type 0
+LeadsOn old new event trace =
+    (w : Known) → Agrees old.sites.items old.parcels.items w → Agrees new.sites.items new.parcels.items (happens w event trace)
+
 -- what a step does, by its result: it is lawful and keeps the agreement, or its event is not there
 abbrev pub StepDoes : World → World → Event → ℕ → Result Trace WorldError → Type 0
 StepDoes old new event index (Ok trace) = (is_there (length old.sites.items) (length old.parcels.items) event ≡ true) × ((w : Known) → Agrees old.sites.items old.parcels.items w → Lawful w event trace × Agrees new.sites.items new.parcels.items (happens w event trace))

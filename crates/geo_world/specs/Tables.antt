@@ -18,6 +18,7 @@ use Rattle.geo_site.specs.declared.event.Trace.TheVariants.{Replied, Sent, Taken
 use Rattle.geo_site.specs.Entries.{Answers, due_acts, is_stuck, is_done}
 use Rattle.geo_site.specs.Machine.{Delta, next_operation, IsRecordCount, IsHeldCount}
 use Rattle.geo_site.specs.Sites.{heard_in, delta_of}
+use Rattle.geo_world.specs.declared.world.World.{World}
 use Rattle.geo_world.specs.Agreement.{Agrees}
 use Rattle.geo_site.specs.Schedule.{Known, basis, happens, flushed, issues_on, reaps_on}
 
@@ -166,4 +167,9 @@ EachTallies w all (event ∷ events) (trace ∷ traces) = Tallies w all event tr
 
 -- where sites and parcels are what is known and kept, an event tallies and leaves them so
 abbrev pub Tabled : List Site → List Parcel → List Site → List Parcel → Event → Trace → Type 0
-Tabled sites parcels later more event trace = (w : Known) (all : Tables) → Agrees sites parcels w → Keep sites parcels all → Tallies w all event trace × Keep later more (kept_after w all event trace)
+Tabled sites parcels later more event trace =
+    (w : Known) (all : Tables) → Agrees sites parcels w → Keep sites parcels all
+    → Tallies w all event trace × Keep later more (kept_after w all event trace)
+
+abbrev pub TabledIn : World → World → Event → Trace → Type 0
+TabledIn old new event trace = Tabled old.sites.items old.parcels.items new.sites.items new.parcels.items event trace

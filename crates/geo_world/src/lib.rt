@@ -15,6 +15,6 @@ mod world;
 
 pub use open::are_good;
 pub use outcome::{Outcome, WorldError};
-pub use run::{LAST_MOMENT, are_in_time, run_schedule};
+pub use run::{are_in_time, run_schedule};
 pub use there::first_missing;
 pub use world::World;

@@ -6,7 +6,8 @@ ghost use Rattle.geo_world.specs.Tables.{empty_tables, Keep};
 
 use crate::outcome::WorldError;
 use crate::world::World;
-use geo_site::{Setup, Site};
+use geo_site::{MOST_RECORDS, MOST_SITES, Setup, Site};
+use geo_slabs::{CLASSES, MOST_PAGES};
 use std::alloc::Global;
 
 /// Whether a setup is that of the site with this number among so many, and a site can be made of it.
@@ -15,10 +16,10 @@ fn is_good(sites: usize, number: usize, setup: &Setup) -> bool
 {
     setup.site as usize == number
         && setup.sites as usize == sites
-        && setup.pages >= 15
-        && setup.pages <= 65_536
+        && setup.pages as usize >= CLASSES
+        && setup.pages as usize <= MOST_PAGES
         && setup.max_records >= 1
-        && setup.max_records <= 1_000_000
+        && setup.max_records <= MOST_RECORDS
 }
 
 /// Whether the setups are those of sites 1 to n in order, of each of which a site can be made.
@@ -26,7 +27,7 @@ pub fn are_good(setups: &[Setup]) -> bool
     ensures { result ≡ are_setups setups.now }
 {
     let sites = setups.len();
-    if sites < 1 || sites > 16 {
+    if sites < 1 || sites > MOST_SITES as usize {
         return false;
     }
     for (index, setup) in setups.iter().enumerate() {

@@ -13,11 +13,8 @@ use crate::open::are_good;
 use crate::outcome::{Outcome, WorldError};
 use crate::there::first_missing;
 use crate::world::World;
-use geo_site::{Event, Setup};
+use geo_site::{Event, LAST_MOMENT, Setup};
 use std::alloc::Global;
-
-/// The greatest moment, in seconds.
-pub const LAST_MOMENT: u64 = 1 << 40;
 
 /// Whether the moment of an event, if it has one, is one of a schedule.
 pub(crate) fn is_in_time_event(event: &Event) -> bool
@@ -67,11 +64,17 @@ pub fn run_schedule(
     ensures there { IfOk result (λ o. EachThere (length setups.items) (start setups.items) events.now o.traces.items) }
     ensures lawful { IfOk result (λ o. EachLawful (start setups.items) events.now o.traces.items) }
     ensures tallies { IfOk result (λ o. EachTallies (start setups.items) (empty_tables (length setups.items)) events.now o.traces.items) }
-    ensures keep { IfOk result (λ o. Keep o.sites.items o.parcels.items (kept (start setups.items) (empty_tables (length setups.items)) events.now o.traces.items)) }
+    ensures keep { IfOk result (λ o. Keep o.sites.items o.parcels.items (kept (start setups.items)
+        (empty_tables (length setups.items)) events.now o.traces.items)) }
     ensures agrees { IfOk result (λ o. Agrees o.sites.items o.parcels.items (known (start setups.items) events.now o.traces.items)) }
-    ensures versions { IfOk result (λ o. (k number : ℕ) (site : Site) → number ≡ k + 1 → slice_get o.sites.items k ≡ Some site → ShowsVersions site ((known (start setups.items) events.now o.traces.items).at number)) }
-    ensures equal { IfOk result (λ o. (j k : ℕ) (one other : Site) → slice_get o.sites.items j ≡ Some one → slice_get o.sites.items k ≡ Some other → SameOperations ((known (start setups.items) events.now o.traces.items).at (j + 1)) ((known (start setups.items) events.now o.traces.items).at (k + 1)) → SameVersions one other) }
-    ensures served { IfOk result (λ o. NoCollision (known (start setups.items) events.now o.traces.items) → AllServe (start setups.items) events.now o.traces.items) }
+    ensures versions { IfOk result (λ o. (k number : ℕ) (site : Site) → number ≡ k + 1 → slice_get o.sites.items k ≡ Some site
+        → ShowsVersions site ((known (start setups.items) events.now o.traces.items).at number)) }
+    ensures equal { IfOk result (λ o. (j k : ℕ) (one other : Site) → slice_get o.sites.items j ≡ Some one
+        → slice_get o.sites.items k ≡ Some other
+        → SameOperations ((known (start setups.items) events.now o.traces.items).at (j + 1))
+        ((known (start setups.items) events.now o.traces.items).at (k + 1)) → SameVersions one other) }
+    ensures served { IfOk result (λ o. NoCollision (known (start setups.items) events.now o.traces.items)
+        → AllServe (start setups.items) events.now o.traces.items) }
     ensures refused { IfErr result (RunRefuses setups.items events.now) }
 {
     if !are_good(&setups) {

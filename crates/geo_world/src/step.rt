@@ -1,9 +1,8 @@
 //! One event.
 ghost use Rattle.std.specs.Prelude.{◌≡◌, ℕ, ◌≤◌, ◌<◌, ◌^◌, true, length, IfOk};
-ghost use Rattle.geo_site.specs.Schedule.{Known, happens, Lawful};
 ghost use Rattle.geo_world.specs.There.{is_site, is_there, is_in_time};
-ghost use Rattle.geo_world.specs.Agreement.{Agrees, DoesAlone, StepDoes};
-ghost use Rattle.geo_world.specs.Tables.{Tabled};
+ghost use Rattle.geo_world.specs.Agreement.{DoesAlone, HasLawfulTrace, LeadsOn, StepDoes};
+ghost use Rattle.geo_world.specs.Tables.{TabledIn};
 
 use crate::outcome::WorldError;
 use crate::there::is_at_hand;
@@ -18,10 +17,10 @@ impl World {
     fn command(&mut self, alloc: Global, site: u8, now: u64, request: &Request) -> Trace
         requires there { is_site (length self.old.sites.items) site ≡ true }
         requires moment { now ≤ 2 ^ 40 }
-        ensures lawful { (w : Known) → Agrees self.old.sites.items self.old.parcels.items w → Lawful w (Event.Command site now request.now) result }
-        ensures kept { (w : Known) → Agrees self.old.sites.items self.old.parcels.items w → Agrees self.new.sites.items self.new.parcels.items (happens w (Event.Command site now request.now) result) }
+        ensures lawful { HasLawfulTrace self.old (Event.Command site now request.now) result }
+        ensures kept { LeadsOn self.old self.new (Event.Command site now request.now) result }
         ensures alone { DoesAlone self.old.sites.items self.new.sites.items (Event.Command site now request.now) result }
-        ensures tables { Tabled self.old.sites.items self.old.parcels.items self.new.sites.items self.new.parcels.items (Event.Command site now request.now) result }
+        ensures tables { TabledIn self.old self.new (Event.Command site now request.now) result }
         ensures as_many { length self.new.sites.items ≡ length self.old.sites.items }
     {
         let at = &mut self.sites[site as usize - 1];
@@ -34,10 +33,10 @@ impl World {
     /// The bytes of a key are dropped where they are held.
     fn evict(&mut self, site: u8, key: &Key) -> Trace
         requires there { is_site (length self.old.sites.items) site ≡ true }
-        ensures lawful { (w : Known) → Agrees self.old.sites.items self.old.parcels.items w → Lawful w (Event.Evict site key.now) result }
-        ensures kept { (w : Known) → Agrees self.old.sites.items self.old.parcels.items w → Agrees self.new.sites.items self.new.parcels.items (happens w (Event.Evict site key.now) result) }
+        ensures lawful { HasLawfulTrace self.old (Event.Evict site key.now) result }
+        ensures kept { LeadsOn self.old self.new (Event.Evict site key.now) result }
         ensures alone { DoesAlone self.old.sites.items self.new.sites.items (Event.Evict site key.now) result }
-        ensures tables { Tabled self.old.sites.items self.old.parcels.items self.new.sites.items self.new.parcels.items (Event.Evict site key.now) result }
+        ensures tables { TabledIn self.old self.new (Event.Evict site key.now) result }
         ensures as_many { length self.new.sites.items ≡ length self.old.sites.items }
     {
         let at = &mut self.sites[site as usize - 1];
@@ -47,10 +46,10 @@ impl World {
     /// What every site knows to be deleted is dropped.
     fn remove(&mut self, site: u8) -> Trace
         requires there { is_site (length self.old.sites.items) site ≡ true }
-        ensures lawful { (w : Known) → Agrees self.old.sites.items self.old.parcels.items w → Lawful w (Event.Remove site) result }
-        ensures kept { (w : Known) → Agrees self.old.sites.items self.old.parcels.items w → Agrees self.new.sites.items self.new.parcels.items (happens w (Event.Remove site) result) }
+        ensures lawful { HasLawfulTrace self.old (Event.Remove site) result }
+        ensures kept { LeadsOn self.old self.new (Event.Remove site) result }
         ensures alone { DoesAlone self.old.sites.items self.new.sites.items (Event.Remove site) result }
-        ensures tables { Tabled self.old.sites.items self.old.parcels.items self.new.sites.items self.new.parcels.items (Event.Remove site) result }
+        ensures tables { TabledIn self.old self.new (Event.Remove site) result }
         ensures as_many { length self.new.sites.items ≡ length self.old.sites.items }
     {
         let at = &mut self.sites[site as usize - 1];
@@ -65,10 +64,10 @@ impl World {
     /// A flush that waits is carried out where it is due.
     fn tick(&mut self, site: u8, now: u64) -> Trace
         requires there { is_site (length self.old.sites.items) site ≡ true }
-        ensures lawful { (w : Known) → Agrees self.old.sites.items self.old.parcels.items w → Lawful w (Event.Tick site now) result }
-        ensures kept { (w : Known) → Agrees self.old.sites.items self.old.parcels.items w → Agrees self.new.sites.items self.new.parcels.items (happens w (Event.Tick site now) result) }
+        ensures lawful { HasLawfulTrace self.old (Event.Tick site now) result }
+        ensures kept { LeadsOn self.old self.new (Event.Tick site now) result }
         ensures alone { DoesAlone self.old.sites.items self.new.sites.items (Event.Tick site now) result }
-        ensures tables { Tabled self.old.sites.items self.old.parcels.items self.new.sites.items self.new.parcels.items (Event.Tick site now) result }
+        ensures tables { TabledIn self.old self.new (Event.Tick site now) result }
         ensures as_many { length self.new.sites.items ≡ length self.old.sites.items }
     {
         let at = &mut self.sites[site as usize - 1];
@@ -78,10 +77,10 @@ impl World {
     /// A key is deleted where it is to be reaped.
     fn reap(&mut self, alloc: Global, site: u8, now: u64, key: &Key) -> Trace
         requires there { is_site (length self.old.sites.items) site ≡ true }
-        ensures lawful { (w : Known) → Agrees self.old.sites.items self.old.parcels.items w → Lawful w (Event.Reap site now key.now) result }
-        ensures kept { (w : Known) → Agrees self.old.sites.items self.old.parcels.items w → Agrees self.new.sites.items self.new.parcels.items (happens w (Event.Reap site now key.now) result) }
+        ensures lawful { HasLawfulTrace self.old (Event.Reap site now key.now) result }
+        ensures kept { LeadsOn self.old self.new (Event.Reap site now key.now) result }
         ensures alone { DoesAlone self.old.sites.items self.new.sites.items (Event.Reap site now key.now) result }
-        ensures tables { Tabled self.old.sites.items self.old.parcels.items self.new.sites.items self.new.parcels.items (Event.Reap site now key.now) result }
+        ensures tables { TabledIn self.old self.new (Event.Reap site now key.now) result }
         ensures as_many { length self.new.sites.items ≡ length self.old.sites.items }
     {
         let at = &mut self.sites[site as usize - 1];
@@ -94,10 +93,10 @@ impl World {
     fn send(&mut self, alloc: Global, site: u8, to: u8) -> Result<Trace, AllocError>
         requires there { is_site (length self.old.sites.items) site ≡ true }
         requires to_there { is_site (length self.old.sites.items) to ≡ true }
-        ensures lawful { IfOk result (λ trace. (w : Known) → Agrees self.old.sites.items self.old.parcels.items w → Lawful w (Event.Send site to) trace) }
-        ensures kept { IfOk result (λ trace. (w : Known) → Agrees self.old.sites.items self.old.parcels.items w → Agrees self.new.sites.items self.new.parcels.items (happens w (Event.Send site to) trace)) }
+        ensures lawful { IfOk result (λ trace. HasLawfulTrace self.old (Event.Send site to) trace) }
+        ensures kept { IfOk result (λ trace. LeadsOn self.old self.new (Event.Send site to) trace) }
         ensures alone { IfOk result (λ trace. DoesAlone self.old.sites.items self.new.sites.items (Event.Send site to) trace) }
-        ensures tables { IfOk result (λ trace. Tabled self.old.sites.items self.old.parcels.items self.new.sites.items self.new.parcels.items (Event.Send site to) trace) }
+        ensures tables { IfOk result (λ trace. TabledIn self.old self.new (Event.Send site to) trace) }
         ensures as_many { length self.new.sites.items ≡ length self.old.sites.items }
     {
         let at = &self.sites[site as usize - 1];
@@ -114,10 +113,10 @@ impl World {
     fn take(&mut self, alloc: Global, site: u8, parcel: usize) -> Result<Trace, AllocError>
         requires there { is_site (length self.old.sites.items) site ≡ true }
         requires sent { parcel < length self.old.parcels.items }
-        ensures lawful { IfOk result (λ trace. (w : Known) → Agrees self.old.sites.items self.old.parcels.items w → Lawful w (Event.Take site parcel) trace) }
-        ensures kept { IfOk result (λ trace. (w : Known) → Agrees self.old.sites.items self.old.parcels.items w → Agrees self.new.sites.items self.new.parcels.items (happens w (Event.Take site parcel) trace)) }
+        ensures lawful { IfOk result (λ trace. HasLawfulTrace self.old (Event.Take site parcel) trace) }
+        ensures kept { IfOk result (λ trace. LeadsOn self.old self.new (Event.Take site parcel) trace) }
         ensures alone { IfOk result (λ trace. DoesAlone self.old.sites.items self.new.sites.items (Event.Take site parcel) trace) }
-        ensures tables { IfOk result (λ trace. Tabled self.old.sites.items self.old.parcels.items self.new.sites.items self.new.parcels.items (Event.Take site parcel) trace) }
+        ensures tables { IfOk result (λ trace. TabledIn self.old self.new (Event.Take site parcel) trace) }
         ensures as_many { length self.new.sites.items ≡ length self.old.sites.items }
     {
         let sent = &self.parcels[parcel];
@@ -136,7 +135,7 @@ impl World {
         requires moment { is_in_time event.now ≡ true }
         ensures does { StepDoes self.old self.new event.now index result }
         ensures alone { IfOk result (λ trace. DoesAlone self.old.sites.items self.new.sites.items event.now trace) }
-        ensures tables { IfOk result (λ trace. Tabled self.old.sites.items self.old.parcels.items self.new.sites.items self.new.parcels.items event.now trace) }
+        ensures tables { IfOk result (λ trace. TabledIn self.old self.new event.now trace) }
         ensures as_many { length self.new.sites.items ≡ length self.old.sites.items }
     {
         if !is_at_hand(self.sites.len(), self.parcels.len(), event) {

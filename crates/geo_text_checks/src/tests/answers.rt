@@ -1,9 +1,9 @@
 //! The texts of answers and of faults, from memcached's protocol.txt.
 use super::show::{items_of, push_bytes, push_number, value};
 use geo_grammar::{
-    Found, Item, Reply, Request, ValueBytes, fault_text, push_answer, push_reply, render,
+    Found, Item, Reply, Request, Shared, ValueBytes, fault_text, push_answer, push_reply, render,
 };
-use geo_lattice::{Items, Twin};
+use geo_lattice::Twin;
 use geo_versions::Key;
 use std::alloc::{AllocError, Global};
 use std::process::Abort;
@@ -27,7 +27,7 @@ fn values(alloc: Global, count: usize) -> Result<Reply, Fail> {
     for (flags, unique, bytes) in table::FOUND.iter().take(count) {
         all.push(found(alloc, *flags, *unique, bytes)?)?;
     }
-    Ok(Reply::Values(Items::of(all)))
+    Ok(Reply::Values(Shared::of(alloc, all)?))
 }
 
 /// What answers a request by the twin of a reply.

@@ -39,7 +39,12 @@ fn show_key(out: &mut String, key: Option<Key>) -> Result<(), AllocError> {
 }
 
 /// Stores a blob under a key, and shows which key was evicted.
-fn store(out: &mut String, values: &mut Values, name: u8, blob: &Blob) -> Result<(), AllocError> {
+fn store(
+    out: &mut String,
+    values: &mut Values,
+    name: u8,
+    blob: &Blob<'_>,
+) -> Result<(), AllocError> {
     if blob.bytes().len() > PAGE {
         return out.push_str("too long");
     }
@@ -50,12 +55,17 @@ fn store(out: &mut String, values: &mut Values, name: u8, blob: &Blob) -> Result
 }
 
 /// So many times one byte.
-fn blob(alloc: Global, byte: u8, many: usize) -> Result<Blob, AllocError> {
-    Ok(Blob::new(vec![in alloc; byte; many]?))
+fn bytes(alloc: Global, byte: u8, many: usize) -> Result<Vec<u8>, AllocError> {
+    vec![in alloc; byte; many]
 }
 
 /// Stores a blob under each key.
-fn fill(out: &mut String, values: &mut Values, names: &str, blob: &Blob) -> Result<(), AllocError> {
+fn fill(
+    out: &mut String,
+    values: &mut Values,
+    names: &str,
+    blob: &Blob<'_>,
+) -> Result<(), AllocError> {
     for name in names.as_bytes() {
         store(out, values, *name, blob)?;
     }
@@ -63,7 +73,7 @@ fn fill(out: &mut String, values: &mut Values, names: &str, blob: &Blob) -> Resu
 }
 
 /// Shows whether the bytes of a blob are got by their digest.
-fn get(out: &mut String, values: &Values, name: u8, blob: &Blob) -> Result<(), AllocError> {
+fn get(out: &mut String, values: &Values, name: u8, blob: &Blob<'_>) -> Result<(), AllocError> {
     let key = key(*out.allocator(), name)?;
     match values.get(&key, &Digest::of(blob.bytes())) {
         None => out.push_str(" none"),
@@ -121,7 +131,7 @@ fn change(values: &mut Values, alloc: Global, step: Step) -> Result<(), AllocErr
     match step {
         Step::Hit(name) => hit(values, alloc, name),
         Step::RetainOtherBytes(byte, many) => {
-            retain_other_bytes(values, &Digest::of(blob(alloc, byte, many)?.bytes()));
+            retain_other_bytes(values, &Digest::of(&bytes(alloc, byte, many)?));
             Ok(())
         }
         Step::RetainOtherKeys(names) => {
@@ -136,12 +146,27 @@ fn change(values: &mut Values, alloc: Global, step: Step) -> Result<(), AllocErr
     }
 }
 
-fn step(out: &mut String, values: &mut Values, large: &Blob, step: Step) -> Result<(), AllocError> {
+fn step(
+    out: &mut String,
+    values: &mut Values,
+    large: &Blob<'_>,
+    step: Step,
+) -> Result<(), AllocError> {
     let alloc = *out.allocator();
     match step {
         Step::Fill(names) => fill(out, values, names, large),
-        Step::Store(name, byte, many) => store(out, values, name, &blob(alloc, byte, many)?),
-        Step::Get(name, byte, many) => get(out, values, name, &blob(alloc, byte, many)?),
+        Step::Store(name, byte, many) => store(
+            out,
+            values,
+            name,
+            &Blob::new(&bytes(alloc, byte, many)?),
+        ),
+        Step::Get(name, byte, many) => get(
+            out,
+            values,
+            name,
+            &Blob::new(&bytes(alloc, byte, many)?),
+        ),
         Step::Len => write!(out, "{}", values.len()),
         Step::Holds(name) => holds(out, values, name),
         Step::DropKey(name) => drop_key(out, values, name),
@@ -162,7 +187,7 @@ fn values_of(alloc: Global, hasher: RandomState, pages: usize) -> Result<Values,
 fn play(
     out: &mut String,
     values: &mut Values,
-    large: &Blob,
+    large: &Blob<'_>,
     steps: &[Step],
 ) -> Result<(), AllocError> {
     for what in steps {
@@ -176,7 +201,7 @@ fn play_rows(
     rt: &impl Abort,
     out: &mut String,
     hasher: RandomState,
-    large: &Blob,
+    large: &Blob<'_>,
 ) -> Result<(), AllocError> {
     for (pages, steps, want) in ROWS {
         let mut values = values_of(*out.allocator(), hasher, *pages)?;
@@ -190,15 +215,15 @@ fn play_rows(
 #[test]
 fn values_are_held_until_they_are_dropped_or_evicted(rt: HostRuntime) -> Result<(), Fail> {
     let hasher = RandomState::new(&rt)?;
-    let large = blob(rt.alloc(), 7, LARGE)?;
+    let large = bytes(rt.alloc(), 7, LARGE)?;
     let mut out = String::new(rt.alloc());
-    play_rows(&rt, &mut out, hasher, &large)?;
+    play_rows(&rt, &mut out, hasher, &Blob::new(&large))?;
     Ok(())
 }
 
 #[test]
 fn a_blob_has_the_sha_256_of_its_bytes(rt: HostRuntime) -> Result<(), Fail> {
-    let blob = Blob::new(Vec::from_slice(rt.alloc(), b"abc")?);
+    let blob = Blob::new(b"abc");
     let digest = blob.digest();
     // FIPS 180-4's example of one block.
     let seen = (blob.bytes(), &digest.bytes()[..4]);

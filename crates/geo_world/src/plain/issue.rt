@@ -29,8 +29,10 @@ impl Known {
     fn next_stamp(&self, site: u8) -> Result<Stamp, PlainError>
         requires there { is_site (length self.now.sites.items) site ≡ true }
         requires few { length self.now.sites.items ≤ 16 }
-        ensures stamp { IfOk result (λ stamp. (w : Knowing) → Meets self.now.sites.items self.now.sent.items w → stamp ≡ record { time = latest_of (w.at site) + 1; site = site }) }
-        ensures ended { IfErr result (λ e. (e ≡ PlainError.ClockEnded) × ((w : Knowing) → Meets self.now.sites.items self.now.sent.items w → last_time < latest_of (w.at site) + 1)) }
+        ensures stamp { IfOk result (λ stamp. (w : Knowing) → Meets self.now.sites.items self.now.sent.items w → stamp
+            ≡ record { time = latest_of (w.at site) + 1; site = site }) }
+        ensures ended { IfErr result (λ e. (e ≡ PlainError.ClockEnded) × ((w : Knowing)
+            → Meets self.now.sites.items self.now.sent.items w → last_time < latest_of (w.at site) + 1)) }
     {
         let clock = latest(self.sites[site as usize - 1].ops.as_slice());
         if clock >= LAST_TIME {
@@ -80,7 +82,8 @@ impl Known {
     /// A site evicts the bytes of a key.
     pub(crate) fn evict(&mut self, alloc: Global, site: u8, key: &Key) -> Result<(), AllocError>
         requires there { is_site (length self.old.sites.items) site ≡ true }
-        ensures kept { IfOk result (λ _. (w : Knowing) → Meets self.old.sites.items self.old.sent.items w → Meets self.new.sites.items self.new.sent.items (evicts w site key.now)) }
+        ensures kept { IfOk result (λ _. (w : Knowing) → Meets self.old.sites.items self.old.sent.items w
+            → Meets self.new.sites.items self.new.sent.items (evicts w site key.now)) }
         ensures as_many { length self.new.sites.items ≡ length self.old.sites.items }
     {
         let at = &mut self.sites[site as usize - 1];
@@ -91,7 +94,8 @@ impl Known {
     /// A flush waits at a site from now on, or none does.
     pub(crate) fn wait(&mut self, site: u8, waiting: Option<u64>)
         requires there { is_site (length self.old.sites.items) site ≡ true }
-        ensures kept { (w : Knowing) → Meets self.old.sites.items self.old.sent.items w → Meets self.new.sites.items self.new.sent.items (waits w site waiting) }
+        ensures kept { (w : Knowing) → Meets self.old.sites.items self.old.sent.items w
+            → Meets self.new.sites.items self.new.sent.items (waits w site waiting) }
         ensures as_many { length self.new.sites.items ≡ length self.old.sites.items }
     {
         let at = &mut self.sites[site as usize - 1];
@@ -102,7 +106,8 @@ impl Known {
     pub fn flush_due(&mut self, alloc: Global, site: u8, now: u64) -> Result<(), PlainError>
         requires there { is_site (length self.old.sites.items) site ≡ true }
         requires few { length self.old.sites.items ≤ 16 }
-        ensures kept { IfOk result (λ _. (w : Knowing) → Meets self.old.sites.items self.old.sent.items w → Meets self.new.sites.items self.new.sent.items (flushed w site now)) }
+        ensures kept { IfOk result (λ _. (w : Knowing) → Meets self.old.sites.items self.old.sent.items w
+            → Meets self.new.sites.items self.new.sent.items (flushed w site now)) }
         ensures memory { IfErr result (λ e. e ≡ PlainError.Memory) }
         ensures as_many { length self.new.sites.items ≡ length self.old.sites.items }
     {

@@ -78,7 +78,8 @@ impl Knowledge {
     fn settle(&mut self, alloc: Global) -> Result<(), AllocError>
         ensures operations { self.new.ops ≡ self.old.ops }
         ensures rests { Rests self.old self.new }
-        ensures settles { IfOk result (λ _. (ops : List Issued) (held : Held) → Knows self.old ops held → Knows self.new ops (still_held ops held)) }
+        ensures settles { IfOk result (λ _. (ops : List Issued) (held : Held) → Knows self.old ops held
+            → Knows self.new ops (still_held ops held)) }
     {
         let known = copies(alloc, self.ops.as_slice())?;
         self.changes.push(Change::Settled(known))?;
@@ -89,7 +90,8 @@ impl Knowledge {
     fn hold(&mut self, alloc: Global, act: &Act) -> Result<(), AllocError>
         ensures operations { self.new.ops ≡ self.old.ops }
         ensures rests { Rests self.old self.new }
-        ensures held { IfOk result (λ _. (ops : List Issued) (held : Held) → Knows self.old ops held → Knows self.new ops (act_held (act_of act.now) held)) }
+        ensures held { IfOk result (λ _. (ops : List Issued) (held : Held) → Knows self.old ops held
+            → Knows self.new ops (act_held (act_of act.now) held)) }
     {
         if let Act::Write(written) = act {
             let key = written.key.twin(alloc)?;
@@ -102,7 +104,8 @@ impl Knowledge {
     /// It issues an operation.
     pub fn issue(&mut self, alloc: Global, stamp: Stamp, act: Act) -> Result<(), AllocError>
         ensures rests { Rests self.old self.new }
-        ensures issued { IfOk result (λ _. (ops : List Issued) (held : Held) → Knows self.old ops held → Knows self.new (ops ++ stamped stamp (act_of act) ∷ []) (still_held (ops ++ stamped stamp (act_of act) ∷ []) (act_held (act_of act) held))) }
+        ensures issued { IfOk result (λ _. (ops : List Issued) (held : Held) → Knows self.old ops held → Knows self.new (ops
+            ++ stamped stamp (act_of act) ∷ []) (still_held (ops ++ stamped stamp (act_of act) ∷ []) (act_held (act_of act) held))) }
     {
         self.hold(alloc, &act)?;
         self.ops.push(Operation { stamp, act })?;
@@ -113,7 +116,8 @@ impl Knowledge {
     /// It learns operations.
     pub fn learn(&mut self, alloc: Global, known: &[Operation]) -> Result<(), AllocError>
         ensures rests { Rests self.old self.new }
-        ensures learned { IfOk result (λ _. (ops : List Issued) (held : Held) → Knows self.old ops held → Knows self.new (ops ++ operations_of known.now) (still_held (ops ++ operations_of known.now) held)) }
+        ensures learned { IfOk result (λ _. (ops : List Issued) (held : Held) → Knows self.old ops held → Knows self.new (ops
+            ++ operations_of known.now) (still_held (ops ++ operations_of known.now) held)) }
     {
         add_copies(&mut self.ops, alloc, known)?;
         self.settle(alloc)?;
@@ -122,7 +126,8 @@ impl Knowledge {
 
     /// The bytes of a key are evicted.
     pub fn evict(&mut self, alloc: Global, key: &Key) -> Result<(), AllocError>
-        ensures left { IfOk result (λ _. (ops : List Issued) (held : Held) → Knows self.old ops held → Knows self.new ops (without (Some key.now) held)) }
+        ensures left { IfOk result (λ _. (ops : List Issued) (held : Held) → Knows self.old ops held
+            → Knows self.new ops (without (Some key.now) held)) }
         ensures counts { IfOk result (λ _. counts_of self.new ≡ evicted_on (Some key.now) (counts_of self.old)) }
         ensures waiting { self.new.waiting ≡ self.old.waiting }
         ensures reap_after { self.new.reap_after ≡ self.old.reap_after }
@@ -219,7 +224,8 @@ impl Knowledge {
 
     /// Whether a touch with this expiry finds a key, after those of the keys before it: one that ended it leaves nothing to find.
     fn is_touched(&self, now: u64, expiry: u64, before: &[Key], key: &Key) -> bool
-        ensures { (numbers : Bool) → touches_of expiry (found_after now expiry numbers (shown self.now now) before.now key.now) ≡ cond {A = List ActOf} result (Touch key.now expiry ∷ []) [] }
+        ensures { (numbers : Bool) → touches_of expiry (found_after now expiry numbers (shown self.now now) before.now key.now)
+            ≡ cond {A = List ActOf} result (Touch key.now expiry ∷ []) [] }
     {
         self.visible(now, key).is_some() && (live(expiry, now) || !is_among(before, key))
     }
@@ -235,7 +241,8 @@ impl Knowledge {
         keys: &[Key],
         acts: &mut Vec<Act>,
     ) -> Result<(), AllocError>
-        ensures { IfOk result (λ _. (numbers : Bool) → acts_of acts.new.items ≡ acts_of acts.old.items ++ touches_of expiry (touched_after now expiry numbers (shown self.now now) before.old.items keys.now)) }
+        ensures { IfOk result (λ _. (numbers : Bool) → acts_of acts.new.items ≡ acts_of acts.old.items
+            ++ touches_of expiry (touched_after now expiry numbers (shown self.now now) before.old.items keys.now)) }
     {
         match keys {
             [] => Ok(()),

@@ -51,7 +51,8 @@ impl Known {
 
     fn send(&mut self, alloc: Global, site: u8, to: u8) -> Result<(), AllocError>
         requires there { is_site (length self.old.sites.items) site ≡ true }
-        ensures kept { IfOk result (λ _. (w : Knowing) → Meets self.old.sites.items self.old.sent.items w → Meets self.new.sites.items self.new.sent.items (happens w (Event.Send site to) Trace.Sent)) }
+        ensures kept { IfOk result (λ _. (w : Knowing) → Meets self.old.sites.items self.old.sent.items w
+            → Meets self.new.sites.items self.new.sent.items (happens w (Event.Send site to) Trace.Sent)) }
         ensures as_many { length self.new.sites.items ≡ length self.old.sites.items }
     {
         let known = copies(alloc, self.sites[site as usize - 1].ops.as_slice())?;
@@ -62,7 +63,8 @@ impl Known {
     fn learn(&mut self, alloc: Global, site: u8, parcel: usize) -> Result<(), AllocError>
         requires there { is_site (length self.old.sites.items) site ≡ true }
         requires sent { parcel < length self.old.sent.items }
-        ensures kept { IfOk result (λ _. (w : Knowing) → Meets self.old.sites.items self.old.sent.items w → Meets self.new.sites.items self.new.sent.items (learns w site (carried w parcel))) }
+        ensures kept { IfOk result (λ _. (w : Knowing) → Meets self.old.sites.items self.old.sent.items w
+            → Meets self.new.sites.items self.new.sent.items (learns w site (carried w parcel))) }
         ensures as_many { length self.new.sites.items ≡ length self.old.sites.items }
     {
         let sent = &self.sent[parcel];
@@ -81,9 +83,12 @@ impl Known {
     /// What an event with its trace adds.
     fn happens(&mut self, alloc: Global, event: &Event, trace: &Trace) -> Result<(), PlainError>
         requires few { length self.old.sites.items ≤ 16 }
-        ensures kept { IfOk result (λ _. (w : Knowing) → Meets self.old.sites.items self.old.sent.items w → Meets self.new.sites.items self.new.sent.items (happens w event.now trace.now)) }
-        ensures missing { IfErr result (λ e. e ≡ PlainError.NotThere → can_follow (length self.old.sites.items) (length self.old.sent.items) event.now ≡ false) }
-        ensures ended { IfErr result (λ e. e ≡ PlainError.ClockEnded → (w : Knowing) → Meets self.old.sites.items self.old.sent.items w → Lawful w event.now trace.now → ⊥) }
+        ensures kept { IfOk result (λ _. (w : Knowing) → Meets self.old.sites.items self.old.sent.items w
+            → Meets self.new.sites.items self.new.sent.items (happens w event.now trace.now)) }
+        ensures missing { IfErr result (λ e. e ≡ PlainError.NotThere
+            → can_follow (length self.old.sites.items) (length self.old.sent.items) event.now ≡ false) }
+        ensures ended { IfErr result (λ e. e ≡ PlainError.ClockEnded → (w : Knowing)
+            → Meets self.old.sites.items self.old.sent.items w → Lawful w event.now trace.now → ⊥) }
         ensures as_many { length self.new.sites.items ≡ length self.old.sites.items }
     {
         if !self.can_follow(event) {
@@ -125,9 +130,13 @@ impl Known {
         traces: &[Trace],
     ) -> Result<(), PlainError>
         requires few { length self.old.sites.items ≤ 16 }
-        ensures kept { IfOk result (λ _. (w : Knowing) → Meets self.old.sites.items self.old.sent.items w → Meets self.new.sites.items self.new.sent.items (known w events.now traces.now)) }
-        ensures missing { IfErr result (λ e. e ≡ PlainError.NotThere → (w : Knowing) → Meets self.old.sites.items self.old.sent.items w → EachThere (length self.old.sites.items) w events.now traces.now → all_in_time events.now ≡ true → ⊥) }
-        ensures ended { IfErr result (λ e. e ≡ PlainError.ClockEnded → (w : Knowing) → Meets self.old.sites.items self.old.sent.items w → EachLawful w events.now traces.now → ⊥) }
+        ensures kept { IfOk result (λ _. (w : Knowing) → Meets self.old.sites.items self.old.sent.items w
+            → Meets self.new.sites.items self.new.sent.items (known w events.now traces.now)) }
+        ensures missing { IfErr result (λ e. e ≡ PlainError.NotThere → (w : Knowing)
+            → Meets self.old.sites.items self.old.sent.items w → EachThere (length self.old.sites.items) w events.now traces.now
+            → all_in_time events.now ≡ true → ⊥) }
+        ensures ended { IfErr result (λ e. e ≡ PlainError.ClockEnded → (w : Knowing)
+            → Meets self.old.sites.items self.old.sent.items w → EachLawful w events.now traces.now → ⊥) }
         ensures as_many { length self.new.sites.items ≡ length self.old.sites.items }
     {
         match events {
@@ -168,8 +177,10 @@ pub fn known_after(
     events: &[Event],
     traces: &[Trace],
 ) -> Result<Known, PlainError>
-    ensures known { IfOk result (λ k. (length k.sites.items ≡ length setups.now) × Meets k.sites.items k.sent.items (known (start setups.now) events.now traces.now)) }
-    ensures missing { IfErr result (λ e. e ≡ PlainError.NotThere → length setups.now ≤ 16 → EachThere (length setups.now) (start setups.now) events.now traces.now → all_in_time events.now ≡ true → ⊥) }
+    ensures known { IfOk result (λ k. (length k.sites.items ≡ length setups.now)
+        × Meets k.sites.items k.sent.items (known (start setups.now) events.now traces.now)) }
+    ensures missing { IfErr result (λ e. e ≡ PlainError.NotThere → length setups.now ≤ 16
+        → EachThere (length setups.now) (start setups.now) events.now traces.now → all_in_time events.now ≡ true → ⊥) }
     ensures ended { IfErr result (λ e. e ≡ PlainError.ClockEnded → EachLawful (start setups.now) events.now traces.now → ⊥) }
 {
     if setups.len() > 16 {

@@ -13,10 +13,9 @@ ghost use Rattle.geo_world.specs.Plain.{acts_of, counts_of, shown, Meets};
 use crate::plain::knowledge::Knowledge;
 use crate::plain::known::{Known, PlainError};
 use crate::plain::operation::{Act, Written};
-use geo_grammar::Request;
+use geo_grammar::{Request, ValueBytes};
 use geo_lattice::Twin;
 use geo_memcache::{Ask, Effect, ask_of, expiry_of};
-use geo_site::asked_bytes;
 use geo_versions::Key;
 use std::alloc::{AllocError, Global};
 
@@ -27,6 +26,20 @@ fn one(alloc: Global, act: Act) -> Result<Vec<Act>, AllocError>
     let mut acts = Vec::new(alloc);
     acts.push(act)?;
     Ok(acts)
+}
+
+/// A copy of the bytes that are asked to be stored; none where none are asked to be.
+fn asked_bytes(alloc: Global, ask: &Ask<'_>) -> Result<ValueBytes, AllocError>
+    ensures { IfOk result (λ bytes. bytes ≡ bytes_in ask.now) }
+{
+    match ask {
+        Ask::Store { bytes, .. } => bytes.twin(alloc),
+        Ask::Fetch { .. }
+        | Ask::FetchTouch { .. }
+        | Ask::Delete
+        | Ask::Touch { .. }
+        | Ask::Arith { .. } => Ok(ValueBytes::of(Vec::new(alloc))),
+    }
 }
 
 /// What an effect on a key issues, where this is asked of it.
@@ -106,7 +119,8 @@ impl Knowledge {
     ) -> Result<Vec<Act>, AllocError>
         requires moment { now ≤ 2 ^ 40 }
         requires change { is_change ask.now ≡ true }
-        ensures { IfOk result (λ acts. acts_of acts.items ≡ acts_by key.now (bytes_in ask.now) (decided (shown self.now now key.now) now ask.now).effect) }
+        ensures { IfOk result (λ acts. acts_of acts.items
+            ≡ acts_by key.now (bytes_in ask.now) (decided (shown self.now now key.now) now ask.now).effect) }
     {
         let decision = self.decision(alloc, now, key, ask)?;
         acts_on(alloc, key, decision.effect, ask)
@@ -120,7 +134,8 @@ impl Knowledge {
         expiry: u64,
         keys: &[Key],
     ) -> Result<Vec<Act>, AllocError>
-        ensures { IfOk result (λ acts. (numbers : Bool) → acts_of acts.items ≡ touches_of expiry (touched_of now expiry numbers (shown self.now now) keys.now)) }
+        ensures { IfOk result (λ acts. (numbers : Bool) → acts_of acts.items
+            ≡ touches_of expiry (touched_of now expiry numbers (shown self.now now) keys.now)) }
     {
         let mut before = Vec::new(alloc);
         let mut acts = Vec::new(alloc);
@@ -179,7 +194,9 @@ impl Known {
     /// A site counts the keys of a request that looks them up.
     fn count(&mut self, site: u8, now: u64, request: &Request)
         requires there { is_site (length self.old.sites.items) site ≡ true }
-        ensures counts { (w : Knowing) → Meets self.old.sites.items self.old.sent.items w → Meets self.new.sites.items self.new.sent.items (counts_keys w site (counted (visible w site now) request.now (w.counts site))) }
+        ensures counts { (w : Knowing) → Meets self.old.sites.items self.old.sent.items w
+            → Meets self.new.sites.items self.new.sent.items (counts_keys w site
+            (counted (visible w site now) request.now (w.counts site))) }
         ensures as_many { length self.new.sites.items ≡ length self.old.sites.items }
     {
         let at = &mut self.sites[site as usize - 1];
@@ -189,7 +206,9 @@ impl Known {
     /// A site evicts the bytes of a victim, if there is one.
     fn let_go(&mut self, alloc: Global, site: u8, victim: Option<&Key>) -> Result<(), AllocError>
         requires there { is_site (length self.old.sites.items) site ≡ true }
-        ensures kept { IfOk result (λ _. (w : Knowing) → Meets self.old.sites.items self.old.sent.items w → Meets self.new.sites.items self.new.sent.items (counts_keys (lets_go w site (option_copied victim.entry)) site (evicted_on (option_copied victim.entry) (w.counts site)))) }
+        ensures kept { IfOk result (λ _. (w : Knowing) → Meets self.old.sites.items self.old.sent.items w
+            → Meets self.new.sites.items self.new.sent.items (counts_keys (lets_go w site (option_copied victim.entry)) site
+            (evicted_on (option_copied victim.entry) (w.counts site)))) }
         ensures as_many { length self.new.sites.items ≡ length self.old.sites.items }
     {
         match victim {
@@ -210,8 +229,11 @@ impl Known {
         requires there { is_site (length self.old.sites.items) site ≡ true }
         requires moment { now ≤ 2 ^ 40 }
         requires few { length self.old.sites.items ≤ 16 }
-        ensures kept { IfOk result (λ _. (w : Knowing) → Meets self.old.sites.items self.old.sent.items w → Meets self.new.sites.items self.new.sent.items (carries_out w site now request.now (option_copied victim.entry))) }
-        ensures ended { IfErr result (λ e. e ≡ PlainError.ClockEnded → (w : Knowing) → Meets self.old.sites.items self.old.sent.items w → lacks (latest_of (w.at site)) (issues_on w site now request.now) ≡ true) }
+        ensures kept { IfOk result (λ _. (w : Knowing) → Meets self.old.sites.items self.old.sent.items w
+            → Meets self.new.sites.items self.new.sent.items (carries_out w site now request.now (option_copied victim.entry))) }
+        ensures ended { IfErr result (λ e. e ≡ PlainError.ClockEnded → (w : Knowing)
+            → Meets self.old.sites.items self.old.sent.items w → lacks (latest_of (w.at site)) (issues_on w site now request.now)
+            ≡ true) }
         ensures there { IfErr result (λ e. e ≡ PlainError.NotThere → ⊥) }
         ensures as_many { length self.new.sites.items ≡ length self.old.sites.items }
     {

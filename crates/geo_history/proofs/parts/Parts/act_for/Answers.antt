@@ -1,5 +1,8 @@
 use Rattle.std.proofs.Common.{◌≡◌, ◌+◌, ◌<◌, ◌≤◌, ◌++◌, ◌∷◌, [], ℕ, refl, ap, subst, sym, ◌∙◌, List, arith, inr}
-use Rattle.geo_history.specs.Keeping.{Story, story_of, made_by, flush_count, most_steps, ActForDoes, ActsFor, DoesNothing, GoesOn, flush_steps}
+use Rattle.geo_history.specs.Keeping.{Story, story_of, made_by, flush_count, most_steps, ActForDoes, ActsFor, DoesNothing, GoesOn, flush_steps, step_with}
+use Rattle.geo_history.specs.declared.step.Event.TheVariants.{Command}
+use Rattle.geo_history.specs.declared.step.Answer.TheVariants.{Replied}
+use Rattle.geo_grammar.specs.declared.request.Request.{Request}
 use Rattle.geo_history.proofs.Calls.{refused_act, acts_for, made_after, few_flushes, two_popped}
 use Rattle.geo_history.proofs.parts.Parts.act_for.Goals as goal
 
@@ -36,6 +39,7 @@ returns-clause-does c =
     let first : Story = record { site = now.site; opening = now.opening; steps = c.ready.new.self.items } in
     let same : first ≡ story_of now = λ i. record { site = now.site; opening = now.opening; steps = c.ready.ensures.items i } in
     let tells = c.in-Ok.ensures.does in
+    let before : Story = story_of c.flush_due.new.self in
     let last : Story = story_of c.append.new.self in
     let whole : Story = record { site = c.act_full.new.self; opening = last.opening; steps = last.steps } in
     let there : whole ≡ last = λ i. record { site = sym c.append.ensures.site i; opening = last.opening; steps = last.steps } in
@@ -44,4 +48,4 @@ returns-clause-does c =
     (acts_for first (story_of c.flush_due.new.self) whole c.args.seat c.args.now c.flush_due.ensures.flush (record { opening = c.flush_due.ensures.opening; more = c.flush_due.ensures.steps })
     c.args.request 2 c.in-Ok.acted (c.in-Some-Some.one, c.in-Some-Some.two) tells
     (two_popped c.in-Ok.acted.copies.items c.pop.new.self.items c.pop-2.new.self.items c.in-Some-Some.one c.in-Some-Some.two c.in-Ok.acted.reply tells.told.copies c.in-Some-Some.ensures.items c.in-Some-Some.ensures'.items)
-    (record { opening = c.append.ensures.opening; more = c.append.ensures.steps })))
+    (record { opening = c.append.ensures.opening; more = c.append.ensures.steps ∙ ap (λ (r : Request). before.steps ++ step_with c.args.seat (made_by before c.args.seat + 1) (Command c.args.now r) (Replied c.in-Ok.acted.reply) c.in-Ok.acted.victim c.in-Ok.acted.made ∷ []) c.forget_digest.ensures })))

@@ -28,13 +28,13 @@ renew_all-requires-clause-stamps c =
     let site = c.args.self.now in
     let numbers = c.args.numbers in
     let left = c.if-not-can_touch.ensures.left numbers in
-    let found : c.as_slice-2.result.now ≡ touched_in site c.args.now c.args.expiry c.args.keys.now numbers = c.as_slice-2.ensures ∙ c.of-found.ensures ∙ c.in_ok-all.ensures in
+    let found : c.as_slice-2.result.now ≡ touched_in site c.args.now c.args.expiry c.args.keys.now numbers = c.as_slice-2.ensures ∙ c.in_ok-found.ensures.list ∙ c.in_ok-all.ensures in
     subst₂ (λ (clock : ℕ) (found : List Found). clock + length found ≤ last_time) (sym (ap greatest_of c.note_hits.ensures.hits.vector)) (sym found)
     (touches_fit (clock_in site) (touched_in site c.args.now c.args.expiry c.args.keys.now numbers) (sym left))
 
 pub renew_all-requires-clause-there : goal.renew_all-requires-clause-there
 renew_all-requires-clause-there c =
-    let there = subst (λ (found : List Found). All (λ (f : Found). HasBody c.args.self.now f.key) found) (sym (c.as_slice-2.ensures ∙ c.of-found.ensures ∙ c.in_ok-all.ensures)) (touched_there c.args.self.now c.args.now c.args.expiry c.args.numbers c.args.keys.now) in
+    let there = subst (λ (found : List Found). All (λ (f : Found). HasBody c.args.self.now f.key) found) (sym (c.as_slice-2.ensures ∙ c.in_ok-found.ensures.list ∙ c.in_ok-all.ensures)) (touched_there c.args.self.now c.args.now c.args.expiry c.args.numbers c.args.keys.now) in
     λ k f lt none. there k f lt (ap (λ (r : Record). r.0) (sym (c.note_hits.ensures.hits.map _)) ∙ none)
 
 pub returns-clause-does : goal.returns-clause-does
@@ -45,10 +45,10 @@ returns-clause-does c =
     let expiry = c.args.expiry in
     let touched = touched_in site c.args.now expiry c.args.keys.now c.args.numbers in
     let left = c.if-not-can_touch.ensures.left c.args.numbers in
-    let hits = subst (λ (found : List Found). Same (accessed (keys_found found) (state_in site)) mid) (c.as_slice.ensures ∙ c.of-found.ensures ∙ c.in_ok-all.ensures) c.note_hits.ensures.hits in
-    let issued = subst₂ (λ (n : ℕ) (found : List Found). Same (issue_all n (touches_of expiry found) mid) new) c.note_hits.ensures.stays.0 (c.as_slice-2.ensures ∙ c.of-found.ensures ∙ c.in_ok-all.ensures) c.renew_all.ensures.issued in
+    let hits = subst (λ (found : List Found). Same (accessed (keys_found found) (state_in site)) mid) (c.as_slice.ensures ∙ c.in_ok-found.ensures.list ∙ c.in_ok-all.ensures) c.note_hits.ensures.hits in
+    let issued = subst₂ (λ (n : ℕ) (found : List Found). Same (issue_all n (touches_of expiry found) mid) new) c.note_hits.ensures.stays.0 (c.as_slice-2.ensures ∙ c.in_ok-found.ensures.list ∙ c.in_ok-all.ensures) c.renew_all.ensures.issued in
     inl (inl (
-      c.values.ensures.reply ∙ ap (λ (found : List Found). Values found) (c.of-found.ensures ∙ c.in_ok-all.ensures),
+      c.values.ensures.reply ∙ ap (λ (found : List Found). Values found) (c.in_ok-found.ensures.list ∙ c.in_ok-all.ensures),
       touches_left (clock_in site) expiry touched (sym left),
       issue_all_from site.number (touches_of expiry touched) (accessed (keys_found touched) (state_in site)) mid new hits issued,
     ))
@@ -65,4 +65,11 @@ returns-in_err-copies-clause-does c =
     let site = c.args.self.now in
     let left = c.if-not-can_touch.ensures.left c.args.numbers in
     let refused = err_from_is_err_and c.from_residual-in_err-copies.result c.from_residual-in_err-copies.ensures.1 in
+    inr (ap reply_in refused.1, touches_left (clock_in site) c.args.expiry (touched_in site c.args.now c.args.expiry c.args.keys.now c.args.numbers) (sym left), unchanged (state_in site))
+
+pub returns-in_err-found-clause-does : goal.returns-in_err-found-clause-does
+returns-in_err-found-clause-does c =
+    let site = c.args.self.now in
+    let left = c.if-not-can_touch.ensures.left c.args.numbers in
+    let refused = err_from_is_err_and c.from_residual-in_err-found.result c.from_residual-in_err-found.ensures.1 in
     inr (ap reply_in refused.1, touches_left (clock_in site) c.args.expiry (touched_in site c.args.now c.args.expiry c.args.keys.now c.args.numbers) (sym left), unchanged (state_in site))
