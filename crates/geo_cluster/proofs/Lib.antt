@@ -1,8 +1,8 @@
 pub mod Escaping
-pub mod Stages
-pub mod Seats
 pub mod Cutting
+pub mod Quitting
+pub mod Setting
+pub mod Happening
+pub mod Feeding
 pub mod Playing
 pub mod Reading
-pub mod Acting
-pub mod Quitting

@@ -1,5 +1,5 @@
 -- A script whose input comes piece by piece.
-use Rattle.std.proofs.Common.{◌≡◌, ℕ, ◌<◌, ◌≤◌, arith, take, List, [], ◌∷◌, ◌++◌, length, Option, Some, None, sym, ap, subst, ◌∙◌, append-nil, IfSome}
+use Rattle.std.proofs.Common.{◌≡◌, ℕ, ◌<◌, ◌≤◌, arith, take, List, [], ◌∷◌, ◌++◌, length, Option, Some, None, sym, ap, subst, ◌∙◌, append-nil, length-append, IfSome}
 use Rattle.std.proofs.lemmas.List.{take-take, take-append-le}
 use Rattle.std.specs.Io.KnownBytes.{Consumes, IsAtEnd}
 use Rattle.std.proofs.KnownBytes.{Consumes-trans, Consumes-whole}
@@ -58,3 +58,7 @@ none_advances a b xs u v r s left none read end h = Consumes-whole r s xs (λ in
 -- what was read stands at the front of the buffer
 pub front_of : (n len : ℕ) (buf rest : List ℕ) → n ≤ length buf → length buf ≤ len → take n (take len (buf ++ rest)) ≡ take n buf
 front_of n len buf rest within fits = let below : n ≤ len = omega arith in take-take n len (buf ++ rest) below ∙ take-append-le n buf rest within
+
+-- an input of which so much was read is as long
+pub reads_long : (r s : Option (List ℕ)) (xs : List ℕ) (n : ℕ) → Consumes r s xs → n ≤ length xs → IfSome r (λ input. n ≤ length input)
+reads_long r s xs n read h = consumed r s xs (λ input. n ≤ length input) read (λ more. omega (arith, h, length-append xs more))

@@ -5,7 +5,8 @@ pub mod Sayings
 pub mod Reads
 pub mod Lines
 pub mod Prints
-pub mod Answering
-pub mod Posts
-pub mod Scenes
+pub mod Connections
+pub mod Progress
+pub mod Carries
+pub mod Standing
 pub mod Runs

@@ -3,39 +3,45 @@ use Rattle.std.specs.Prelude.{ℕ, ◌/◌, ◌%◌, Bool, List, [], ◌∷◌, 
 use Rattle.std.specs.List.{flat_map}
 use Rattle.geo_stamp.specs.Stamps.{Moment}
 use Rattle.geo_versions.specs.declared.version.Version.{Version}
+use Rattle.geo_site.specs.declared.event.Trace.{Trace}
+use Rattle.geo_site.specs.declared.event.Trace.TheVariants.{Replied, Evicted, Sent, SendRefused, Taken, TakeRefused, Removed, Ticked, Reaped, ReapRefused}
+use Rattle.geo_site.specs.declared.refusal.TakeError.{TakeError}
+use Rattle.geo_site.specs.declared.refusal.TakeError.TheVariants.{NotForMe, UnknownSite, Gap, Memory}
+use Rattle.geo_site.specs.declared.refusal.ReapError.TheVariants as reap
 use Rattle.geo_cluster.specs.Escapes.{escaped, hex_digit}
 
 -- what a site answered to its client's bytes, on one line whatever it is
 abbrev pub client_text : ℕ → List ℕ → List ℕ
 client_text site answer = decimal site ++ codes "> " ++ escaped answer ++ codes "\n"
 
-abbrev pub parcel_text : ℕ → List ℕ
-parcel_text number = codes "parcel " ++ decimal number ++ codes "\n"
+-- a word and a number on a line, and a word where something was done
+abbrev pub number_text : List ℕ → ℕ → List ℕ
+number_text word number = word ++ decimal number ++ codes "\n"
 
-abbrev pub taken_text : List ℕ
-taken_text = codes "taken\n"
+abbrev pub done_text : List ℕ → Bool → List ℕ
+done_text word done = if done then word else codes "nothing\n"
 
-abbrev pub refused_text : ℕ → List ℕ
-refused_text cause = codes "refused " ++ decimal cause ++ codes "\n"
+-- the number of each cause for which a parcel is refused, but for want of memory
+abbrev pub refused_text : TakeError → Option (List ℕ)
+refused_text NotForMe = Some (number_text (codes "refused ") 1)
+refused_text UnknownSite = Some (number_text (codes "refused ") 2)
+refused_text Gap = Some (number_text (codes "refused ") 3)
+refused_text Memory = None
 
--- whether something was done, and that no stamp was left for it
-abbrev pub nothing_text : List ℕ
-nothing_text = codes "nothing\n"
-
-abbrev pub tick_text : Bool → List ℕ
-tick_text done = if done then codes "flushed\n" else nothing_text
-
-abbrev pub remove_text : ℕ → List ℕ
-remove_text count = codes "removed " ++ decimal count ++ codes "\n"
-
-abbrev pub reap_text : Bool → List ℕ
-reap_text done = if done then codes "reaped\n" else nothing_text
-
-abbrev pub evict_text : Bool → List ℕ
-evict_text done = if done then codes "evicted\n" else nothing_text
-
-abbrev pub clock_ended_text : List ℕ
-clock_ended_text = codes "clock ended\n"
+-- what a line prints of its event, by what came of it, where so many parcels were sent before: a send for which memory was wanted, and
+-- a reply, which stands among others on its client's line, print none
+abbrev pub trace_text : ℕ → Trace → Option (List ℕ)
+trace_text parcels (Replied reply victim) = None
+trace_text parcels (Evicted done) = Some (done_text (codes "evicted\n") done)
+trace_text parcels Sent = Some (number_text (codes "parcel ") parcels)
+trace_text parcels (SendRefused why) = None
+trace_text parcels Taken = Some (codes "taken\n")
+trace_text parcels (TakeRefused why) = refused_text why
+trace_text parcels (Removed horizon count) = Some (number_text (codes "removed ") count)
+trace_text parcels (Ticked done) = Some (done_text (codes "flushed\n") done)
+trace_text parcels (Reaped done) = Some (done_text (codes "reaped\n") done)
+trace_text parcels (ReapRefused reap.ClockEnded) = Some (codes "clock ended\n")
+trace_text parcels (ReapRefused reap.Memory) = None
 
 -- a stamp by its time and its site
 abbrev pub stamp_text : Moment → List ℕ

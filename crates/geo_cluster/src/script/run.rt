@@ -1,13 +1,13 @@
 //! A script from its first byte to its last.
-ghost use Rattle.std.specs.Prelude.{◌≡◌, ℕ, ◌+◌, ◌^◌, ◌<◌, ◌≤◌, List, [], ◌∷◌, ◌++◌, length, take, vec_len, IfErr, IfOk, IfSome, OnErr, OnOk, IsTrue};
+ghost use Rattle.std.specs.Prelude.{◌≡◌, ℕ, ◌+◌, ◌^◌, ◌<◌, ◌≤◌, [], ◌∷◌, ◌++◌, length, take, vec_len, false, IfErr, IfOk, IfSome, OnErr, OnOk, IsTrue};
 ghost use Rattle.std.specs.Io.KnownBytes.{Appends};
 ghost use Rattle.geo_cluster.specs.Lines.{ended_in, left_in, lines_of};
 ghost use Rattle.geo_cluster.specs.Runs.{Performs, Ends, IsOfDevices};
 
+use crate::script::cluster::Cluster;
 use crate::script::cut::cut_at;
 use crate::script::fault::ScriptFault;
 use crate::script::parse::{is_skipped, parse_line};
-use crate::script::stage::Stage;
 use geo_grammar::Device;
 use std::alloc::{AllocError, Global};
 use std::hash::RandomState;
@@ -32,7 +32,7 @@ fn piece_buffer(alloc: Global) -> Result<Vec<u8>, AllocError>
 /// A script that is being read.
 #[derive(Drop)]
 struct Run {
-    stage: Stage,
+    cluster: Cluster,
     /// The bytes behind the last line end.
     unfinished: Vec<u8>,
     /// How many lines have ended.
@@ -42,14 +42,15 @@ struct Run {
 }
 
 impl Run {
-    ghost use Rattle.geo_cluster.specs.Scenes.{scene_of};
-    ghost use Rattle.geo_cluster.specs.Runs.{PlaysLine, EndsAtLine, IsFresh, Advances, Stops, IsOfWriter, IsOfDevices};
+    ghost use Rattle.geo_cluster.specs.Progress.{Progress};
+    ghost use Rattle.geo_cluster.specs.Standing.{Stands};
+    ghost use Rattle.geo_cluster.specs.Runs.{PlaysOn, EndsAtLine, IsFresh, Advances, Stops, IsOfWriter, IsOfDevices};
 
     fn new(alloc: Global, hasher: RandomState) -> Run
         ensures { IsFresh result }
     {
         Run {
-            stage: Stage::new(alloc, hasher),
+            cluster: Cluster::new(alloc, hasher),
             unfinished: Vec::new(alloc),
             lines: 0,
             out: Vec::new(alloc),
@@ -71,8 +72,9 @@ impl Run {
 
     /// Carries out a line that has come whole, and is counted already.
     fn play_line(&mut self, alloc: Global, line: &[u8]) -> Result<(), ScriptFault>
-        ensures ok { OnOk result ((text : List ℕ) × PlaysLine (scene_of self.old.stage) line.now text (scene_of self.new.stage) × (self.new.out.items ≡ self.old.out.items ++ text)) }
-        ensures err { IfErr result (λ e. (self.new.out.items ≡ self.old.out.items) × EndsAtLine e (scene_of self.old.stage) line.now self.old.lines) }
+        ensures ok { OnOk result ((p : Progress) → Stands p self.old.cluster → PlaysOn p line.now self.old.out.items self.new.out.items self.new.cluster) }
+        ensures err { IfErr result (λ e. (self.new.out.items ≡ self.old.out.items) × ((p : Progress) → Stands p self.old.cluster → EndsAtLine e p line.now self.old.lines)) }
+        ensures failed { IfErr result (λ e. IsOfWriter e false) }
         ensures rest { (self.new.lines ≡ self.old.lines) × (self.new.unfinished.items ≡ self.old.unfinished.items) }
     {
         if is_skipped(line) {
@@ -81,7 +83,7 @@ impl Run {
         let Some(line) = parse_line(alloc, line)? else {
             return Err(ScriptFault::BadLine(self.lines));
         };
-        let Some(text) = self.stage.carry_out(alloc, line)? else {
+        let Some(text) = self.cluster.carry_out(alloc, line)? else {
             return Err(ScriptFault::BadLine(self.lines));
         };
         self.out.extend_from_slice(text.as_slice())?;
@@ -185,6 +187,9 @@ fn write_all<W: Write>(writer: &mut Device<W>, bytes: &[u8]) -> Result<(), Scrip
 
 /// Runs a script: reads its lines, carries each out before the next is looked at, and writes what they print. A fault ends
 /// the run, and what was printed before it is written first. The hasher is for the keys of all sites.
+///
+/// The lines that were carried out are a schedule over the sites that the first of them sets up, and its traces are those of a run: what
+/// `run_schedule` promises of replies and of the values in them holds of what is printed.
 pub fn run_script<R: Read, W: Write>(
     alloc: Global,
     hasher: RandomState,

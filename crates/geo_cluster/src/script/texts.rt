@@ -1,8 +1,9 @@
 //! What the lines of a script print.
-ghost use Rattle.std.specs.Prelude.{◌≡◌, IfOk};
-ghost use Rattle.geo_cluster.specs.Prints.{client_text, parcel_text, refused_text, taken_text, tick_text, remove_text, reap_text, evict_text, clock_ended_text};
+ghost use Rattle.std.specs.Prelude.{◌≡◌, Some, IfOk};
+ghost use Rattle.geo_cluster.specs.Prints.{client_text, number_text, done_text, refused_text, trace_text};
 
 use crate::script::escape::escape;
+use geo_site::{ReapError, TakeError, Trace};
 use itoa::Buffer;
 use std::alloc::{AllocError, Global};
 
@@ -19,79 +20,55 @@ pub fn answer_line(alloc: Global, site: u8, answer: &[u8]) -> Result<Vec<u8>, Al
     Ok(text)
 }
 
-/// `parcel K`, the number of a parcel that was cut.
-pub fn parcel_line(alloc: Global, number: usize) -> Result<Vec<u8>, AllocError>
-    ensures { IfOk result (λ text. text.items ≡ parcel_text number) }
+/// A word with a number behind it.
+fn number_line(alloc: Global, word: &[u8], number: usize) -> Result<Vec<u8>, AllocError>
+    ensures { IfOk result (λ text. text.items ≡ number_text word.now number) }
 {
     let mut buffer = Buffer::new();
-    let mut text = Vec::from_slice(alloc, b"parcel ")?;
+    let mut text = Vec::from_slice(alloc, word)?;
     text.extend_from_slice(buffer.format(number).as_bytes())?;
     text.extend_from_slice(b"\n")?;
     Ok(text)
 }
 
-/// `taken`, for a parcel that was taken.
-pub fn taken_line(alloc: Global) -> Result<Vec<u8>, AllocError>
-    ensures { IfOk result (λ text. text.items ≡ taken_text) }
+/// A word where something was done, else `nothing`.
+fn done_line(alloc: Global, word: &[u8], done: bool) -> Result<Vec<u8>, AllocError>
+    ensures { IfOk result (λ text. text.items ≡ done_text word.now done) }
 {
-    Vec::from_slice(alloc, b"taken\n")
+    if done {
+        return Vec::from_slice(alloc, word);
+    }
+    Vec::from_slice(alloc, b"nothing\n")
 }
 
 /// `refused N`, for a parcel that was refused, with the cause's number.
-pub fn refused_line(alloc: Global, cause: u8) -> Result<Vec<u8>, AllocError>
-    ensures { IfOk result (λ text. text.items ≡ refused_text cause) }
+fn refused_line(alloc: Global, why: TakeError) -> Result<Vec<u8>, AllocError>
+    ensures { IfOk result (λ text. refused_text why ≡ Some text.items) }
 {
-    let mut buffer = Buffer::new();
-    let mut text = Vec::from_slice(alloc, b"refused ")?;
-    text.extend_from_slice(buffer.format(cause).as_bytes())?;
-    text.extend_from_slice(b"\n")?;
-    Ok(text)
-}
-
-/// `flushed` where a flush was carried out, else `nothing`.
-pub fn tick_line(alloc: Global, done: bool) -> Result<Vec<u8>, AllocError>
-    ensures { IfOk result (λ text. text.items ≡ tick_text done) }
-{
-    if done {
-        return Vec::from_slice(alloc, b"flushed\n");
+    match why {
+        TakeError::NotForMe => number_line(alloc, b"refused ", 1),
+        TakeError::UnknownSite => number_line(alloc, b"refused ", 2),
+        TakeError::Gap => number_line(alloc, b"refused ", 3),
+        TakeError::Memory => Err(AllocError),
     }
-    Vec::from_slice(alloc, b"nothing\n")
 }
 
-/// `removed N`, how many records were dropped.
-pub fn remove_line(alloc: Global, count: usize) -> Result<Vec<u8>, AllocError>
-    ensures { IfOk result (λ text. text.items ≡ remove_text count) }
+/// What a line prints of its event, where so many parcels were sent before. Of what was refused for want of memory nothing is
+/// printed, and a reply is printed with its request.
+pub fn trace_line(alloc: Global, parcels: usize, trace: &Trace) -> Result<Vec<u8>, AllocError>
+    ensures { IfOk result (λ text. trace_text parcels trace.now ≡ Some text.items) }
 {
-    let mut buffer = Buffer::new();
-    let mut text = Vec::from_slice(alloc, b"removed ")?;
-    text.extend_from_slice(buffer.format(count).as_bytes())?;
-    text.extend_from_slice(b"\n")?;
-    Ok(text)
-}
-
-/// `reaped` where a key was deleted, else `nothing`.
-pub fn reap_line(alloc: Global, done: bool) -> Result<Vec<u8>, AllocError>
-    ensures { IfOk result (λ text. text.items ≡ reap_text done) }
-{
-    if done {
-        return Vec::from_slice(alloc, b"reaped\n");
+    match trace {
+        Trace::Evicted(done) => done_line(alloc, b"evicted\n", *done),
+        Trace::Sent => number_line(alloc, b"parcel ", parcels),
+        Trace::Taken => Vec::from_slice(alloc, b"taken\n"),
+        Trace::TakeRefused(why) => refused_line(alloc, *why),
+        Trace::Removed { count, .. } => number_line(alloc, b"removed ", *count),
+        Trace::Ticked(done) => done_line(alloc, b"flushed\n", *done),
+        Trace::Reaped(done) => done_line(alloc, b"reaped\n", *done),
+        Trace::ReapRefused(ReapError::ClockEnded) => Vec::from_slice(alloc, b"clock ended\n"),
+        Trace::Replied(..) | Trace::SendRefused(_) | Trace::ReapRefused(ReapError::Memory) => {
+            Err(AllocError)
+        }
     }
-    Vec::from_slice(alloc, b"nothing\n")
-}
-
-/// `evicted` where bytes of a key were dropped, else `nothing`.
-pub fn evict_line(alloc: Global, done: bool) -> Result<Vec<u8>, AllocError>
-    ensures { IfOk result (λ text. text.items ≡ evict_text done) }
-{
-    if done {
-        return Vec::from_slice(alloc, b"evicted\n");
-    }
-    Vec::from_slice(alloc, b"nothing\n")
-}
-
-/// `clock ended`, where no stamp was left.
-pub fn clock_ended_line(alloc: Global) -> Result<Vec<u8>, AllocError>
-    ensures { IfOk result (λ text. text.items ≡ clock_ended_text) }
-{
-    Vec::from_slice(alloc, b"clock ended\n")
 }

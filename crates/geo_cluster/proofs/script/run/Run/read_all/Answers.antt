@@ -1,4 +1,4 @@
-use Rattle.std.proofs.Common.{rules, arith, refl, ◌≡◌, ◌<◌, ◌++◌, [], List, ℕ, length, take, inl, inr, sym, ap, subst, ◌∙◌, length-append}
+use Rattle.std.proofs.Common.{rules, arith, refl, ◌^◌, ◌≡◌, ◌<◌, ◌++◌, [], List, ℕ, length, take, inl, inr, sym, ap, subst, ◌∙◌, length-append}
 use Rattle.std.specs.Io.KnownBytes.{Consumes, IsAtEnd}
 use Rattle.std.proofs.KnownBytes.{Consumes-nil}
 use Rattle.geo_cluster.specs.Lines.{ended_in}
@@ -6,7 +6,7 @@ use Rattle.geo_cluster.specs.Runs.{Advances}
 use Rattle.geo_cluster.specs.declared.script.fault.ScriptFault.TheVariants.{Memory, Read}
 use Rattle.geo_cluster.specs.declared.script.run.Run.{Run}
 use Rattle.geo_cluster.proofs.Playing.{at_err, stop_here, stop_now, stop_written, advance_written}
-use Rattle.geo_cluster.proofs.Reading.{stops_in_all, read_on, read_none, piece_advances, piece_stops, piece_left, last_advances, last_stops, none_advances, front_of}
+use Rattle.geo_cluster.proofs.Reading.{stops_in_all, read_on, read_none, piece_advances, piece_stops, piece_left, last_advances, last_stops, none_advances, reads_long, front_of}
 use Rattle.geo_cluster.proofs.script.run.Run.read_all.Goals as goal
 use Rattle.geo_cluster.proofs.script.run.Run.read_all.Goals.{then-not-is_empty+in_ok-end_line, else-not-is_empty}
 
@@ -155,3 +155,8 @@ returns-clause-err g c =
     let r = g.R.Read.remaining c.args.reader.now.inner in
     let s = g.R.Read.remaining c.loop-read.reader.inner in
     stops_in_all Read a inv.input u v r s c.loop-read.self.out.items inv.read (stop_now Read a c.loop-read.self (ended_in [] inv.input) u v (inr refl) inv.advances)
+
+pub returns-clause-failed : goal.returns-clause-failed
+returns-clause-failed g c =
+    let inv = c.loop-read.invariant in
+    inr (reads_long (g.R.Read.remaining c.args.reader.now.inner) (g.R.Read.remaining c.loop-read.reader.inner) inv.input (2 ^ 48) inv.read (omega (arith, inv.long)))

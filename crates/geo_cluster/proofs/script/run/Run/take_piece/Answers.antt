@@ -1,8 +1,9 @@
-use Rattle.std.proofs.Common.{arith, ◌≡◌, ◌++◌, ◌∷◌, [], List, ℕ, sym, ap, subst, ◌∙◌, append_assoc, append-nil}
+use Rattle.std.proofs.Common.{arith, refl, inl, ◌≡◌, ◌++◌, ◌∷◌, [], List, ℕ, sym, ap, subst, ◌∙◌, append_assoc, append-nil}
 use Rattle.geo_cluster.specs.Lines.{ended_in, left_in}
 use Rattle.geo_cluster.specs.Runs.{Stops}
+use Rattle.geo_cluster.specs.declared.script.fault.ScriptFault.TheVariants.{Memory}
 use Rattle.geo_cluster.proofs.Cutting.{cut_some_says, cut_none_says}
-use Rattle.geo_cluster.proofs.Playing.{at_err, advance_then, stop_after, stop_more}
+use Rattle.geo_cluster.proofs.Playing.{at_err, advance_none, advance_then, stop_after, stop_more, stop_now}
 use Rattle.geo_cluster.proofs.script.run.Run.take_piece.Goals as goal
 
 pub returns-in_err-end_line-clause-err : goal.returns-in_err-end_line-clause-err
@@ -55,10 +56,25 @@ returns-clause-ok g c =
     let inv = c.loop-front.invariant in
     let uncut = cut_none_says c.loop-front.rest.now b.unfinished.items c.in_default.ensures in
     let all : ended_in a.unfinished.items c.args.piece.now ≡ inv.done = inv.ended ∙ ap (λ (x : List (List ℕ)). inv.done ++ x) uncut.ended ∙ append-nil inv.done in
-    let h = inv.advances in
-    rw all (record { text = h.text; plays = h.plays; count = h.count; prints = h.prints })
+    λ p st.
+    let h = inv.advances p st in
+    rw all (record { text = h.text; progress = h.progress; plays = h.plays; stands = h.stands; count = h.count; prints = h.prints })
 
 pub returns-clause-left : goal.returns-clause-left
 returns-clause-left g c =
     let uncut = cut_none_says c.loop-front.rest.now c.loop-front.self.unfinished.items c.in_default.ensures in
     c.in_ok-extend_from_slice.ensures.items ∙ sym (c.loop-front.invariant.left ∙ uncut.left)
+
+pub loop-front-init : goal.loop-front-init
+loop-front-init g c = record { done = []; ended = refl; left = refl; advances = advance_none c.args.self.now (g.W.Write.contents c.args.writer.now.inner); few = omega arith }
+
+pub returns-in_err-extend_from_slice-clause-err : goal.returns-in_err-extend_from_slice-clause-err
+returns-in_err-extend_from_slice-clause-err g c =
+    let a = c.args.self.now in
+    let b = c.loop-front.self in
+    let inv = c.loop-front.invariant in
+    let u = g.W.Write.contents c.args.writer.now.inner in
+    let v = g.W.Write.contents c.loop-front.writer.inner in
+    let uncut = cut_none_says c.loop-front.rest.now b.unfinished.items c.in_default.ensures in
+    let all : ended_in a.unfinished.items c.args.piece.now ≡ inv.done = inv.ended ∙ ap (λ (x : List (List ℕ)). inv.done ++ x) uncut.ended ∙ append-nil inv.done in
+    at_err _ Memory _ c.from_residual-in_err-extend_from_slice.ensures.1 (subst (λ (x : List (List ℕ)). Stops Memory a x u v b.out.items) (sym all) (stop_now Memory a b inv.done u v (inl refl) inv.advances))
