@@ -1,35 +1,57 @@
 -- What is found where no history can go on.
-use Rattle.std.proofs.Common.{◌≡◌, inl, inr, ◌≤◌, ◌<◌, ◌+◌, ℕ, zero, suc, List, [], ◌∷◌, length, take, replicate, Some, slice_get, slice_index, get_or, refl, sym, ap, subst, ◌∙◌, arith}
+use Rattle.std.proofs.Common.{◌≡◌, inl, inr, ◌≤◌, ◌<◌, ◌+◌, ℕ, zero, suc, List, [], ◌∷◌, length, take, map, replicate, Some, slice_get, slice_index, get_or, refl, sym, ap, subst, ◌∙◌, arith}
 use Rattle.std.proofs.lemmas.List.{take_all, length-replicate}
 use Rattle.std.proofs.lemmas.List.Elements.{All-nil}
 use Rattle.std.proofs.lemmas.Bool.{cases_eq}
 use Rattle.std.proofs.lemmas.Option.{slice_get_within, get_or_from_slice_get, slice_get_read, slice_get-get_or}
 use Rattle.std.specs.List.{All}
+use Rattle.geo_delta.specs.declared.parcel.Parcel.{Parcel}
+use Rattle.geo_site.specs.declared.site.Site.{Site}
 use Rattle.geo_site.specs.declared.event.Event.{Event as Happening}
 use Rattle.geo_history.specs.declared.history.History.{History}
 use Rattle.geo_history.specs.declared.step.Step.{Step}
 use Rattle.geo_audit.specs.declared.sent.Place.{Place}
-use Rattle.geo_audit.specs.Runs.{Interleaves, IsOneOf}
-use Rattle.geo_audit.specs.Verdicts.{IsStuck, HasMore}
-use Rattle.geo_audit.specs.Merging.{Merged, Halts, AllTaken}
+use Rattle.geo_audit.specs.declared.play.Play.{Play}
+use Rattle.geo_site.specs.Schedule.{known}
+use Rattle.geo_site.specs.Served.{NoCollision, AllServe}
+use Rattle.geo_site.proofs.Served.{all_serve}
+use Rattle.geo_site.proofs.Sound.{sound_nothing}
+use Rattle.geo_world.specs.Setups.{limits_of}
+use Rattle.geo_world.specs.Agreement.{ShowsVersions}
+use Rattle.geo_world.proofs.Running.{shows}
+use Rattle.geo_audit.specs.Runs.{Interleaves, IsTold, IsOneOf, setups_in, first_of, events_in, traces_in}
+use Rattle.geo_audit.specs.Playing.{HasOpened}
+use Rattle.geo_audit.specs.Verdicts.{IsStuck, HasMore, Waits}
+use Rattle.geo_audit.specs.Merging.{parcel_at, Merged, Halts, AllTaken}
 use Rattle.geo_audit.proofs.Lists.{some_is, got_taken}
 use Rattle.geo_audit.proofs.Runs.{none_sends}
+use Rattle.geo_audit.proofs.Halting.{none_interleaves}
 
-pub judged_sound : (histories : List History) (counts : List ℕ) (places : List Place) (schedule : List Happening) → Merged histories counts places schedule → AllTaken histories counts → Interleaves schedule histories
-judged_sound histories counts places schedule m all = record {
+pub judged_sound : (histories : List History) (counts : List ℕ) (places : List Place) (sites : List Site) (parcels : List Parcel) (events : List Happening) → Merged histories counts places sites parcels events → AllTaken histories counts → Interleaves events histories
+judged_sound histories counts places sites parcels events m all = record {
+  versions = λ k site at. subst (λ (es : List Happening). ShowsVersions site ((known (first_of histories) es (traces_in m.run)).at (k + 1))) (sym m.events_are) (shows _ (k + 1) site _ (m.takes.runs.agrees.each k (k + 1) site refl at));
+  served = subst (λ (es : List Happening). NoCollision (known (first_of histories) es (traces_in m.run)) → AllServe (first_of histories) es (traces_in m.run)) (sym m.events_are)
+      (all_serve (first_of histories) (events_in m.run) (traces_in m.run) (sound_nothing (length (setups_in histories)) (limits_of (setups_in histories))) m.takes.runs.lawful);
+  counts = counts;
+  sites = sites;
+  parcels = parcels;
   run = m.run;
-  tells = m.tells;
-  sites = m.sites;
-  whole = λ k h there. m.taken k h there ∙ ap (λ n. take n h.steps.items) (all k h there) ∙ take_all (length h.steps.items) h.steps.items (omega arith);
+  takes = m.takes;
+  events = m.events_are;
+  whole = λ k h there. m.takes.taken k h there ∙ ap (λ n. take n h.steps.items) (all k h there) ∙ take_all (length h.steps.items) h.steps.items (omega arith);
 }
 
-pub judged_stuck : (histories : List History) (counts : List ℕ) (places : List Place) (schedule : List Happening) → Merged histories counts places schedule → ((k : ℕ) (h : History) → slice_get histories k ≡ Some h → Halts histories places h (slice_index counts k)) → HasMore histories counts → IsStuck histories counts
-judged_stuck histories counts places schedule m halt more = record {
-  many = m.many;
-  within = m.within;
+pub judged_stuck : (histories : List History) (counts : List ℕ) (places : List Place) (sites : List Site) (parcels : List Parcel) (events : List Happening) → Merged histories counts places sites parcels events → ((k : ℕ) (h : History) → slice_get histories k ≡ Some h → Halts histories places h (slice_index counts k)) → HasMore histories counts → IsStuck histories counts
+judged_stuck histories counts places sites parcels events m halt more = record {
+  many = m.takes.many;
+  within = m.takes.within;
   more = more;
-  waits = λ k h there less. let a = halt k h there less in record { parcel = a.parcel; goes_on = a.goes_on; unsent = none_sends histories counts places schedule a.parcel m a.unsent };
+  waits = waits;
+  none = λ schedule is. none_interleaves histories counts more waits schedule is;
 }
+  where
+    waits : (k : ℕ) (h : History) → slice_get histories k ≡ Some h → slice_index counts k < length h.steps.items → Waits histories counts h (slice_index counts k)
+    waits k h there less = let a = halt k h there less in record { parcel = a.parcel; goes_on = a.goes_on; unsent = none_sends histories counts places sites parcels events a.parcel m a.unsent }
 
 none_counted : (n k : ℕ) → slice_index (replicate n 0) k ≡ 0
 none_counted zero k = refl
@@ -39,23 +61,28 @@ none_counted (suc n) (suc k) = none_counted n k
 none_taken : (counts : List ℕ) (n k : ℕ) → counts ≡ replicate n 0 → slice_index counts k ≡ 0
 none_taken counts n k e = ap (λ l. slice_index l k) e ∙ none_counted n k
 
-pub merged_none : (histories : List History) (counts : List ℕ) → counts ≡ replicate (length histories) 0 → Merged histories counts [] []
-merged_none histories counts e = record {
+pub merged_none : (histories : List History) (counts : List ℕ) (places : List Place) (play : Play) → HasOpened histories play → counts ≡ replicate (length histories) 0 → places ≡ [] → Merged histories counts places play.world.sites.items play.world.parcels.items play.events.items
+merged_none histories counts places play opened e f = record {
   run = [];
-  tells = tt;
-  sites = All-nil (IsOneOf histories);
-  many = ap length e ∙ length-replicate (length histories) 0;
-  within = λ k h there. let none = none_taken counts (length histories) k e in omega (arith, none);
-  taken = λ k h there. sym (ap (λ n. take n h.steps.items) (none_taken counts (length histories) k e) ∙ take_none h.steps.items);
-  sent = refl;
+  takes = record {
+    setups = opened.setups;
+    as_many = opened.as_many;
+    runs = opened.runs;
+    told = All-nil IsTold;
+    fits = tt;
+    carries = tt;
+    own = All-nil (IsOneOf histories);
+    many = ap length e ∙ length-replicate (length histories) 0;
+    within = λ k h there. let none = none_taken counts (length histories) k e in omega (arith, none);
+    taken = λ k h there. sym (ap (λ n. take n h.steps.items) (none_taken counts (length histories) k e) ∙ take_none h.steps.items);
+  };
+  events_are = opened.events;
+  sent = ap (map (parcel_at histories)) f;
 }
   where
     take_none : (xs : List Step) → take 0 xs ≡ []
     take_none [] = refl
     take_none (x ∷ xs) = refl
-
-pub merging_none : (histories : List History) (counts : List ℕ) (places : List Place) (schedule : List Happening) → counts ≡ replicate (length histories) 0 → places ≡ [] → schedule ≡ [] → Merged histories counts places schedule
-merging_none histories counts places schedule e f g = subst (λ p. Merged histories counts p schedule) (sym f) (subst (λ s. Merged histories counts [] s) (sym g) (merged_none histories counts e))
 
 -- what holds of the histories before holds of one more
 pub below_one : (P : ℕ → History → Type 0) (histories : List History) (at : ℕ) (g : History) → slice_get histories at ≡ Some g → P at g → ((k : ℕ) (h : History) → k < at → slice_get histories k ≡ Some h → P k h) → (k : ℕ) (h : History) → k < at + 1 → slice_get histories k ≡ Some h → P k h

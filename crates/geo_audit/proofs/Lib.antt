@@ -1,6 +1,11 @@
 pub mod Lists
 pub mod Zeros
+pub mod Playing
+pub mod Stilling
+pub mod Only
+pub mod Telling
 pub mod Runs
 pub mod Links
+pub mod Halting
 pub mod Judging
 pub mod Turns

@@ -1,10 +1,10 @@
 -- How far histories are merged: the steps that were taken, and where those stand that made parcels.
-use Rattle.std.specs.Prelude.{◌≡◌, ◌≢◌, ℕ, ◌+◌, ◌-◌, ◌≤◌, ◌<◌, ◌==◌, ◌&&◌, Bool, List, [], ◌∷◌, ◌++◌, length, map, take, Option, None, Some, slice_get, slice_index}
-use Rattle.std.specs.List.{All}
+use Rattle.std.specs.Prelude.{◌≡◌, ◌≢◌, ℕ, ◌+◌, ◌-◌, ◌≤◌, ◌<◌, ◌==◌, ◌&&◌, Bool, true, false, List, [], ◌∷◌, ◌++◌, length, map, Option, None, Some, slice_get, slice_index}
 use Rattle.std.specs.HashMap as hash
 use Rattle.geo_stamp.specs.Vectors.{greatest_of}
 use Rattle.geo_delta.specs.declared.parcel.Parcel.{Parcel}
 use Rattle.geo_site.specs.declared.event.Event.{Event as Happening}
+use Rattle.geo_site.specs.declared.site.Site.{Site}
 use Rattle.geo_history.specs.declared.history.History.{History}
 use Rattle.geo_history.specs.declared.step.Event.{Event}
 use Rattle.geo_history.specs.declared.step.Event.TheVariants.{Take}
@@ -13,8 +13,8 @@ use Rattle.geo_audit.specs.declared.merge.Merge.{Merge}
 use Rattle.geo_audit.specs.declared.sent.Mark.{Mark}
 use Rattle.geo_audit.specs.declared.sent.Place.{Place}
 use Rattle.geo_audit.specs.declared.sent.Sent.{Sent}
-use Rattle.geo_audit.specs.Runs.{Turn, steps_at, parcel_in, sent_in, Tells, IsOneOf}
-use Rattle.geo_audit.specs.Verdicts.{GoesOnWith}
+use Rattle.geo_audit.specs.Runs.{Turn, parcel_in, sent_in, events_in, Takes}
+use Rattle.geo_audit.specs.Verdicts.{GoesOnWith, Fails}
 
 -- whether two marks are one
 abbrev pub same_mark : Mark → Mark → Bool
@@ -92,18 +92,15 @@ pub record Awaits (histories : List History) (places : List Place) (history : Hi
 abbrev pub Halts : List History → List Place → History → ℕ → Type 0
 Halts histories places history count = count < length history.steps.items → Awaits histories places history count
 
--- so many steps of each history are taken, by a run of which a schedule tells
-pub record Merged (histories : List History) (counts : List ℕ) (places : List Place) (schedule : List Happening) : Type 0 where
+-- so many steps of each history are taken, by a run of these events that leads to these sites and parcels
+pub record Merged (histories : List History) (counts : List ℕ) (places : List Place) (sites : List Site) (parcels : List Parcel) (events : List Happening) : Type 0 where
   pub run : List Turn
-  pub tells : Tells [] run schedule
-  pub sites : All (IsOneOf histories) run
-  pub many : length counts ≡ length histories
-  pub within : (k : ℕ) (h : History) → slice_get histories k ≡ Some h → slice_index counts k ≤ length h.steps.items
-  pub taken : (k : ℕ) (h : History) → slice_get histories k ≡ Some h → steps_at (k + 1) run ≡ take (slice_index counts k) h.steps.items
+  pub takes : Takes histories counts sites parcels run
+  pub events_are : events ≡ events_in run
   pub sent : map (parcel_at histories) places ≡ map Some (sent_in run)
 
 pub record IsMerging (histories : List History) (merge : Merge) : Type 0 where
-  pub merged : Merged histories merge.counts.items merge.sent.places.items merge.schedule.items
+  pub merged : Merged histories merge.counts.items merge.sent.places.items merge.play.world.sites.items merge.play.world.parcels.items merge.play.events.items
   pub linked : AreLinked histories merge.sent
 
 -- the history at a place can go on
@@ -126,6 +123,11 @@ left_of (h ∷ histories) (n ∷ counts) = (length h.steps.items - n) + left_of 
 pub record TakesTurn (histories : List History) (old new : Merge) : Type 0 where
   pub merging : IsMerging histories new
   pub less : left_of histories new.counts.items < left_of histories old.counts.items
+
+-- or the step is not what comes next
+abbrev pub Turns : List History → Merge → Merge → ℕ → Bool → Type 0
+Turns histories old new place true = TakesTurn histories old new
+Turns histories old new place false = Fails histories (place + 1) (slice_index old.counts.items place + 1)
 
 -- all steps are taken
 abbrev pub AllTaken : List History → List ℕ → Type 0

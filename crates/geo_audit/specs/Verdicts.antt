@@ -1,7 +1,10 @@
 -- What a verdict on histories says.
-use Rattle.std.specs.Prelude.{◌≡◌, ◌≢◌, ℕ, ◌+◌, ◌≤◌, ◌<◌, List, length, Some, slice_get, slice_index}
+use Rattle.std.specs.Prelude.{◌≡◌, ◌≢◌, ◌⊎◌, ℕ, ◌+◌, ◌≤◌, ◌<◌, false, List, length, Some, slice_get, slice_index}
 use Rattle.std.specs.List.{All}
 use Rattle.geo_delta.specs.declared.parcel.Parcel.{Parcel}
+use Rattle.geo_site.specs.declared.site.Site.{Site}
+use Rattle.geo_site.specs.declared.event.Event.{Event as Happening}
+use Rattle.geo_site.specs.Schedule.{known}
 use Rattle.geo_history.specs.declared.history.History.{History}
 use Rattle.geo_history.specs.declared.step.Event.TheVariants.{Take}
 use Rattle.geo_history.specs.declared.step.Answer.TheVariants.{Sent}
@@ -9,9 +12,10 @@ use Rattle.geo_history.specs.declared.step.Step.{Step}
 use Rattle.geo_audit.specs.declared.verdict.Verdict.{Verdict}
 use Rattle.geo_audit.specs.declared.verdict.Verdict.TheVariants.{Sound, Stuck, Wrong, LaterEra}
 use Rattle.geo_audit.specs.Openings.{OpensEmpty, IsFirstLater}
-use Rattle.geo_audit.specs.Runs.{Interleaves}
-use Rattle.geo_audit.specs.declared.auditing.Open.{Open}
-use Rattle.geo_audit.specs.declared.auditing.Open.TheVariants as opens
+use Rattle.geo_world.specs.Setups.{are_setups}
+use Rattle.geo_world.specs.Tables.{kept}
+use Rattle.geo_audit.specs.Runs.{Turn, setups_in, first_of, none_of, sent_in, events_in, traces_in, Carries, Takes, Interleaves}
+use Rattle.geo_audit.specs.Misses.{Misses}
 
 -- the histories are those of sites 1, 2 and so on
 abbrev pub AreInOrder : List History → Type 0
@@ -40,29 +44,40 @@ pub record HasMore (histories : List History) (counts : List ℕ) : Type 0 where
   pub there : slice_get histories place ≡ Some history
   pub more : slice_index counts place < length history.steps.items
 
--- so many steps of each history were taken, some has more, and each that has waits
+-- so many steps of each history were taken, some has more, and each that has waits; so no schedule interleaves them
 pub record IsStuck (histories : List History) (counts : List ℕ) : Type 0 where
   pub many : length counts ≡ length histories
   pub within : (k : ℕ) (h : History) → slice_get histories k ≡ Some h → slice_index counts k ≤ length h.steps.items
   pub more : HasMore histories counts
   pub waits : (k : ℕ) (h : History) → slice_get histories k ≡ Some h → slice_index counts k < length h.steps.items → Waits histories counts h (slice_index counts k)
+  pub none : (schedule : List Happening) → Interleaves schedule histories → ⊥
 
--- a step of the history of this site, from 1, or its setup
-pub record IsStepOf (histories : List History) (site step : ℕ) : Type 0 where
+-- this step of the history of this site, from 1, is next after a run of so many steps of each history, and what it takes was made;
+-- but it is not what comes
+pub record Fails (histories : List History) (site step : ℕ) : Type 0 where
+  pub counts : List ℕ
+  pub sites : List Site
+  pub parcels : List Parcel
+  pub run : List Turn
+  pub takes : Takes histories counts sites parcels run
   pub place : ℕ
   pub history : History
   pub there : slice_get histories place ≡ Some history
-  pub number : site ≡ history.setup.site
-  pub within : step ≤ length history.steps.items
+  pub site_is : site ≡ place + 1
+  pub step_is : step ≡ slice_index counts place + 1
+  pub next : Step
+  pub next_is : slice_get history.steps.items (slice_index counts place) ≡ Some next
+  pub number : ℕ
+  pub carries : Carries (sent_in run) number next.event
+  pub misses : Misses (known (first_of histories) (events_in run) (traces_in run)) (kept (first_of histories) (none_of histories) (events_in run) (traces_in run)) (place + 1) number next
+
+-- no sites are set up so
+abbrev pub NotSetUp : List History → ℕ → ℕ → Type 0
+NotSetUp histories site step = (site ≡ 0) × (step ≡ 0) × (are_setups (setups_in histories) ≡ false)
 
 -- what a verdict says: only where all histories begin with the start of their sites it says more than which does not
 abbrev pub Judges : List History → Verdict → Type 0
 Judges histories (Sound schedule) = All OpensEmpty histories × Interleaves schedule.items histories
 Judges histories (Stuck counts) = All OpensEmpty histories × IsStuck histories counts.items
-Judges histories (Wrong site step) = All OpensEmpty histories × IsStepOf histories site step
+Judges histories (Wrong site step) = All OpensEmpty histories × (NotSetUp histories site step ⊎ Fails histories site step)
 Judges histories (LaterEra site) = IsFirstLater histories site
-
--- a site for each history, or one that is not set up so
-abbrev pub OpenSo : List History → Open → Type 0
-OpenSo histories (opens.All sites) = length sites.items ≡ length histories
-OpenSo histories (opens.Refused site) = IsStepOf histories site 0

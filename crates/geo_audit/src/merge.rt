@@ -1,17 +1,15 @@
 //! Steps of several histories, put one after the other.
-ghost use Rattle.std.specs.Prelude.{◌≡◌, ℕ, ◌+◌, ◌<◌, ◌≤◌, IsTrue, OnOk, IfOk, MatchOption, MatchBool, length, slice_get, slice_index, replicate};
-ghost use Rattle.geo_audit.specs.Runs.{event_of};
+ghost use Rattle.std.specs.Prelude.{◌≡◌, ℕ, ◌+◌, ◌<◌, ◌≤◌, IfOk, MatchOption, MatchBool, length, slice_get, slice_index, replicate};
+ghost use Rattle.geo_audit.specs.Playing.{HasOpened};
 ghost use Rattle.geo_audit.specs.Verdicts.{AreInOrder, HasMore, Judges};
 ghost use Rattle.geo_audit.specs.Openings.{OpensEmpty};
-ghost use Rattle.geo_audit.specs.Merging.{CanGo, IsMerging, GoesAt, AllHalt, TakesTurn, AllTaken};
+ghost use Rattle.geo_audit.specs.Merging.{IsMerging, GoesAt, AllHalt, Turns, AllTaken};
 ghost use Rattle.std.specs.List.{All};
 
-use crate::replay::replays;
+use crate::play::Play;
 use crate::sent::Sent;
 use crate::verdict::Verdict;
-use geo_history::{Event, History, Step};
-use geo_lattice::Twin;
-use geo_site::{Event as Happening, Site};
+use geo_history::History;
 use std::alloc::{AllocError, Global};
 
 /// What was taken of histories so far.
@@ -20,36 +18,7 @@ pub struct Merge {
     /// How many steps of each history.
     pub(crate) counts: Vec<usize>,
     pub(crate) sent: Sent,
-    pub(crate) schedule: Vec<Happening>,
-}
-
-/// What was asked of a site, as a schedule has it.
-fn event_of(alloc: Global, site: u8, number: usize, event: &Event) -> Result<Happening, AllocError>
-    ensures { IfOk result (λ happening. happening ≡ event_of site number event.now) }
-{
-    Ok(match event {
-        Event::Command { now, request } => Happening::Command {
-            site,
-            now: *now,
-            request: request.twin(alloc)?,
-        },
-        Event::Evict { key } => Happening::Evict {
-            site,
-            key: key.twin(alloc)?,
-        },
-        Event::Send { to } => Happening::Send { site, to: *to },
-        Event::Take { .. } => Happening::Take {
-            site,
-            parcel: number,
-        },
-        Event::Remove => Happening::Remove { site },
-        Event::Tick { now } => Happening::Tick { site, now: *now },
-        Event::Reap { now, key } => Happening::Reap {
-            site,
-            now: *now,
-            key: key.twin(alloc)?,
-        },
-    })
+    pub(crate) play: Play,
 }
 
 /// Whether all steps are taken.
@@ -75,14 +44,15 @@ fn no_steps(alloc: Global, many: usize) -> Result<Vec<usize>, AllocError>
 
 impl Merge {
     /// Nothing was taken.
-    pub(crate) fn new(alloc: Global, histories: &[History]) -> Result<Merge, AllocError>
+    pub(crate) fn new(alloc: Global, histories: &[History], play: Play) -> Result<Merge, AllocError>
+        requires { HasOpened histories.now play }
         ensures { IfOk result (IsMerging histories.now) }
     {
         let counts = no_steps(alloc, histories.len())?;
         Ok(Merge {
             counts,
             sent: Sent::new(alloc),
-            schedule: Vec::new(alloc),
+            play,
         })
     }
 
@@ -100,54 +70,34 @@ impl Merge {
         None
     }
 
-    /// Takes the next step of a history, which can go on.
-    fn take(
-        &mut self,
-        alloc: Global,
-        histories: &[History],
-        at: usize,
-        number: usize,
-        step: &Step,
-    ) -> Result<(), AllocError>
-        requires order { AreInOrder histories.now }
-        requires merging { IsMerging histories.now self.old }
-        requires goes { GoesAt histories.now self.old at number }
-        requires there { at < length histories.now }
-        requires next { (h : History) → slice_get histories.now at ≡ Some h → slice_get h.steps.items (slice_index self.old.counts.items at) ≡ Some step.now }
-        ensures { OnOk result (TakesTurn histories.now self.old self.new) }
-    {
-        let count = self.counts[at];
-        let history = &histories[at];
-        let _steps = history.steps.len();
-        let happening = event_of(alloc, history.setup.site, number, &step.event)?;
-        self.sent.note(histories, at, count, &step.answer)?;
-        self.schedule.push(happening)?;
-        self.counts[at] = count + 1;
-        Ok(())
-    }
-
-    /// Replays the next step of a history, which can go on, at a site, and takes it where the site answers the same.
+    /// Carries out the next step of a history, which can go on, and takes it where what comes of it is what it tells.
     pub(crate) fn turn(
         &mut self,
         alloc: Global,
         histories: &[History],
         at: usize,
         number: usize,
-        site: &mut Site,
     ) -> Result<bool, AllocError>
         requires order { AreInOrder histories.now }
         requires merging { IsMerging histories.now self.old }
         requires goes { GoesAt histories.now self.old at number }
         requires there { at < length histories.now }
-        ensures { IfOk result (λ done. IsTrue done → TakesTurn histories.now self.old self.new) }
+        ensures { IfOk result (Turns histories.now self.old self.new at) }
     {
-        let Some(step) = histories[at].steps.get(self.counts[at]) else {
+        let count = self.counts[at];
+        let history = &histories[at];
+        let _steps = history.steps.len();
+        let Some(step) = history.steps.get(count) else {
             unreachable!();
         };
-        if !replays(alloc, site, step)? {
+        if !self
+            .play
+            .replays(alloc, at, history.setup.site, number, step)?
+        {
             return Ok(false);
         }
-        self.take(alloc, histories, at, number, step)?;
+        self.sent.note(histories, at, count, &step.answer)?;
+        self.counts[at] = count + 1;
         Ok(true)
     }
 
@@ -158,10 +108,12 @@ impl Merge {
         requires halt { AllHalt histories.now self }
         ensures { Judges histories.now result }
     {
-        if are_taken(&self.counts, histories) {
-            Verdict::Sound(self.schedule)
+        let Merge { counts, play, .. } = self;
+        if are_taken(&counts, histories) {
+            let Play { events, .. } = play;
+            Verdict::Sound(events)
         } else {
-            Verdict::Stuck(self.counts)
+            Verdict::Stuck(counts)
         }
     }
 }

@@ -50,9 +50,14 @@ fn key(alloc: Global) -> Result<Key, Fail> {
 }
 
 fn set(alloc: Global, kept: &mut Kept, bytes: &[u8]) -> Result<(), Fail> {
+    let key = key(alloc)?;
+    set_key(alloc, kept, key, bytes)
+}
+
+fn set_key(alloc: Global, kept: &mut Kept, key: Key, bytes: &[u8]) -> Result<(), Fail> {
     let request = Request::Store {
         verb: Verb::Set,
-        key: key(alloc)?,
+        key,
         flags: 0,
         exptime: 0,
         unique: None,
@@ -318,6 +323,57 @@ fn another_number_is_wrong(rt: HostRuntime) -> Result<(), Fail> {
         audited(rt.alloc(), histories.as_slice())?,
         Told::Wrong(1, 3)
     );
+    Ok(())
+}
+
+fn other_key(alloc: Global) -> Result<Key, Fail> {
+    Ok(Key::new(alloc, b"m")?.ok_or("no key")?)
+}
+
+/// A site that set two keys.
+fn two_sets(rt: &HostRuntime, bytes: &[u8]) -> Result<Kept, Fail> {
+    let mut one = opened(rt, 1)?;
+    let other = other_key(rt.alloc())?;
+    set_key(rt.alloc(), &mut one, other, b"hi")?;
+    set(rt.alloc(), &mut one, bytes)?;
+    Ok(one)
+}
+
+/// A step that is said to have evicted the other key.
+fn evicting(alloc: Global, step: &Step) -> Result<Step, Fail> {
+    let victim = other_key(alloc)?;
+    let mut last = renumbered(alloc, step, step.number)?;
+    last.victim = Some(victim);
+    Ok(last)
+}
+
+/// Two steps, of which the second is said to have evicted the other key.
+fn evicting_last(alloc: Global, steps: &Chunks<Step>) -> Result<Chunks<Step>, Fail> {
+    let mut all = Chunks::new(alloc)?;
+    let first = renumbered(alloc, steps.get(0).ok_or("no step")?, 1)?;
+    push(&mut all, first)?;
+    let last = evicting(alloc, steps.get(1).ok_or("no step")?)?;
+    push(&mut all, last)?;
+    Ok(all)
+}
+
+/// The histories of two keys that the first site set, of which the second is said to have evicted the first.
+fn evicted(rt: &HostRuntime, bytes: &[u8]) -> Result<Vec<History>, Fail> {
+    let one = two_sets(rt, bytes)?;
+    let two = opened(rt, 2)?;
+    let mut all = both(rt.alloc(), one, two)?;
+    let first = all.get_mut(0).ok_or("no history")?;
+    let steps = evicting_last(rt.alloc(), &first.steps)?;
+    first.steps = steps;
+    Ok(all)
+}
+
+#[test]
+fn a_victim_of_another_class_is_wrong(rt: HostRuntime) -> Result<(), Fail> {
+    let alike = evicted(&rt, b"yo")?;
+    assert_eq!(rt; audited(rt.alloc(), alike.as_slice())?, Told::Sound(3));
+    let unlike = evicted(&rt, &[b'y'; 65])?;
+    assert_eq!(rt; audited(rt.alloc(), unlike.as_slice())?, Told::Wrong(1, 2));
     Ok(())
 }
 

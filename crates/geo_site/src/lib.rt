@@ -27,6 +27,6 @@ pub use acted::Acted;
 pub use event::{Event, LAST_MOMENT, Trace};
 pub use exchange::{Refused, Taken};
 pub use refusal::{ReapError, SendError, SetupError, TakeError, WriteError};
-pub use setup::{Limits, MOST_RECORDS, MOST_SITES, Setup};
+pub use setup::{Limits, MOST_RECORDS, Setup};
 pub use site::Site;
 pub use state::SiteState;

@@ -1,9 +1,6 @@
 //! What a site is made of.
 use std::hash::RandomState;
 
-/// The most sites of a cluster.
-pub const MOST_SITES: u8 = 16;
-
 /// The most records that a site may be told to keep at most.
 pub const MOST_RECORDS: u32 = 1_000_000;
 

@@ -10,10 +10,10 @@ ghost use Rattle.geo_delta.specs.Changes.{Traced, nothing_pending, traced_prop};
 ghost use Rattle.geo_site.specs.Machine.{Numbered, HasRows, Covers, Settled, EndsFrom, knows_floor};
 
 use crate::refusal::SetupError;
-use crate::setup::{Limits, MOST_RECORDS, MOST_SITES, Setup};
+use crate::setup::{Limits, MOST_RECORDS, Setup};
 use geo_delta::Changes;
 use geo_slabs::{CLASSES, MOST_PAGES, Slabs};
-use geo_stamp::{Acks, Stamp, Vector};
+use geo_stamp::{Acks, MOST_SITES, Stamp, Vector};
 use geo_values::Values;
 use geo_versions::{Key, Version, Versions};
 use std::alloc::{AllocError, Global};

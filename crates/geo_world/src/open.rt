@@ -6,8 +6,9 @@ ghost use Rattle.geo_world.specs.Tables.{empty_tables, Keep};
 
 use crate::outcome::WorldError;
 use crate::world::World;
-use geo_site::{MOST_RECORDS, MOST_SITES, Setup, Site};
+use geo_site::{MOST_RECORDS, Setup, Site};
 use geo_slabs::{CLASSES, MOST_PAGES};
+use geo_stamp::MOST_SITES;
 use std::alloc::Global;
 
 /// Whether a setup is that of the site with this number among so many, and a site can be made of it.

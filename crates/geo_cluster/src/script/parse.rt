@@ -9,12 +9,10 @@ use crate::script::cut::cut_at;
 use crate::script::escape::unescape;
 use crate::script::line::Line;
 use geo_grammar::number;
+use geo_site::LAST_MOMENT;
 use geo_stamp::MOST_SITES;
 use geo_versions::Key;
 use std::alloc::{AllocError, Global};
-
-/// The latest moment of a script: 2^40 seconds.
-pub const LAST_MOMENT: u64 = 1 << 40;
 
 /// How many pages each site has for values where the script doesn't say, and the fewest that it may have.
 const LEAST_PAGES: u64 = 15;

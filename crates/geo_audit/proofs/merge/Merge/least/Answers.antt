@@ -9,14 +9,14 @@ pub returns-in-Some : goal.returns-in-Some
 returns-in-Some c = record {
   history = c.index-histories-at.result;
   there = there_of c.args.histories.now c.loop-at.at c.index-histories-at.result (omega arith) c.index-histories-at.is;
-  goes = subst (λ n. CanGo c.args.histories.now c.args.self.now.sent.places.items c.index-histories-at.result n c.in-Some.number) (any_default c.args.self.now.counts.items c.loop-at.at c.index-count.result.now (omega (arith, c.requires.merged.many)) c.index-count.ensures) c.in-Some.ensures;
+  goes = subst (λ n. CanGo c.args.histories.now c.args.self.now.sent.places.items c.index-histories-at.result n c.in-Some.number) (any_default c.args.self.now.counts.items c.loop-at.at c.index-count.result.now (omega (arith, c.requires.merged.takes.many)) c.index-count.ensures) c.in-Some.ensures;
 }
 
 pub loop-at-preserved : goal.loop-at-preserved
 loop-at-preserved c =
     below_one (λ (k : ℕ) (h : History). Halts c.args.histories.now c.args.self.now.sent.places.items h (slice_index c.args.self.now.counts.items k)) c.args.histories.now c.loop-at.at c.index-histories-at.result
     (there_of c.args.histories.now c.loop-at.at c.index-histories-at.result (omega arith) c.index-histories-at.is)
-    (subst (λ n. Halts c.args.histories.now c.args.self.now.sent.places.items c.index-histories-at.result n) (any_default c.args.self.now.counts.items c.loop-at.at c.index-count.result.now (omega (arith, c.requires.merged.many)) c.index-count.ensures) c.in_default.ensures)
+    (subst (λ n. Halts c.args.histories.now c.args.self.now.sent.places.items c.index-histories-at.result n) (any_default c.args.self.now.counts.items c.loop-at.at c.index-count.result.now (omega (arith, c.requires.merged.takes.many)) c.index-count.ensures) c.in_default.ensures)
     c.loop-at.invariant
 
 pub returns : goal.returns
