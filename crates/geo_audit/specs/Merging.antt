@@ -48,7 +48,8 @@ pub record IsLink (places : List Place) (mark : Mark) (link : Option ℕ) (end :
 
 -- each place has the mark of its parcel, and from the last place of each mark the links lead to all others that have it
 pub record IsLinked (histories : List History) (places : List Place) (last : Mark → Option ℕ) : Type 0 where
-  pub marks : (n : ℕ) (p : Place) (parcel : Parcel) → slice_get places n ≡ Some p → parcel_at histories p ≡ Some parcel → p.mark ≡ mark_of parcel
+  pub marks : (n : ℕ) (p : Place) (parcel : Parcel) → slice_get places n ≡ Some p → parcel_at histories p ≡ Some parcel
+      → p.mark ≡ mark_of parcel
   pub links : (n : ℕ) (p : Place) → slice_get places n ≡ Some p → IsLink places p.mark p.before n
   pub heads : (mark : Mark) → IsLink places mark (last mark) (length places)
 
@@ -93,7 +94,8 @@ abbrev pub Halts : List History → List Place → History → ℕ → Type 0
 Halts histories places history count = count < length history.steps.items → Awaits histories places history count
 
 -- so many steps of each history are taken, by a run of these events that leads to these sites and parcels
-pub record Merged (histories : List History) (counts : List ℕ) (places : List Place) (sites : List Site) (parcels : List Parcel) (events : List Happening) : Type 0 where
+pub record Merged (histories : List History) (counts : List ℕ) (places : List Place) (sites : List Site) (parcels : List Parcel)
+    (events : List Happening) : Type 0 where
   pub run : List Turn
   pub takes : Takes histories counts sites parcels run
   pub events_are : events ≡ events_in run
@@ -111,7 +113,8 @@ pub record GoesAt (histories : List History) (merge : Merge) (place number : ℕ
 
 -- none can
 abbrev pub AllHalt : List History → Merge → Type 0
-AllHalt histories merge = (k : ℕ) (h : History) → slice_get histories k ≡ Some h → Halts histories merge.sent.places.items h (slice_index merge.counts.items k)
+AllHalt histories merge = (k : ℕ) (h : History) → slice_get histories k ≡ Some h
+    → Halts histories merge.sent.places.items h (slice_index merge.counts.items k)
 
 -- how many steps are left
 abbrev pub left_of : List History → List ℕ → ℕ

@@ -68,13 +68,16 @@ Unlike versions None (Some victim) = Unit {0}
 
 -- what a step tells beside its answer is not so
 abbrev pub OtherBeside : List ℕ → Held → Held → (List ℕ → Option Version) → Event → Answer → Option (List ℕ) → Option (List ℕ × ℕ) → Type 0
-OtherBeside vector old new versions (Command now request) (Replied reply) victim made = (made ≢ made_at versions request reply) ⊎ Unlike versions (stored_under request reply) victim
-OtherBeside vector old new versions (Take parcel) (Took told) victim made = ((IsTrue told.rose ↔ (vector_joined vector parcel.upto ≢ vector)) → ⊥) ⊎ DropsOther old new told.dropped
+OtherBeside vector old new versions (Command now request) (Replied reply) victim made = (made ≢ made_at versions request reply)
+    ⊎ Unlike versions (stored_under request reply) victim
+OtherBeside vector old new versions (Take parcel) (Took told) victim made =
+    ((IsTrue told.rose ↔ (vector_joined vector parcel.upto ≢ vector)) → ⊥) ⊎ DropsOther old new told.dropped
 OtherBeside vector old new versions event answer victim made = ⊥
 
 -- nothing that can come of the event, where memory is at hand, is what the answer tells
 abbrev pub NoneTells : Known → Tables → Happening → Answer → Type 0
-NoneTells w all happening answer = (other : Trace) → Lawful w happening other → Tallies w all happening other → IsSaid other → IsToldBy other answer → ⊥
+NoneTells w all happening answer = (other : Trace) → Lawful w happening other → Tallies w all happening other → IsSaid other
+    → IsToldBy other answer → ⊥
 
 -- the site let go of a victim of its own
 abbrev pub IsOwnVictim : Trace → Type 0
@@ -89,7 +92,8 @@ pub record Differs (w : Known) (all : Tables) (site : ℕ) (happening : Happenin
   pub said : IsSaid trace
   pub other : (NoneTells w all happening step.answer ⊎ IsOwnVictim trace)
       ⊎ (BringsOther w all site step.event step.answer
-      ⊎ OtherBeside (all.at site).vector (w.held site) ((happens w happening trace).held site) (version_of ((happens w happening trace).at site)) step.event step.answer step.victim step.made)
+      ⊎ OtherBeside (all.at site).vector (w.held site) ((happens w happening trace).held site)
+      (version_of ((happens w happening trace).at site)) step.event step.answer step.victim step.made)
 
 -- its event names a site or a parcel that is not there, or something else comes of it
 abbrev pub MissesBy : Known → Tables → ℕ → Happening → Step → Type 0
@@ -101,4 +105,5 @@ abbrev pub Misses : Known → Tables → ℕ → ℕ → Step → Type 0
 Misses w all site number step = (IsPlainStep step → ⊥)
     ⊎ ((Undue w site step.event → ⊥)
     ⊎ (Unheld w site step.victim
-    ⊎ MissesBy (known w (lets_go site step.victim) (gone step.victim)) (kept w all (lets_go site step.victim) (gone step.victim)) site (event_of site number step.event) step))
+    ⊎ MissesBy (known w (lets_go site step.victim) (gone step.victim)) (kept w all (lets_go site step.victim) (gone step.victim)) site
+    (event_of site number step.event) step))

@@ -43,7 +43,8 @@ kept_in first none play traces = kept first none play.events.items traces
 
 -- whatever the run, this holds of what is known and kept
 abbrev pub Always : Play → (Known → Tables → Type 0) → Type 0
-Always play P = (first : Known) (none : Tables) (traces : List Trace) → Plays first none play traces → P (known_in first play traces) (kept_in first none play traces)
+Always play P = (first : Known) (none : Tables) (traces : List Trace) → Plays first none play traces
+    → P (known_in first play traces) (kept_in first none play traces)
 
 -- sites that know nothing, or are not set up so
 pub record HasOpened (histories : List History) (play : Play) : Type 0 where
@@ -105,11 +106,15 @@ pub record Answers (old new : Play) (site : ℕ) (happening : Happening) (step :
   pub told : IsToldBy trace step.answer
   pub said : IsSaid trace
   pub brings : Always old (λ w all. Brings w all site step.event step.answer)
-  pub beside : Always old (λ w all. TellsBeside (all.at site).vector (w.held site) ((happens w happening trace).held site) (version_of ((happens w happening trace).at site)) step.event step.answer step.victim step.made)
+  pub beside : Always old
+      (λ w all. TellsBeside (all.at site).vector (w.held site) ((happens w happening trace).held site)
+      (version_of ((happens w happening trace).at site)) step.event step.answer step.victim step.made)
 
 -- a step is carried out, and what comes of it is what it tells
 pub record Replays (old new : Play) (site number : ℕ) (step : Step) : Type 0 where
   pub trace : Trace
   pub leads : Leads old new (events_of (turn_of site number step trace)) (traces_of (turn_of site number step trace))
   pub told : IsTold (turn_of site number step trace)
-  pub fits : Always old (λ w all. Fits w all (known w (events_of (turn_of site number step trace)) (traces_of (turn_of site number step trace))) (turn_of site number step trace))
+  pub fits : Always old
+      (λ w all. Fits w all (known w (events_of (turn_of site number step trace)) (traces_of (turn_of site number step trace)))
+      (turn_of site number step trace))

@@ -232,7 +232,8 @@ Alike versions None (Some victim) = ⊥
 
 -- what a step tells beside its answer, where this was known and held before, and is held and named after
 abbrev pub TellsBeside : List ℕ → Held → Held → (List ℕ → Option Version) → Event → Answer → Option (List ℕ) → Option (List ℕ × ℕ) → Type 0
-TellsBeside vector old new versions (Command now request) (Replied reply) victim made = (made ≡ made_at versions request reply) × Alike versions (stored_under request reply) victim
+TellsBeside vector old new versions (Command now request) (Replied reply) victim made = (made ≡ made_at versions request reply)
+    × Alike versions (stored_under request reply) victim
 TellsBeside vector old new versions (Take parcel) (Took told) victim made = TellsTake vector parcel.upto old new told
 TellsBeside vector old new versions event answer victim made = Unit {0}
 
@@ -240,15 +241,18 @@ TellsBeside vector old new versions event answer victim made = Unit {0}
 pub record Fits (w : Known) (all : Tables) (v : Known) (t : Turn) : Type 0 where
   pub undue : Undue w t.site t.step.event
   pub brings : Brings (known w (lets_go t.site t.step.victim) (gone t.step.victim)) all t.site t.step.event t.step.answer
-  pub beside : TellsBeside (all.at t.site).vector ((known w (lets_go t.site t.step.victim) (gone t.step.victim)).held t.site) (v.held t.site) (version_of (v.at t.site)) t.step.event t.step.answer t.step.victim t.step.made
+  pub beside : TellsBeside (all.at t.site).vector ((known w (lets_go t.site t.step.victim) (gone t.step.victim)).held t.site)
+      (v.held t.site) (version_of (v.at t.site)) t.step.event t.step.answer t.step.victim t.step.made
 
 abbrev pub EachFits : Known → Tables → List Turn → Type 0
 EachFits w all [] = Unit {0}
-EachFits w all (t ∷ run) = Fits w all (known w (events_of t) (traces_of t)) t × EachFits (known w (events_of t) (traces_of t)) (kept w all (events_of t) (traces_of t)) run
+EachFits w all (t ∷ run) = Fits w all (known w (events_of t) (traces_of t)) t
+    × EachFits (known w (events_of t) (traces_of t)) (kept w all (events_of t) (traces_of t)) run
 
 -- events lead from where nothing was known to these sites and parcels, with these traces: each is there and lawful, and in the end
 -- sites and parcels are what is known and kept
-pub record IsRun (first : Known) (none : Tables) (sites : List Site) (parcels : List Parcel) (events : List Happening) (traces : List Trace) : Type 0 where
+pub record IsRun (first : Known) (none : Tables) (sites : List Site) (parcels : List Parcel) (events : List Happening)
+    (traces : List Trace) : Type 0 where
   pub there : EachThere (length sites) first events traces
   pub lawful : EachLawful first events traces
   pub tallies : EachTallies first none events traces
@@ -296,5 +300,6 @@ pub record Interleaves (schedule : List Happening) (histories : List History) : 
   pub takes : Takes histories counts sites parcels run
   pub events : schedule ≡ events_in run
   pub whole : (k : ℕ) (h : History) → slice_get histories k ≡ Some h → steps_at (k + 1) run ≡ h.steps.items
-  pub versions : (k : ℕ) (site : Site) → slice_get sites k ≡ Some site → ShowsVersions site ((known (first_of histories) schedule (traces_in run)).at (k + 1))
+  pub versions : (k : ℕ) (site : Site) → slice_get sites k ≡ Some site
+      → ShowsVersions site ((known (first_of histories) schedule (traces_in run)).at (k + 1))
   pub served : NoCollision (known (first_of histories) schedule (traces_in run)) → AllServe (first_of histories) schedule (traces_in run)

@@ -29,7 +29,8 @@ pub record GoesOnWith (history : History) (count : ℕ) (parcel : Parcel) : Type
 
 -- none of the first steps of the histories, so many of each, makes this parcel
 abbrev pub NoneSends : List History → List ℕ → Parcel → Type 0
-NoneSends histories counts parcel = (k : ℕ) (h : History) (n : ℕ) (step : Step) → slice_get histories k ≡ Some h → n < slice_index counts k → slice_get h.steps.items n ≡ Some step → step.answer ≢ Sent parcel
+NoneSends histories counts parcel = (k : ℕ) (h : History) (n : ℕ) (step : Step) → slice_get histories k ≡ Some h → n < slice_index counts k
+    → slice_get h.steps.items n ≡ Some step → step.answer ≢ Sent parcel
 
 -- a history goes on with a take of a parcel that none of the steps sends that were taken
 pub record Waits (histories : List History) (counts : List ℕ) (history : History) (count : ℕ) : Type 0 where
@@ -49,7 +50,8 @@ pub record IsStuck (histories : List History) (counts : List ℕ) : Type 0 where
   pub many : length counts ≡ length histories
   pub within : (k : ℕ) (h : History) → slice_get histories k ≡ Some h → slice_index counts k ≤ length h.steps.items
   pub more : HasMore histories counts
-  pub waits : (k : ℕ) (h : History) → slice_get histories k ≡ Some h → slice_index counts k < length h.steps.items → Waits histories counts h (slice_index counts k)
+  pub waits : (k : ℕ) (h : History) → slice_get histories k ≡ Some h → slice_index counts k < length h.steps.items
+      → Waits histories counts h (slice_index counts k)
   pub none : (schedule : List Happening) → Interleaves schedule histories → ⊥
 
 -- this step of the history of this site, from 1, is next after a run of so many steps of each history, and what it takes was made;
@@ -69,7 +71,8 @@ pub record Fails (histories : List History) (site step : ℕ) : Type 0 where
   pub next_is : slice_get history.steps.items (slice_index counts place) ≡ Some next
   pub number : ℕ
   pub carries : Carries (sent_in run) number next.event
-  pub misses : Misses (known (first_of histories) (events_in run) (traces_in run)) (kept (first_of histories) (none_of histories) (events_in run) (traces_in run)) (place + 1) number next
+  pub misses : Misses (known (first_of histories) (events_in run) (traces_in run))
+      (kept (first_of histories) (none_of histories) (events_in run) (traces_in run)) (place + 1) number next
 
 -- no sites are set up so
 abbrev pub NotSetUp : List History → ℕ → ℕ → Type 0

@@ -18,7 +18,8 @@ fn is_zero(vector: &Vector, sites: u8) -> bool
 
 /// Whether nothing was heard of any site.
 fn is_silent(rows: &Acks, sites: u8) -> bool
-    ensures { MatchBool result ((s : ℕ) → 1 ≤ s → s ≤ 16 → row_of rows.now s ≡ zeros sites) (((s : ℕ) → 1 ≤ s → s ≤ 16 → row_of rows.now s ≡ zeros sites) → ⊥) }
+    ensures { MatchBool result ((s : ℕ) → 1 ≤ s → s ≤ 16
+        → row_of rows.now s ≡ zeros sites) (((s : ℕ) → 1 ≤ s → s ≤ 16 → row_of rows.now s ≡ zeros sites) → ⊥) }
 {
     for at in 1..17u8 {
         if !is_zero(rows.row(at), sites) {

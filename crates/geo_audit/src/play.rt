@@ -164,7 +164,9 @@ impl Play {
     /// Evicts the bytes of a recorded victim, if there is one, and tells whether they were held.
     fn lets_go(&mut self, alloc: Global, site: u8, victim: &Option<Key>) -> Result<bool, AllocError>
         requires there { is_site (length self.old.world.sites.items) site ≡ true }
-        ensures { IfOk result (λ done. MatchBool done (Leads self.old self.new (lets_go site victim.now) (gone victim.now)) (Always self.old (λ w all. Unheld w site victim.now))) }
+        ensures { IfOk result
+            (λ done. MatchBool done (Leads self.old self.new (lets_go site victim.now) (gone victim.now))
+            (Always self.old (λ w all. Unheld w site victim.now))) }
     {
         let Some(victim) = victim else {
             return Ok(true);
@@ -178,7 +180,8 @@ impl Play {
 
     /// Whether the parcel that an answer tells of, if any, is the last that was made.
     fn ends_with(&self, answer: &Answer) -> bool
-        ensures { MatchBool result (EndsWith self.now.world.parcels.items answer.now) (EndsWith self.now.world.parcels.items answer.now → ⊥) }
+        ensures { MatchBool result (EndsWith self.now.world.parcels.items answer.now) (EndsWith self.now.world.parcels.items answer.now
+            → ⊥) }
     {
         let Answer::Sent(told) = answer else {
             return true;
@@ -200,7 +203,9 @@ impl Play {
         requires there { at < length self.old.world.sites.items }
         requires moment { is_in_time happening ≡ true }
         requires event { (number : ℕ) × (happening ≡ event_of (at + 1) number step.now.event) }
-        ensures { IfOk result (λ done. MatchBool done (Answers self.old self.new (at + 1) happening step.now) (Always self.old (λ w all. MissesBy w all (at + 1) happening step.now))) }
+        ensures { IfOk result
+            (λ done. MatchBool done (Answers self.old self.new (at + 1) happening step.now)
+            (Always self.old (λ w all. MissesBy w all (at + 1) happening step.now))) }
     {
         let seen = seen_at(&self.world.sites[at], &step.event);
         let Some(trace) = self.carry_out(alloc, happening)? else {
@@ -227,7 +232,9 @@ impl Play {
     ) -> Result<bool, AllocError>
         requires there { at < length self.old.world.sites.items }
         requires site { site ≡ at + 1 }
-        ensures { IfOk result (λ done. MatchBool done (Replays self.old self.new site number step.now) (Always self.old (λ w all. Misses w all site number step.now))) }
+        ensures { IfOk result
+            (λ done. MatchBool done (Replays self.old self.new site number step.now)
+            (Always self.old (λ w all. Misses w all site number step.now))) }
     {
         if !is_plain(step) {
             return Ok(false);

@@ -41,7 +41,8 @@ fn stored_under<'a>(request: &'a Request, reply: &Reply) -> Option<&'a Key>
 
 /// Whether bytes were stored under another key than the victim's.
 fn stores_beside(victim: &Key, request: &Request, reply: &Reply) -> bool
-    ensures { MatchBool result (StoresBeside (stored_under request.now reply.now) victim.now) (StoresBeside (stored_under request.now reply.now) victim.now → ⊥) }
+    ensures { MatchBool result (StoresBeside (stored_under request.now reply.now) victim.now)
+        (StoresBeside (stored_under request.now reply.now) victim.now → ⊥) }
 {
     match stored_under(request, reply) {
         Some(key) => !key.equals(victim),
@@ -72,7 +73,8 @@ fn is_bare(victim: &Option<Key>, made: &Option<(Digest, u32)>) -> bool
 /// Whether a step tells of nothing that its event can't have: only a command has a victim, or makes bytes of older ones, and a tick
 /// is recorded where it carried out a flush.
 fn may_tell(step: &Step) -> bool
-    ensures { MatchBool result (IsPlain step.now.event step.now.answer step.now.victim step.now.made) (IsPlain step.now.event step.now.answer step.now.victim step.now.made → ⊥) }
+    ensures { MatchBool result (IsPlain step.now.event step.now.answer step.now.victim step.now.made)
+        (IsPlain step.now.event step.now.answer step.now.victim step.now.made → ⊥) }
 {
     match &step.event {
         Event::Command { request, .. } => may_evict(request, &step.answer, &step.victim),
@@ -231,7 +233,8 @@ fn are_alike(one: &Option<Version>, two: &Option<Version>) -> bool
 
 /// Whether a victim, if there is one, is of the slab class of what was stored under a key.
 fn is_alike(site: &Site, key: Option<&Key>, victim: &Option<Key>) -> bool
-    ensures { MatchBool result (Alike (versions_at site.now) (option_copied key.entry) victim.now) (Unlike (versions_at site.now) (option_copied key.entry) victim.now) }
+    ensures { MatchBool result (Alike (versions_at site.now) (option_copied key.entry) victim.now)
+        (Unlike (versions_at site.now) (option_copied key.entry) victim.now) }
 {
     let Some(victim) = victim else {
         return true;
@@ -252,7 +255,10 @@ fn is_dropped(before: usize, after: usize, dropped: usize) -> bool
 /// Whether a step tells what its site was seen to do, beside what came of the event: what a take changed, and what a command made.
 pub(crate) fn tells(site: &Site, seen: &Seen, step: &Step) -> bool
     ensures { (vector : List ℕ) (held : Held) → Sees vector held step.now.event seen.now
-        → MatchBool result (TellsBeside vector held (state_in site.now).stock.held (versions_at site.now) step.now.event step.now.answer step.now.victim step.now.made) (OtherBeside vector held (state_in site.now).stock.held (versions_at site.now) step.now.event step.now.answer step.now.victim step.now.made) }
+        → MatchBool result (TellsBeside vector held (state_in site.now).stock.held
+        (versions_at site.now) step.now.event step.now.answer step.now.victim step.now.made)
+        (OtherBeside vector held (state_in site.now).stock.held
+        (versions_at site.now) step.now.event step.now.answer step.now.victim step.now.made) }
 {
     match (&step.event, &step.answer) {
         (Event::Take { .. }, Answer::Taken(told)) => {

@@ -99,7 +99,8 @@ impl Sent {
     /// The number of an equal parcel. Only those with its mark are looked at.
     fn find(&self, histories: &[History], parcel: &Parcel) -> Option<usize>
         requires { AreLinked histories.now self.now }
-        ensures { MatchOption result (IsUnsent histories.now self.now.places.items parcel.now) (IsSentAs histories.now self.now.places.items parcel.now) }
+        ensures { MatchOption result (IsUnsent histories.now self.now.places.items parcel.now)
+            (IsSentAs histories.now self.now.places.items parcel.now) }
     {
         let mut next = last_with(&self.last, &mark_of(parcel));
         while let Some(number) = next {
@@ -148,7 +149,8 @@ impl Sent {
         requires linked { AreLinked histories.now self.old }
         requires made { made_in (slice_get histories.now history) step ≡ parcel_in answer.now }
         ensures linked { OnOk result (AreLinked histories.now self.new) }
-        ensures places { OnOk result (map (parcel_at histories.now) self.new.places.items ≡ map (parcel_at histories.now) self.old.places.items ++ map Some (listed (parcel_in answer.now))) }
+        ensures places { OnOk result (map (parcel_at histories.now) self.new.places.items
+            ≡ map (parcel_at histories.now) self.old.places.items ++ map Some (listed (parcel_in answer.now))) }
     {
         match answer {
             Answer::Sent(parcel) => self.add(histories, history, step, parcel.parcel()),
@@ -164,7 +166,8 @@ impl Sent {
         count: usize,
     ) -> Option<usize>
         requires { AreLinked histories.now self.now }
-        ensures { MatchOption result (Halts histories.now self.now.places.items history.now count) (CanGo histories.now self.now.places.items history.now count) }
+        ensures { MatchOption result (Halts histories.now self.now.places.items history.now count)
+            (CanGo histories.now self.now.places.items history.now count) }
     {
         let step = history.steps.get(count)?;
         match &step.event {

@@ -30,7 +30,8 @@ chunked_in full last spare = record { items = joined full ++ last; room = (most_
 -- the next chunk is empty, has its memory, and has its place behind the full ones
 abbrev pub IsSpare : {T : Type 0} → Vec (Vec T Global) Global → Option (Vec T Global) → Type 0
 IsSpare full None = Unit {0}
-IsSpare full (Some chunk) = (chunk.items ≡ []) × (most_in_chunk ≤ vec_capacity chunk) × (length full.items < vec_capacity full) × (length full.items < most_chunks)
+IsSpare full (Some chunk) = (chunk.items ≡ []) × (most_in_chunk ≤ vec_capacity chunk) × (length full.items < vec_capacity full)
+    × (length full.items < most_chunks)
 
 abbrev pub AllEven : {T : Type 0} → List (Vec T Global) → Type 0
 AllEven full = All (λ chunk. length chunk.items ≡ most_in_chunk) full

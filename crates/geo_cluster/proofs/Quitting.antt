@@ -2,7 +2,7 @@
 use Rattle.std.proofs.Common.{◌≡◌, ℕ, zero, suc, ◌+◌, ◌≤◌, true, false, cond, not, List, [], ◌∷◌, length, take, refl, ap, ◌∙◌, arith}
 use Rattle.std.specs.List.{position_or_len}
 use Rattle.geo_grammar.specs.declared.item.Item.{Item}
-use Rattle.geo_cluster.specs.Connections.{is_quit, until_quit}
+use Rattle.geo_grammar.specs.Quitting.{is_quit, until_quit}
 
 -- they are those up to the first that is one
 pub until_first : (items : List Item) → until_quit items ≡ take (suc (position_or_len is_quit items)) items

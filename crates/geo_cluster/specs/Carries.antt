@@ -49,7 +49,8 @@ pub record IsTold (number sites pages most reap : ℕ) (setup : Setup) : Type 0 
 -- from this number on
 abbrev pub AreTold : ℕ → ℕ → ℕ → ℕ → ℕ → List Setup → Type 0
 AreTold number sites pages most reap [] = Unit {0}
-AreTold number sites pages most reap (setup ∷ setups) = IsTold number sites pages most reap setup × AreTold (number + 1) sites pages most reap setups
+AreTold number sites pages most reap (setup ∷ setups) = IsTold number sites pages most reap setup
+    × AreTold (number + 1) sites pages most reap setups
 
 -- so many sites open, which know and hold nothing; nothing was sent, and no client has said anything
 pub record SetsUp (old : Progress) (sites pages most reap : ℕ) (text : List ℕ) (new : Progress) : Type 0 where
@@ -81,11 +82,18 @@ Answers old s (Fault fault) text new = (text ≡ fault_bytes fault) × (new ≡ 
 -- one after the other
 abbrev pub AnswersAll : Progress → ℕ → List Item → List ℕ → Progress → Type 0
 AnswersAll old s [] text new = (text ≡ []) × (new ≡ old)
-AnswersAll old s (item ∷ items) text new = (mid : Progress) × (first : List ℕ) × (more : List ℕ) × Answers old s item first mid × AnswersAll mid s items more new × (text ≡ first ++ more)
+AnswersAll old s (item ∷ items) text new = (mid : Progress) × (first : List ℕ) × (more : List ℕ) × Answers old s item first mid
+    × AnswersAll mid s items more new × (text ≡ first ++ more)
 
 -- bytes come on the connection of a site's client, and the items that they bring are answered, on one line
 abbrev pub connected : Progress → ℕ → Connection → Progress
-connected p s c = record { moment = p.moment; setups = p.setups; events = p.events; traces = p.traces; connections = slice_set p.connections (s - 1) c }
+connected p s c = record {
+  moment = p.moment;
+  setups = p.setups;
+  events = p.events;
+  traces = p.traces;
+  connections = slice_set p.connections (s - 1) c;
+}
 
 pub record Feeds (old : Progress) (s : ℕ) (bytes text : List ℕ) (new : Progress) : Type 0 where
   pub was : Connection
@@ -107,7 +115,8 @@ pub record Lists (ops : List Operation) (text : List ℕ) : Type 0 where
 -- what a line that can be carried out prints, and what it leaves
 abbrev pub Carries : Progress → Said → List ℕ → Progress → Type 0
 Carries old (SaysSites n pages most reap) text new = SetsUp old n pages most reap text new
-Carries old (SaysAt m) text new = (text ≡ []) × (new ≡ record { moment = m; setups = old.setups; events = old.events; traces = old.traces; connections = old.connections })
+Carries old (SaysAt m) text new =
+    (text ≡ []) × (new ≡ record { moment = m; setups = old.setups; events = old.events; traces = old.traces; connections = old.connections })
 Carries old (SaysClient s bytes) text new = Feeds old s bytes text new
 Carries old (SaysSend s t) text new = Happens old (Send s t) text new
 Carries old (SaysTake s k) text new = Happens old (Take s k) text new

@@ -31,7 +31,8 @@ escaped (b ∷ bs) = escaped_byte b ++ escaped bs
 
 -- what a byte does behind a backslash, and at each spot of a text
 abbrev pub turn_escape : ℕ → Turn
-turn_escape b = if b == 92 then Gives 92 else (if b == 114 then Gives 13 else (if b == 110 then Gives 10 else (if b == 120 then Leads Hex else Fails)))
+turn_escape b = if b == 92 then Gives 92
+    else (if b == 114 then Gives 13 else (if b == 110 then Gives 10 else (if b == 120 then Leads Hex else Fails)))
 
 abbrev pub turn : Spot → ℕ → Turn
 turn Between b = if b == 92 then Leads Backslash else Gives b

@@ -36,7 +36,13 @@ can_come p event = is_there (length p.setups) (parcels_in p) event
 
 -- it comes, and this comes of it
 abbrev pub followed : Progress → Event → Trace → Progress
-followed p event trace = record { moment = p.moment; setups = p.setups; events = p.events ++ event ∷ []; traces = p.traces ++ trace ∷ []; connections = p.connections }
+followed p event trace = record {
+  moment = p.moment;
+  setups = p.setups;
+  events = p.events ++ event ∷ [];
+  traces = p.traces ++ trace ∷ [];
+  connections = p.connections;
+}
 
 -- the traces are those of a run: each event is there when it comes, each trace is one that its event can have, and tells what its site
 -- keeps; and values in replies are what was written, unless two that were written have one SHA-256

@@ -20,7 +20,8 @@ said_by (Versions site) = SaysVersions site
 -- the numbers of sites are 1 to 16, pages 15 to 65,536, records at most 1 to 1,000,000, seconds of keeping at most 2^31 - 1, and
 -- moments 1 to 2^40
 abbrev pub IsInRange : Line → Type 0
-IsInRange (Sites count pages max reap) = (1 ≤ count) × (count ≤ 16) × (15 ≤ pages) × (pages ≤ 65536) × (1 ≤ max) × (max ≤ 1000000) × (reap ≤ 2147483647)
+IsInRange (Sites count pages max reap) = (1 ≤ count) × (count ≤ 16) × (15 ≤ pages) × (pages ≤ 65536) × (1 ≤ max) × (max ≤ 1000000)
+    × (reap ≤ 2147483647)
 IsInRange (At moment) = (1 ≤ moment) × (moment ≤ 2 ^ 40)
 IsInRange (Client site text) = (1 ≤ site) × (site ≤ 16)
 IsInRange (Send from to) = (1 ≤ from) × (from ≤ 16) × (1 ≤ to) × (to ≤ 16) × (from ≢ to)

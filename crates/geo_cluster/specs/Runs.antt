@@ -13,7 +13,8 @@ use Rattle.geo_cluster.specs.declared.script.run.Run.{Run}
 
 -- what a line prints and leaves: a skipped one prints and changes nothing, another does what it says
 abbrev pub PlaysLine : Progress → List ℕ → List ℕ → Progress → Type 0
-PlaysLine old line text new = MatchBool (skips line) ((text ≡ []) × (new ≡ old)) (MatchOption (said line) ⊥ (λ s. (can_carry old s ≡ true) × Carries old s text new))
+PlaysLine old line text new =
+    MatchBool (skips line) ((text ≡ []) × (new ≡ old)) (MatchOption (said line) ⊥ (λ s. (can_carry old s ≡ true) × Carries old s text new))
 
 -- a line that is neither skipped nor carried out
 abbrev pub IsBadLine : Progress → List ℕ → Type 0
@@ -62,7 +63,8 @@ pub record IsFresh (run : Run) : Type 0 where
 -- lines, one after the other, print their texts one after the other
 abbrev pub Plays : Progress → List (List ℕ) → List ℕ → Progress → Type 0
 Plays old [] text new = (text ≡ []) × (new ≡ old)
-Plays old (line ∷ lines) text new = (mid : Progress) × (first : List ℕ) × (more : List ℕ) × PlaysLine old line first mid × Plays mid lines more new × (text ≡ first ++ more)
+Plays old (line ∷ lines) text new = (mid : Progress) × (first : List ℕ) × (more : List ℕ) × PlaysLine old line first mid
+    × Plays mid lines more new × (text ≡ first ++ more)
 
 -- of what was printed and waits, some is written, in order, and the rest waits
 abbrev pub Prints : Option (List ℕ) → Option (List ℕ) → List ℕ → List ℕ → List ℕ → Type 0
@@ -97,7 +99,8 @@ abbrev pub Advances : Run → Run → List (List ℕ) → Option (List ℕ) → 
 Advances old new lines before after = (p : Progress) → Stands p old.cluster → AdvancesFrom p old new lines before after
 
 -- a run has played some of these lines, and a fault ended it
-pub record StopsFrom (fault : ScriptFault) (p : Progress) (old : Run) (lines : List (List ℕ)) (before after : Option (List ℕ)) (waits : List ℕ) : Type 0 where
+pub record StopsFrom (fault : ScriptFault) (p : Progress) (old : Run) (lines : List (List ℕ)) (before after : Option (List ℕ))
+    (waits : List ℕ) : Type 0 where
   pub done : List (List ℕ)
   pub more : List (List ℕ)
   pub text : List ℕ

@@ -48,7 +48,8 @@ front_number least most text = front_cut least most text (cut_of text)
 -- an option that may stand at the front of a text: its number, or this one where the option isn't there
 abbrev pub option_cut : List ℕ → ℕ → ℕ → ℕ → List ℕ → Option (List ℕ × List ℕ) → Option FrontNumber
 option_cut name least most otherwise text None = Some (otherwise, Some text)
-option_cut name least most otherwise text (Some cut) = if bytes_eq cut.0 name then front_number least most cut.1 else Some (otherwise, Some text)
+option_cut name least most otherwise text (Some cut) = if bytes_eq cut.0 name then front_number least most cut.1
+    else Some (otherwise, Some text)
 
 abbrev pub option_number : List ℕ → ℕ → ℕ → ℕ → Option (List ℕ) → Option FrontNumber
 option_number name least most otherwise None = Some (otherwise, None)
@@ -87,7 +88,8 @@ client_said args = option_and_then (λ s. option_map (λ t. SaysClient s t) (une
 
 -- a site sends no parcel to itself
 abbrev pub send_said : List ℕ × List ℕ → Option Said
-send_said args = option_and_then (λ s. option_and_then (λ t. if s == t then None else Some (SaysSend s t)) (site_of args.1)) (site_of args.0)
+send_said args = option_and_then (λ s. option_and_then (λ t. if s == t then None else Some (SaysSend s t)) (site_of args.1))
+    (site_of args.0)
 
 abbrev pub take_said : List ℕ × List ℕ → Option Said
 take_said args = option_and_then (λ s. option_map (λ k. SaysTake s k) (parcel_of args.1)) (site_of args.0)

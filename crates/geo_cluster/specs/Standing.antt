@@ -20,11 +20,14 @@ pub record Stands (p : Progress) (cluster : Cluster) : Type 0 where
   pub connections : cluster.connections.items ≡ p.connections
   pub clients : length p.connections ≡ length p.setups
   pub sites : length cluster.world.sites.items ≡ length p.setups
-  pub run : HasAllRun (start p.setups) (empty_tables (length p.setups)) cluster.world.sites.items cluster.world.parcels.items p.events p.traces
+  pub run : HasAllRun (start p.setups)
+      (empty_tables (length p.setups)) cluster.world.sites.items cluster.world.parcels.items p.events p.traces
 
 -- from whatever it stands at, one event happens with a trace that it can have, or it can't come
 abbrev pub Steps : Cluster → Event → Option Trace → Cluster → Type 0
-Steps old event outcome new = (p : Progress) → Stands p old → MatchOption outcome (can_come p event ≡ false) (λ trace. (can_come p event ≡ true) × Lawful (known_in p) event trace × Stands (followed p event trace) new)
+Steps old event outcome new = (p : Progress) → Stands p old
+    → MatchOption outcome (can_come p event ≡ false) (λ trace. (can_come p event ≡ true) × Lawful (known_in p) event trace
+    × Stands (followed p event trace) new)
 
 -- what an event prints, if it can come
 pub record PrintsEvent (p : Progress) (event : Event) (text : List ℕ) (new : Cluster) : Type 0 where
@@ -34,7 +37,8 @@ pub record PrintsEvent (p : Progress) (event : Event) (text : List ℕ) (new : C
   pub stands : Stands progress new
 
 abbrev pub MeetsEvent : Cluster → Event → Option (Vec ℕ Global) → Cluster → Type 0
-MeetsEvent old event outcome new = (p : Progress) → Stands p old → MatchOption outcome (can_come p event ≡ false) (λ text. PrintsEvent p event text.items new)
+MeetsEvent old event outcome new = (p : Progress) → Stands p old
+    → MatchOption outcome (can_come p event ≡ false) (λ text. PrintsEvent p event text.items new)
 
 -- items that are answered, behind what was answered before
 pub record AnswersBehind (p : Progress) (s : ℕ) (items : List Item) (before after : List ℕ) (new : Cluster) : Type 0 where
@@ -46,7 +50,8 @@ pub record AnswersBehind (p : Progress) (s : ℕ) (items : List Item) (before af
 
 -- they are, where there is a site of this number, which is told
 abbrev pub AnswersFor : Cluster → ℕ → List Item → List ℕ → Bool → List ℕ → Cluster → Type 0
-AnswersFor old s items before there after new = (p : Progress) → Stands p old → is_site (length p.setups) s ≡ true → (there ≡ true) × AnswersBehind p s items before after new
+AnswersFor old s items before there after new = (p : Progress) → Stands p old → is_site (length p.setups) s ≡ true → (there ≡ true)
+    × AnswersBehind p s items before after new
 
 -- what comes of a line: it is carried out and prints a text, or it can't be
 pub record CarriesOut (p : Progress) (line : Said) (text : List ℕ) (new : Cluster) : Type 0 where
@@ -56,4 +61,5 @@ pub record CarriesOut (p : Progress) (line : Said) (text : List ℕ) (new : Clus
   pub stands : Stands progress new
 
 abbrev pub Meets : Cluster → Said → Option (Vec ℕ Global) → Cluster → Type 0
-Meets old line outcome new = (p : Progress) → Stands p old → MatchOption outcome (can_carry p line ≡ false) (λ text. CarriesOut p line text.items new)
+Meets old line outcome new = (p : Progress) → Stands p old
+    → MatchOption outcome (can_carry p line ≡ false) (λ text. CarriesOut p line text.items new)

@@ -6,7 +6,8 @@ use Rattle.geo_grammar.specs.Protocol.{items_of}
 use Rattle.geo_grammar.specs.declared.item.Item.{Item}
 use Rattle.geo_grammar.specs.declared.reply.Reply.{Reply}
 use Rattle.geo_grammar.specs.declared.request.Request.{Request}
-use Rattle.geo_session.specs.Closings.{until_quit, StaysOpen}
+use Rattle.geo_grammar.specs.Quitting.{until_quit}
+use Rattle.geo_session.specs.Closings.{StaysOpen}
 use Rattle.geo_session.specs.Connections.{Connection, new_connection}
 use Rattle.geo_session.specs.Exchanges.{Exchange, items_in, text_of, Runs}
 use Rattle.geo_session.specs.Sessions.{Sends}

@@ -5,7 +5,8 @@ use Rattle.geo_grammar.specs.Protocol.{items_of}
 use Rattle.geo_grammar.specs.declared.item.Item.{Item}
 use Rattle.geo_grammar.specs.declared.reply.Reply.{Reply}
 use Rattle.geo_grammar.specs.declared.request.Request.{Request}
-use Rattle.geo_session.specs.Closings.{until_quit, StaysOpen}
+use Rattle.geo_grammar.specs.Quitting.{until_quit}
+use Rattle.geo_session.specs.Closings.{StaysOpen}
 use Rattle.geo_session.specs.Connections.{Connection, Answered, Broken, BreaksFor}
 use Rattle.geo_session.specs.Exchanges.{Exchange, items_in, text_of, Runs}
 use Rattle.geo_session.specs.Sessions.{Sends}
@@ -49,11 +50,13 @@ pub record Carries (written : Option (List ℕ)) (c : Connection) : Type 0 where
 
 -- all was answered, or a fault came within it
 abbrev pub EndsSo : {S : Type 0} → (S → Request → S → Type 0) → List Exchange → List Item → S → S → Type 0
-EndsSo refuses lost rest mid new = ((lost ≡ []) × (rest ≡ []) × (new ≡ mid)) ⊎ ((fault : SessionFault) × BreaksFor refuses fault lost rest mid new)
+EndsSo refuses lost rest mid new = ((lost ≡ []) × (rest ≡ []) × (new ≡ mid))
+    ⊎ ((fault : SessionFault) × BreaksFor refuses fault lost rest mid new)
 
 -- the items that a piece brings, up to a quit, are those that were acted on and those that were not
 abbrev pub Brings : List ℕ → List ℕ → List Exchange → List Item → Type 0
-Brings read piece acted rest = ((piece ≡ []) × (acted ≡ []) × (rest ≡ [])) ⊎ (until_quit (items_of (read ++ piece)) ≡ items_of read ++ (items_in acted ++ rest))
+Brings read piece acted rest = ((piece ≡ []) × (acted ≡ []) × (rest ≡ []))
+    ⊎ (until_quit (items_of (read ++ piece)) ≡ items_of read ++ (items_in acted ++ rest))
 
 -- in a turn a piece comes, the items that it brings are answered by one run of the backend, and their text is owed behind what was; of
 -- all that, a beginning is written
@@ -74,7 +77,8 @@ pub record Turns {S : Type 0} (answers : S → Request → Reply → S → Type 
   pub ends : EndsSo refuses lost rest mid after
 
 -- what a read did, by what came of it
-abbrev pub Comes : {S : Type 0} → (S → Request → Reply → S → Type 0) → (S → Request → S → Type 0) → Came → List ℕ → Connection → Connection → S → S → Type 0
+abbrev pub Comes : {S : Type 0} → (S → Request → Reply → S → Type 0) → (S → Request → S → Type 0) → Came → List ℕ → Connection → Connection
+    → S → S → Type 0
 Comes answers refuses (came.Answered end full) piece old new before after =
     Answered answers piece old new before after × (new.goes_on ≡ true → StaysOpen (items_of new.read))
 Comes answers refuses (came.Broken fault) piece old new before after = Broken answers refuses fault piece old new before after

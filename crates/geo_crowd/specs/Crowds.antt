@@ -31,7 +31,8 @@ StandsAfter Waits has slot = slot ≡ Some has
 StandsAfter (Over outcome) has slot = (slot ≡ None) × IsOver (Over outcome) has.session.owed
 
 -- one connection has its turn, and no other is touched
-pub record HasTurn {S : Type 0} (answers : S → Request → Reply → S → Type 0) (refuses : S → Request → S → Type 0) (number : ℕ) (standing : Standing)
+pub record HasTurn {S : Type 0} (answers : S → Request → Reply → S → Type 0) (refuses : S → Request → S
+    → Type 0) (number : ℕ) (standing : Standing)
     (old new : ℕ → Option Carriage) (before after : S) : Type 0 where
   pub had : Carriage
   pub has : Carriage
@@ -41,7 +42,8 @@ pub record HasTurn {S : Type 0} (answers : S → Request → Reply → S → Typ
   pub others : OthersStand number old new
 
 -- where no connection stands under a number nothing is done
-abbrev pub Visits : {S : Type 0} → (S → Request → Reply → S → Type 0) → (S → Request → S → Type 0) → ℕ → Option Standing → (ℕ → Option Carriage) → (ℕ → Option Carriage) → S → S → Type 0
+abbrev pub Visits : {S : Type 0} → (S → Request → Reply → S → Type 0) → (S → Request → S → Type 0) → ℕ → Option Standing
+    → (ℕ → Option Carriage) → (ℕ → Option Carriage) → S → S → Type 0
 Visits answers refuses number None old new before after = (old number ≡ None) × Stand old new × (after ≡ before)
 Visits answers refuses number (Some standing) old new before after = HasTurn answers refuses number standing old new before after
 
@@ -53,8 +55,10 @@ next_due (Some (Over outcome)) number more = more
 next_due None number more = more
 
 -- each of these has its turn, one after the other, and these go on
-abbrev pub Passes : {S : Type 0} → (S → Request → Reply → S → Type 0) → (S → Request → S → Type 0) → List ℕ → List ℕ → (ℕ → Option Carriage) → (ℕ → Option Carriage) → S → S → Type 0
+abbrev pub Passes : {S : Type 0} → (S → Request → Reply → S → Type 0) → (S → Request → S → Type 0) → List ℕ → List ℕ → (ℕ → Option Carriage)
+    → (ℕ → Option Carriage) → S → S → Type 0
 Passes answers refuses [] later old new before after = (later ≡ []) × Stand old new × (after ≡ before)
 Passes {S = S} answers refuses (number ∷ numbers) later old new before after =
     (mid : ℕ → Option Carriage) × (between : S) × (standing : Option Standing) × (more : List ℕ)
-    × Visits answers refuses number standing old mid before between × (later ≡ next_due standing number more) × Passes answers refuses numbers more mid new between after
+    × Visits answers refuses number standing old mid before between × (later ≡ next_due standing number more)
+    × Passes answers refuses numbers more mid new between after

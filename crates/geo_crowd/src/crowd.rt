@@ -200,7 +200,8 @@ impl<S: Stream + Drop> Crowd<S> {
         backend: &mut B,
         gate: &G,
     ) -> Passed
-        ensures passes { (turns : List ℕ) × Passes B.answers B.refuses turns (due self.new) (at self.old) (at self.new) backend.old backend.new }
+        ensures passes { (turns : List ℕ)
+            × Passes B.answers B.refuses turns (due self.new) (at self.old) (at self.new) backend.old backend.new }
         ensures goes_on { MatchBool result.goes_on (due self.new ≢ []) (due self.new ≡ []) }
     {
         polling.wait(!self.listed.is_empty());

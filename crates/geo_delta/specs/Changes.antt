@@ -32,7 +32,8 @@ pub record Ring : Type 0 where
   pub reach : List ℕ
 
 abbrev pub ring_code : Coded Ring
-ring_code = code_by (List Noted × List ℕ) (coded× (coded_list (coded× (coded_list coded_ℕ) (coded_list coded_ℕ))) (coded_list coded_ℕ)) (λ r. (r.changes, r.reach)) (λ p. record { changes = p.0; reach = p.1 }) (λ _. refl)
+ring_code = code_by (List Noted × List ℕ) (coded× (coded_list (coded× (coded_list coded_ℕ) (coded_list coded_ℕ))) (coded_list coded_ℕ))
+    (λ r. (r.changes, r.reach)) (λ p. record { changes = p.0; reach = p.1 }) (λ _. refl)
 
 -- how many changes a ring holds at most
 abbrev pub most_changes : ℕ
@@ -70,7 +71,8 @@ KnowsBut but v map = (key : List ℕ) → but key ≡ false → knows_record v (
 -- what was known before each change knows the record of every key that has no later change and is not still to be noted
 abbrev pub TracedFrom : (List ℕ → Bool) → (List ℕ → Record) → List ℕ → List Noted → Type 0
 TracedFrom pending map reach [] = KnowsBut pending reach map
-TracedFrom pending map reach (c ∷ changes) = KnowsBut (λ key. pending key || has_change (c ∷ changes) key) reach map × TracedFrom pending map c.1 changes
+TracedFrom pending map reach (c ∷ changes) = KnowsBut (λ key. pending key || has_change (c ∷ changes) key) reach map
+    × TracedFrom pending map c.1 changes
 
 abbrev pub Traced : (List ℕ → Bool) → (List ℕ → Record) → Ring → Type 0
 Traced pending map ring = TracedFrom pending map ring.reach ring.changes
@@ -82,9 +84,15 @@ nothing_pending key = false
 knows_prop : (but : List ℕ → Bool) (v : List ℕ) (map : List ℕ → Record) → IsProp (KnowsBut but v map)
 knows_prop but v map = hlevel (Bool-set)
 
-traced_from_prop : (pending : List ℕ → Bool) (map : List ℕ → Record) (reach : List ℕ) (changes : List Noted) → IsProp (TracedFrom pending map reach changes)
+traced_from_prop : (pending : List ℕ → Bool) (map : List ℕ → Record) (reach : List ℕ) (changes : List Noted)
+    → IsProp (TracedFrom pending map reach changes)
 traced_from_prop pending map reach [] = knows_prop pending reach map
-traced_from_prop pending map reach (c ∷ changes) = λ a b i. (knows_prop (λ key. pending key || has_change (c ∷ changes) key) reach map a.0 b.0 i, traced_from_prop pending map c.1 changes a.1 b.1 i)
+traced_from_prop pending map reach (c ∷ changes) =
+    λ a b i. (
+      knows_prop (λ key. pending key || has_change
+          (c ∷ changes) key) reach map a.0 b.0 i,
+      traced_from_prop pending map c.1 changes a.1 b.1 i,
+    )
 
 -- it is a fact, and so can be kept beside a ring
 pub traced_prop : (pending : List ℕ → Bool) (map : List ℕ → Record) (ring : Ring) → IsProp (Traced pending map ring)

@@ -13,7 +13,8 @@ use Rattle.geo_versions.specs.declared.body.Body.TheVariants.{Gone, Value}
 
 -- 2 to 16 sites, from one of them to another
 unfoldable pub sites_fit : ℕ → ℕ → ℕ → Bool
-sites_fit from to n = (nat_le 2 n && nat_le n most_sites) && ((nat_le 1 from && nat_le from n) && ((nat_le 1 to && nat_le to n) && not (from == to)))
+sites_fit from to n = (nat_le 2 n && nat_le n most_sites) &&
+    ((nat_le 1 from && nat_le from n) && ((nat_le 1 to && nat_le to n) && not (from == to)))
 
 -- a stamp of one of n sites
 unfoldable pub stamp_fits : ℕ → Moment → Bool

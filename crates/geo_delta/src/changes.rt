@@ -113,7 +113,8 @@ impl Changes {
         requires traced { Traced nothing_pending (record_in versions.now) self.now }
         ensures reaches { IfOk result (λ found. IsSome found ↔ (vector_joined base.now self.now.reach ≡ base.now)) }
         ensures rising { IfOk result (λ found. IfSome found (λ all. Rising all.items)) }
-        ensures records { IfOk result (λ found. IfSome found (λ all. (q : List ℕ) → listed_at all.items q ≡ since base.now (record_in versions.now q))) }
+        ensures records { IfOk result (λ found. IfSome found (λ all. (q : List ℕ)
+            → listed_at all.items q ≡ since base.now (record_in versions.now q))) }
         ensures filled { IfOk result (λ found. IfSome found (λ all. All (λ e. rec_means e.1 ≡ (None, None) → ⊥) all.items)) }
     {
         match self.first_news(base) {
@@ -203,7 +204,9 @@ fn looked_up(
 ) -> Result<Vec<(Key, Rec)>, AllocError>
     requires { IsStrictlySortedBy (slice_cmp nat_cmp) keys.items }
     ensures rising { IfOk result (λ all. Rising all.items) }
-    ensures records { IfOk result (λ all. (q : List ℕ) → listed_at all.items q ≡ cond {A = Record} (list_any (same_key q) keys.items) (since base.now (record_in versions.now q)) (None, None)) }
+    ensures records { IfOk result (λ all. (q : List ℕ)
+        → listed_at all.items q ≡ cond {A = Record} (list_any (same_key q) keys.items) (since base.now (record_in versions.now q))
+        (None, None)) }
     ensures filled { IfOk result (λ all. All (λ e. rec_means e.1 ≡ (None, None) → ⊥) all.items) }
 {
     let mut all = Vec::new(alloc);

@@ -93,7 +93,8 @@ unfoldable pub floor_at : ℕ → List ℕ → Read (Option Moment)
 floor_at n bytes = do
   time ← eight_at bytes
   site ← byte_at time.1
-  if (time.0 == 0) && (site.0 == 0) then Ok (None, site.1) else (if stamp_fits n (moment time.0 site.0) then Ok (Some (moment time.0 site.0), site.1) else Err Field)
+  if (time.0 == 0) && (site.0 == 0) then Ok (None, site.1)
+      else (if stamp_fits n (moment time.0 site.0) then Ok (Some (moment time.0 site.0), site.1) else Err Field)
 
 unfoldable pub time_at : List ℕ → Read ℕ
 time_at bytes = do
@@ -137,7 +138,8 @@ value_at n bytes = do
   Ok (Some (stamp.0, Value digest.0 flags.0 size.0), size.1)
 
 unfoldable pub tagged_body : ℕ → ℕ → List ℕ → Read (Register Body)
-tagged_body n tag bytes = if tag == 0 then Ok (None, bytes) else (if tag == 1 then gone_at n bytes else (if tag == 2 then value_at n bytes else Err Field))
+tagged_body n tag bytes = if tag == 0 then Ok (None, bytes)
+    else (if tag == 1 then gone_at n bytes else (if tag == 2 then value_at n bytes else Err Field))
 
 unfoldable pub body_at : ℕ → List ℕ → Read (Register Body)
 body_at n bytes = do
@@ -247,7 +249,8 @@ unfoldable pub fields_sized : List ℕ → ℕ → Result (List ℕ) FrameFault
 fields_sized bytes size =
     if nat_lt (length bytes) size then Err Short
     else (if nat_lt size (length bytes) then Err Trailing
-    else (if bytes_eq (sha256 (take (size - 32) bytes)) (drop (size - 32) bytes) then Ok (drop 9 (take (size - 32) bytes)) else Err Damaged))
+    else (if bytes_eq (sha256 (take (size - 32) bytes)) (drop (size - 32) bytes) then Ok (drop 9 (take (size - 32) bytes))
+    else Err Damaged))
 
 unfoldable pub fields_in : List ℕ → Result (List ℕ) FrameFault
 fields_in bytes = do

@@ -58,7 +58,8 @@ unfoldable pub sites_bytes : ℕ → ℕ → ℕ → List ℕ
 sites_bytes from to n = from ∷ to ∷ n ∷ []
 
 unfoldable pub fields_of : Parcel → List ℕ
-fields_of p = sites_bytes p.from p.to (length p.base) ++ vector_bytes p.base ++ vector_bytes p.upto ++ floor_bytes p.floor ++ records_bytes p.records
+fields_of p = sites_bytes p.from p.to (length p.base) ++ vector_bytes p.base ++ vector_bytes p.upto ++ floor_bytes p.floor
+    ++ records_bytes p.records
 
 -- the magic, the version, and the length of the whole
 unfoldable pub head_bytes : ℕ → List ℕ

@@ -17,7 +17,8 @@ pub(crate) struct Bytes<'a> {
 /// The stamp of this time and site, where it is one of so many sites.
 #[tactic(auto, unfolding(geo_delta::specs::Ranges::stamp_fits))]
 fn stamp_within(time: u64, site: u8, sites: u8) -> Option<Stamp>
-    ensures { MatchOption result (stamp_fits sites (moment time site) ≡ false) (λ s. (stamp_fits sites (moment time site) ≡ true) × (s ≡ moment time site)) }
+    ensures { MatchOption result (stamp_fits sites (moment time site) ≡ false) (λ s. (stamp_fits sites (moment time site) ≡ true)
+        × (s ≡ moment time site)) }
 {
     if site > sites {
         return None;

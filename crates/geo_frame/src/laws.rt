@@ -17,10 +17,12 @@ pub fn frame_is_of_one_parcel()
 
 /// No frame begins another.
 pub fn no_frame_begins_another()
-    ensures { (p q : Parcel) (more : List ℕ) → length (frame_of p) ≤ longest_frame → length (frame_of q) ≤ longest_frame → frame_of p ++ more ≡ frame_of q → more ≡ [] }
+    ensures { (p q : Parcel) (more : List ℕ) → length (frame_of p) ≤ longest_frame → length (frame_of q) ≤ longest_frame
+        → frame_of p ++ more ≡ frame_of q → more ≡ [] }
 {}
 
 /// The length field in a frame's first nine bytes or more is the length of the frame, whatever follows it.
 pub fn length_is_told_early()
-    ensures { (p : Parcel) (front back more : List ℕ) → length (frame_of p) ≤ longest_frame → 9 ≤ length front → front ++ back ≡ frame_of p ++ more → length_field front ≡ length (frame_of p) }
+    ensures { (p : Parcel) (front back more : List ℕ) → length (frame_of p) ≤ longest_frame → 9 ≤ length front
+        → front ++ back ≡ frame_of p ++ more → length_field front ≡ length (frame_of p) }
 {}

@@ -50,7 +50,8 @@ fn record_length(entry: &(Key, Rec)) -> usize
 
 /// The length of a parcel's frame, None where it would be above [`LONGEST_FRAME`].
 pub(crate) fn frame_length(parcel: &Parcel) -> Option<usize>
-    ensures { MatchOption result (longest_frame < length (frame_of parcel.now)) (λ n. (n ≡ length (frame_of parcel.now)) × (n ≤ longest_frame)) }
+    ensures { MatchOption result (longest_frame < length (frame_of parcel.now)) (λ n. (n ≡ length (frame_of parcel.now))
+        × (n ≤ longest_frame)) }
 {
     let mut size = BESIDE_RECORDS + 8 * (parcel.base.sites() + parcel.upto.sites());
     for record in parcel.records.as_slice() {

@@ -37,15 +37,18 @@ pub record IsUnknown {K : Type 0} (old new : Peer K) (seat after : Seated) : Typ
   pub same : new ≡ old
 
 -- what becomes of a peer in a round, by whether a parcel was put
-abbrev pub Served : {K : Type 0} → (K → Parcel → K → Type 0) → (K → Parcel → LinkError → K → Type 0) → Bool → Peer K → Peer K → Seated → Seated → Type 0
+abbrev pub Served : {K : Type 0} → (K → Parcel → K → Type 0) → (K → Parcel → LinkError → K → Type 0) → Bool → Peer K → Peer K → Seated
+    → Seated → Type 0
 Served puts put_fails true old new seat after = Took puts old new seat after
 Served puts put_fails false old new seat after = LinkFailed put_fails old new seat after ⊎ IsUnknown old new seat after
 
 -- peers are served one after the other, and so many parcels are put
-unfoldable pub ServedAll : {K : Type 0} → (K → Parcel → K → Type 0) → (K → Parcel → LinkError → K → Type 0) → List (Peer K) → List (Peer K) → Seated → Seated → ℕ → Type 0
+unfoldable pub ServedAll : {K : Type 0} → (K → Parcel → K → Type 0) → (K → Parcel → LinkError → K → Type 0) → List (Peer K) → List (Peer K)
+    → Seated → Seated → ℕ → Type 0
 ServedAll puts put_fails [] [] seat after count = (after ≡ seat) × (count ≡ 0)
 ServedAll puts put_fails (old ∷ olds) (new ∷ news) seat after count =
-    (mid : Seated) × (put : Bool) × (more : ℕ) × Served puts put_fails put old new seat mid × ServedAll puts put_fails olds news mid after more
+    (mid : Seated) × (put : Bool) × (more : ℕ) × Served puts put_fails put old new seat mid
+    × ServedAll puts put_fails olds news mid after more
     × (count ≡ cond put 1 0 + more)
 ServedAll puts put_fails olds news seat after count = ⊥
 
@@ -55,7 +58,8 @@ Unserved faults.Memory site seat after = SendsBy (trimmed seat) after site (Err 
 Unserved faults.SeatSpent site seat after = SendsBy (trimmed seat) after site (Err SeatSpent)
 
 -- a round ends early: the peers before one are served, for that one no parcel can be made, and the others stay
-pub record StopsEarly {K : Type 0} (puts : K → Parcel → K → Type 0) (put_fails : K → Parcel → LinkError → K → Type 0) (old new : List (Peer K)) (seat after : Seated)
+pub record StopsEarly {K : Type 0} (puts : K → Parcel → K → Type 0) (put_fails : K → Parcel → LinkError → K
+    → Type 0) (old new : List (Peer K)) (seat after : Seated)
     (why : GossipFault) : Type 0 where
   pub served : ℕ
   pub some : served < length old

@@ -15,8 +15,10 @@ block_place head got true = AtReturn head got
 
 -- what the piece does from that place on
 abbrev pub BlockLeads : Place → Head → List ℕ → List ℕ → BlockCut → Type 0
-BlockLeads place head got piece (Open front returned) = Leads place piece [] (block_place head (got ++ front.now) returned) [] × IsPlace (block_place head (got ++ front.now) returned)
-BlockLeads place head got piece (Good front rest) = Leads place piece (item.Request (stored head (got ++ front.now)) ∷ []) (InLine []) rest.now
+BlockLeads place head got piece (Open front returned) = Leads place piece [] (block_place head (got ++ front.now) returned) []
+    × IsPlace (block_place head (got ++ front.now) returned)
+BlockLeads place head got piece (Good front rest) =
+    Leads place piece (item.Request (stored head (got ++ front.now)) ∷ []) (InLine []) rest.now
 BlockLeads place head got piece (Bad rest) = Leads place piece [] (Skips 0 BadData) rest.now × (0 < length rest.now)
 
 -- at most that much of the piece is left to be read, one more where the block is good

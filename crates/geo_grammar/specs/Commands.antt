@@ -87,10 +87,13 @@ head_of verb key None exptime size ending = None
 head_of verb key (Some flags) None size ending = None
 head_of verb key (Some flags) (Some exptime) None ending = None
 head_of verb key (Some flags) (Some exptime) (Some size) None = None
-head_of verb key (Some flags) (Some exptime) (Some size) (Some ending) = Some (record { verb = verb; key = key; flags = flags; exptime = exptime; unique = ending.unique; size = size; noreply = ending.noreply })
+head_of verb key (Some flags) (Some exptime) (Some size) (Some ending) =
+    Some (record { verb = verb; key = key; flags = flags; exptime = exptime; unique = ending.unique; size = size; noreply = ending.noreply })
 
 abbrev pub storage_head : Verb → List ℕ → List ℕ → List ℕ → List ℕ → List (List ℕ) → Option Head
-storage_head verb key flags exptime size words = if is_key key then head_of verb key (number_of most_flags flags) (signed_of exptime) (number_of most_bytes size) (ending_of verb words) else None
+storage_head verb key flags exptime size words =
+    if is_key key then head_of verb key (number_of most_flags flags) (signed_of exptime) (number_of most_bytes size) (ending_of verb words)
+    else None
 
 -- data that is too large is skipped, and not kept
 abbrev pub head_line : Option Head → Line
@@ -115,7 +118,8 @@ touched_keys numbers keys None = line.Bad BadNumber
 touched_keys numbers keys (Some exptime) = line.Whole (request.FetchTouch exptime keys numbers)
 
 abbrev pub fetch_touch_line : Bool → List (List ℕ) → Line
-fetch_touch_line numbers (exptime ∷ key ∷ keys) = if list_all is_key (key ∷ keys) then touched_keys numbers (key ∷ keys) (signed_of exptime) else line.Bad BadLine
+fetch_touch_line numbers (exptime ∷ key ∷ keys) = if list_all is_key (key ∷ keys) then touched_keys numbers (key ∷ keys) (signed_of exptime)
+    else line.Bad BadLine
 fetch_touch_line numbers _ = line.Bad BadLine
 
 -- ---- deletion

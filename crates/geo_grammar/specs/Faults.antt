@@ -1,5 +1,6 @@
 -- The fault of a line and of a data block, among all faults, and the one that ends a connection.
-use Rattle.std.specs.Prelude.{Bool, true, false}
+use Rattle.std.specs.Prelude.{Bool, true, false, List}
+use Rattle.std.specs.List.{list_any}
 use Rattle.geo_grammar.specs.declared.fault.Fault.{Fault}
 use Rattle.geo_grammar.specs.declared.fault.Fault.TheVariants.{Unknown, BadLine, BadData, LineTooLong, TooLarge, BadNumber}
 use Rattle.geo_grammar.specs.declared.item.Item.{Item}
@@ -30,3 +31,7 @@ is_long_fault BadNumber = false
 abbrev pub says_too_long : Item → Bool
 says_too_long (item.Request request) = false
 says_too_long (item.Fault why) = is_long_fault why
+
+-- one of the items says so
+abbrev pub has_long_line : List Item → Bool
+has_long_line items = list_any says_too_long items

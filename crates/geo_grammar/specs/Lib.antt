@@ -9,3 +9,4 @@ pub mod Blocks
 pub mod States
 pub mod Requests
 pub mod Replies
+pub mod Quitting

@@ -10,7 +10,8 @@ use Rattle.geo_grammar.specs.declared.cut.LineCut.TheVariants.{Open, Ends, TooLo
 -- what the piece does behind the bytes of a line that were seen
 abbrev pub LineLeads : List ℕ → List ℕ → LineCut → Type 0
 LineLeads seen piece Open = Leads (InLine seen) piece [] (InLine (seen ++ piece)) [] × (length seen + length piece ≤ longest_line)
-LineLeads seen piece (Ends front rest) = Leads (InLine seen) piece (line_turn (seen ++ front.now)).gives (line_turn (seen ++ front.now)).next rest.now
+LineLeads seen piece (Ends front rest) =
+    Leads (InLine seen) piece (line_turn (seen ++ front.now)).gives (line_turn (seen ++ front.now)).next rest.now
 LineLeads seen piece TooLong = Leads (InLine seen) piece (item.Fault LineTooLong ∷ []) Ended []
 
 -- at most that much of the piece is left to be read, one more where the line ends

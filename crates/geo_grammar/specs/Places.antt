@@ -51,7 +51,8 @@ line_turn line = said_turn (line_says line)
 
 -- in a line, at a byte that is none of its end
 abbrev pub seen_turn : List ℕ → ℕ → Turn
-seen_turn seen b = if nat_lt (length seen) longest_line then goes_to (InLine (seen ++ b ∷ [])) else record { gives = item.Fault fault.LineTooLong ∷ []; next = Ended }
+seen_turn seen b = if nat_lt (length seen) longest_line then goes_to (InLine (seen ++ b ∷ []))
+    else record { gives = item.Fault fault.LineTooLong ∷ []; next = Ended }
 
 -- behind what is skipped
 abbrev pub skip_turn : BlockFault → ℕ → Turn
@@ -59,7 +60,8 @@ skip_turn why b = if b == 10 then gives_one (item.Fault (block_fault why)) else 
 
 abbrev pub turn : Place → ℕ → Turn
 turn (InLine seen) b = if b == 10 then line_turn seen else seen_turn seen b
-turn (InData head got) b = if nat_lt (length got) head.size then goes_to (InData head (got ++ b ∷ [])) else (if b == 13 then goes_to (AtReturn head got) else skip_turn BadData b)
+turn (InData head got) b = if nat_lt (length got) head.size then goes_to (InData head (got ++ b ∷ []))
+    else (if b == 13 then goes_to (AtReturn head got) else skip_turn BadData b)
 turn (AtReturn head got) b = if b == 10 then gives_one (item.Request (stored head got)) else goes_to (Skips 0 BadData)
 turn (Skips left why) b = if nat_lt 0 left then goes_to (Skips (left - 1) why) else skip_turn why b
 turn Ended b = goes_to Ended

@@ -48,7 +48,8 @@ said_items more text (Huge size) = skip_items more (cut_line (drop size text))
 
 abbrev pub line_items : (List ℕ → List Item) → List ℕ → Cut → List Item
 line_items more text Open = if nat_lt longest_line (length text) then item.Fault LineTooLong ∷ [] else []
-line_items more text (Ends line rest) = if nat_lt longest_line (length line) then item.Fault LineTooLong ∷ [] else said_items more rest (line_says line)
+line_items more text (Ends line rest) = if nat_lt longest_line (length line) then item.Fault LineTooLong ∷ []
+    else said_items more rest (line_says line)
 
 -- at most that many items: that of the first line and its block, and then those of what follows
 unfoldable pub items_in : ℕ → List ℕ → List Item

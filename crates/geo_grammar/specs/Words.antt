@@ -22,7 +22,8 @@ words_of line = filter is_filled (slice_split is_space line)
 
 -- the number that decimal digits write behind those that wrote n, if it is at most `most`
 abbrev pub number_after : ℕ → ℕ → List ℕ → Option ℕ
-number_after most n digits = if all_ascii_digits digits && nat_le (digits_value_after 10 n digits) most then Some (digits_value_after 10 n digits) else None
+number_after most n digits =
+    if all_ascii_digits digits && nat_le (digits_value_after 10 n digits) most then Some (digits_value_after 10 n digits) else None
 
 -- the number that decimal digits write, leading zeros allowed, if it is at most `most`
 abbrev pub number_of : ℕ → List ℕ → Option ℕ
@@ -31,4 +32,5 @@ number_of most word = if is_filled word then number_after most 0 word else None
 -- a number from -2^63 to 2^63 - 1, which may begin with a minus
 abbrev pub signed_of : List ℕ → Option ℤ
 signed_of [] = None
-signed_of (b ∷ bs) = if b == 45 then option_map (λ n. neg_ℤ (pos n)) (number_of 9223372036854775808 bs) else option_map pos (number_of 9223372036854775807 (b ∷ bs))
+signed_of (b ∷ bs) = if b == 45 then option_map (λ n. neg_ℤ (pos n)) (number_of 9223372036854775808 bs)
+    else option_map pos (number_of 9223372036854775807 (b ∷ bs))

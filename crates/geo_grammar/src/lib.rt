@@ -3,8 +3,8 @@
 //! A [`Reader`] is fed pieces as they come and gives each request or fault with the piece that brings its last byte;
 //! [`render`] and [`fault_text`] are the bytes of an answer. Both follow the text part of memcached's protocol.txt.
 //! `specs/` says what a text means, whole, by lines and blocks; contracts see a reader as the text that it was fed. How it
-//! stands between two bytes is its own matter: the proofs show that the two agree. The crate stands on keys and lists, and knows nothing of sites, values held or sockets; a [`Device`]
-//! is any std reader or writer that remembers its first error.
+//! stands between two bytes is its own matter: the proofs show that the two agree. The crate stands on keys and lists, and knows
+//! nothing of sites, values held or sockets; a [`Device`] is any std reader or writer that remembers its first error.
 #![tactic(auto)]
 
 mod block;

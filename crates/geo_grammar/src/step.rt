@@ -142,7 +142,8 @@ fn block_step<'a>(
 ) -> Result<Turn<'a>, AllocError>
     requires place { IsPlace (block_place head got.items returned) }
     requires some { 0 < length piece.now }
-    ensures leads { IfOk result (λ t. Leads (block_place head got.items returned) piece.now (option_to_list t.item) (place_of t.state) t.rest.now) }
+    ensures leads { IfOk result
+        (λ t. Leads (block_place head got.items returned) piece.now (option_to_list t.item) (place_of t.state) t.rest.now) }
     ensures place { IfOk result (λ t. IsPlace (place_of t.state)) }
     ensures shorter { IfOk result (λ t. length t.rest.now < length piece.now) }
 {

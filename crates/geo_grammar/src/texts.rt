@@ -19,7 +19,8 @@ fn push_number(out: &mut Vec<u8>, number: u64) -> Result<(), AllocError>
 }
 
 fn push_head(out: &mut Vec<u8>, found: &Found) -> Result<(), AllocError>
-    ensures text { OnOk result (out.new.items ≡ out.old.items ++ codes "VALUE " ++ found.now.key ++ codes " " ++ decimal found.now.flags ++ codes " " ++ decimal (length found.now.bytes)) }
+    ensures text { OnOk result (out.new.items ≡ out.old.items ++ codes "VALUE " ++ found.now.key ++ codes " "
+        ++ decimal found.now.flags ++ codes " " ++ decimal (length found.now.bytes)) }
     ensures keeps { StartsWith out.new.items out.old.items }
 {
     out.extend_from_slice(b"VALUE ")?;

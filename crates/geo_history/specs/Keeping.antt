@@ -80,7 +80,14 @@ IsKept story = Keeps (who_in story.site) story.opening story.steps (standing_in 
 
 -- a seat's next step, for whose bytes those of a victim went, and which made these of older ones
 abbrev pub step_with : ℕ → ℕ → Event → Answer → Option (List ℕ) → Option (List ℕ × ℕ) → Step
-step_with seat number event answer victim made = record { seat = seat; number = number; event = event; answer = answer; victim = victim; made = made }
+step_with seat number event answer victim made = record {
+  seat = seat;
+  number = number;
+  event = event;
+  answer = answer;
+  victim = victim;
+  made = made;
+}
 
 abbrev pub step_of : ℕ → ℕ → Event → Answer → Step
 step_of seat number event answer = step_with seat number event answer None None
@@ -98,7 +105,8 @@ abbrev pub flush_count : Story → ℕ → ℕ
 flush_count story now = cond (is_flush_due story now) 1 0
 
 abbrev pub flush_steps : Story → ℕ → ℕ → List Step
-flush_steps story seat now = cond {A = List Step} (is_flush_due story now) (step_of seat (made_by story seat + 1) (Tick now) (Ticked true) ∷ []) []
+flush_steps story seat now =
+    cond {A = List Step} (is_flush_due story now) (step_of seat (made_by story seat + 1) (Tick now) (Ticked true) ∷ []) []
 
 -- the seat's number of the step after a due flush
 abbrev pub number_after : Story → ℕ → ℕ → ℕ
@@ -118,8 +126,10 @@ pub record ActsFor (old new : Story) (seat now : ℕ) (request : Request) (repli
   pub does : ActDoes old.site new.site now request replies.0
   pub equal : replies.1 ≡ replies.0
   pub said : replies.0 ≢ OutOfMemory
-  pub goes_on : GoesOn old new (flush_steps old seat now ++ step_with seat (number_after old seat now) (Command now request) (Replied replies.0)
-      (cond (is_done replies.0) (victim_in does.mid (issued_in does.mid now request)) None) (cond (is_done replies.0) (made_on now (visible_in (state_in does.mid) now) request) None) ∷ [])
+  pub goes_on : GoesOn old new (flush_steps old seat now
+      ++ step_with seat (number_after old seat now) (Command now request) (Replied replies.0)
+      (cond (is_done replies.0) (victim_in does.mid (issued_in does.mid now request)) None)
+      (cond (is_done replies.0) (made_on now (visible_in (state_in does.mid) now) request) None) ∷ [])
 
 abbrev pub ActForDoes : Story → Story → ℕ → ℕ → Request → Result (Reply × Reply) AllocError → Type 0
 ActForDoes old new seat now request (Ok replies) = ActsFor old new seat now request replies
@@ -127,8 +137,10 @@ ActForDoes old new seat now request (Err refused) = DoesNothing old new seat now
 
 -- what a send does: the parcel twice, or the refusal, and its step; the site stays
 abbrev pub SendForDoes : Story → Story → ℕ → ℕ → Result (Parcel × Parcel) SendError → Type 0
-SendForDoes old new seat to (Ok parcels) = SendDoes old.site to (Ok parcels.0) × (parcels.1 ≡ parcels.0) × (new.site ≡ old.site) × GoesOn old new (step_of seat (made_by old seat + 1) (Send to) (Sent parcels.0) ∷ [])
-SendForDoes old new seat to (Err sends.NoSuchSite) = SendDoes old.site to (Err sends.NoSuchSite) × (new.site ≡ old.site) × GoesOn old new (step_of seat (made_by old seat + 1) (Send to) (SendRefused sends.NoSuchSite) ∷ [])
+SendForDoes old new seat to (Ok parcels) = SendDoes old.site to (Ok parcels.0) × (parcels.1 ≡ parcels.0) × (new.site ≡ old.site)
+    × GoesOn old new (step_of seat (made_by old seat + 1) (Send to) (Sent parcels.0) ∷ [])
+SendForDoes old new seat to (Err sends.NoSuchSite) = SendDoes old.site to (Err sends.NoSuchSite) × (new.site ≡ old.site)
+    × GoesOn old new (step_of seat (made_by old seat + 1) (Send to) (SendRefused sends.NoSuchSite) ∷ [])
 SendForDoes old new seat to (Err sends.Memory) = new ≡ old
 
 -- nothing that is known, held, counted or told of a site changes, and no step is made
@@ -167,7 +179,8 @@ RemoveForDoes old new seat (Ok count) = RemovesFor old new seat count
 RemoveForDoes old new seat (Err refused) = new ≡ old
 
 abbrev pub EvictForDoes : Story → Story → ℕ → List ℕ → Result Bool AllocError → Type 0
-EvictForDoes old new seat key (Ok done) = EvictDoes old.site new.site key done × GoesOn old new (step_of seat (made_by old seat + 1) (Evict key) (Evicted done) ∷ [])
+EvictForDoes old new seat key (Ok done) = EvictDoes old.site new.site key done
+    × GoesOn old new (step_of seat (made_by old seat + 1) (Evict key) (Evicted done) ∷ [])
 EvictForDoes old new seat key (Err refused) = new ≡ old
 
 abbrev pub TickForDoes : Story → Story → ℕ → ℕ → Result Bool AllocError → Type 0
@@ -181,7 +194,8 @@ pub record ReapsFor (old new : Story) (seat now : ℕ) (key : List ℕ) (result 
 
 abbrev pub ReapForDoes : Story → Story → ℕ → ℕ → List ℕ → Result Bool ReapError → Type 0
 ReapForDoes old new seat now key (Ok done) = ReapsFor old new seat now key (Ok done) (Reaped done)
-ReapForDoes old new seat now key (Err reaps.ClockEnded) = ReapsFor old new seat now key (Err reaps.ClockEnded) (ReapRefused reaps.ClockEnded)
+ReapForDoes old new seat now key (Err reaps.ClockEnded) =
+    ReapsFor old new seat now key (Err reaps.ClockEnded) (ReapRefused reaps.ClockEnded)
 ReapForDoes old new seat now key (Err reaps.Memory) = DoesNothing old new seat now
 
 -- what a juggle does: the site's move, and no step

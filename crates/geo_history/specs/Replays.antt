@@ -28,7 +28,8 @@ use Rattle.geo_history.specs.declared.step.Step.{Step}
 use Rattle.geo_history.specs.Standings.{Who, Standing, clock_at, visible_at, basis_at, issued_at, issue_all, lets_go, flushed, carries_out, takes as taken, removes, evicts, reaped_at}
 
 -- a request where no flush is due: the reply is the one that is owed, and never want of memory
-pub record Requested (who : Who) (old new : Standing) (now : ℕ) (request : Request) (reply : Reply) (victim : Option (List ℕ)) (made : Option (List ℕ × ℕ)) : Type 0 where
+pub record Requested (who : Who) (old new : Standing) (now : ℕ) (request : Request) (reply : Reply) (victim : Option (List ℕ))
+    (made : Option (List ℕ × ℕ)) : Type 0 where
   pub records : ℕ
   pub items : ℕ
   pub recorded : IsRecordCount old.map records
@@ -55,12 +56,14 @@ Undue st now = flushes_due st.waiting (clock_at st) now ≡ false
 
 -- a parcel that it takes, and why it does not take one; want of memory left no step
 abbrev pub Takes : Who → Standing → Parcel → Type 0
-Takes who st parcel = (parcel.to ≡ who.number) × (is_sound (length st.vector) who.number parcel ≡ true) × (vector_joined st.vector parcel.base ≡ st.vector)
+Takes who st parcel = (parcel.to ≡ who.number) × (is_sound (length st.vector) who.number parcel ≡ true)
+    × (vector_joined st.vector parcel.base ≡ st.vector)
 
 abbrev pub RefusesFor : Who → Standing → Parcel → TakeError → Type 0
 RefusesFor who st parcel takes.NotForMe = parcel.to ≢ who.number
 RefusesFor who st parcel takes.UnknownSite = (parcel.to ≡ who.number) × (is_sound (length st.vector) who.number parcel ≡ false)
-RefusesFor who st parcel takes.Gap = (parcel.to ≡ who.number) × (is_sound (length st.vector) who.number parcel ≡ true) × (vector_joined st.vector parcel.base ≢ st.vector)
+RefusesFor who st parcel takes.Gap = (parcel.to ≡ who.number) × (is_sound (length st.vector) who.number parcel ≡ true)
+    × (vector_joined st.vector parcel.base ≢ st.vector)
 RefusesFor who st parcel takes.Memory = ⊥
 
 -- what it tells of a take: whether the vector rose, and how many values it holds no longer
@@ -111,20 +114,25 @@ Leads who old (Send to) (SendRefused why) new = SendRefuses who old to why × (n
 Leads who old (Take parcel) (Took told) new = Takes who old parcel × Tells old new parcel told × (new ≡ taken who parcel old)
 Leads who old (Take parcel) (TakeRefused why) new = RefusesFor who old parcel why × (new ≡ old)
 Leads who old Remove (Removed count) new = Drops old new count × (new ≡ removes who old)
-Leads who old (Tick now) (Ticked done) new = (done ≡ true) × (flushes_due old.waiting (clock_at old) now ≡ true) × (new ≡ flushed who now old)
-Leads who old (Reap now key) (Reaped done) new = Undue old now × (done ≡ is_reapable who.number who.limits.reap_after now (version_in (old.map key))) × (lacks (clock_at old) (reaped_at who old now key) ≡ false) × (new ≡ issue_all who (reaped_at who old now key) old)
+Leads who old (Tick now) (Ticked done) new = (done ≡ true) × (flushes_due old.waiting (clock_at old) now ≡ true)
+    × (new ≡ flushed who now old)
+Leads who old (Reap now key) (Reaped done) new = Undue old now
+    × (done ≡ is_reapable who.number who.limits.reap_after now (version_in (old.map key)))
+    × (lacks (clock_at old) (reaped_at who old now key) ≡ false) × (new ≡ issue_all who (reaped_at who old now key) old)
 Leads who old (Reap now key) (ReapRefused why) new = Undue old now × ReapRefuses who old now key why × (new ≡ old)
 Leads who old event answer new = ⊥
 
 abbrev pub StepsTo : Who → Standing → Event → Answer → Option (List ℕ) → Option (List ℕ × ℕ) → Standing → Type 0
-StepsTo who old (Command now request) (Replied reply) victim made new = Undue old now × Commanded (is_stuck old.waiting (clock_at old) now) who old new now request reply victim made
+StepsTo who old (Command now request) (Replied reply) victim made new = Undue old now
+    × Commanded (is_stuck old.waiting (clock_at old) now) who old new now request reply victim made
 StepsTo who old (Command now request) answer victim made new = ⊥
 StepsTo who old event answer victim made new = (victim ≡ None) × (made ≡ None) × Leads who old event answer new
 
 -- the steps, one after the other, lead from one standing to another
 abbrev pub Replays : Who → Standing → List Step → Standing → Type 0
 Replays who first [] last = last ≡ first
-Replays who first (s ∷ steps) last = (next : Standing) × StepsTo who first s.event s.answer s.victim s.made next × Replays who next steps last
+Replays who first (s ∷ steps) last = (next : Standing) × StepsTo who first s.event s.answer s.victim s.made next
+    × Replays who next steps last
 
 -- the steps of one seat, in order
 abbrev pub steps_of : ℕ → List Step → List Step

@@ -50,7 +50,15 @@ standing_in site = record {
 
 -- a site that knows nothing
 abbrev pub nothing_yet : ℕ → Standing
-nothing_yet sites = record { vector = zeros sites; rows = none_heard sites; floor = None; map = λ key. (None, None); held = λ key. None; waiting = None; counts = none_counted }
+nothing_yet sites = record {
+  vector = zeros sites;
+  rows = none_heard sites;
+  floor = None;
+  map = λ key. (None, None);
+  held = λ key. None;
+  waiting = None;
+  counts = none_counted;
+}
 
 -- plain data says what a site stands at, and of the bytes that it holds their SHA-256 and length
 pub record Describes (state : SiteState) (st : Standing) : Type 0 where

@@ -10,7 +10,9 @@ pub record Entries (K V : Type 0) : Type 0 where
   pub spare : ℕ
 
 abbrev pub entries_code : {K V : Type 0} → Coded K → Coded V → Coded (Entries K V)
-entries_code {K} {V} k v = code_by (List (K × V) × ℕ) (coded× (coded_list (coded× k v)) coded_ℕ) (λ m. (m.entries, m.spare)) (λ p. record { entries = p.0; spare = p.1 }) (λ _. refl)
+entries_code {K} {V} k v =
+    code_by (List (K × V) × ℕ) (coded× (coded_list (coded× k v)) coded_ℕ) (λ m. (m.entries, m.spare))
+    (λ p. record { entries = p.0; spare = p.1 }) (λ _. refl)
 
 -- the value at a key
 abbrev pub get : {K V : Type 0} → (K → K → Bool) → Entries K V → K → Option V

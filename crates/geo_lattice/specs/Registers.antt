@@ -30,10 +30,12 @@ pub both_total : {A B : Type 0} {R : A → A → Ordering} {S : B → B → Orde
 both_total {A} {B} r s = then_total (on_total (λ (p : A × B). p.0) r) (on_total (λ (p : A × B). p.1) s)
 
 -- the same, where the orders are told by what they answer
-pub total_by : {A B : Type 0} {R : A → A → Ordering} {S : B → B → Ordering} (P : A → A → Ordering) (Q : B → B → Ordering) → ((a b : A) → R a b ≡ P a b) → ((a b : B) → S a b ≡ Q a b) → IsTotalOrder R → IsTotalOrder S → IsTotalOrder (by_both P Q)
+pub total_by : {A B : Type 0} {R : A → A → Ordering} {S : B → B → Ordering} (P : A → A → Ordering) (Q : B → B → Ordering)
+    → ((a b : A) → R a b ≡ P a b) → ((a b : B) → S a b ≡ Q a b) → IsTotalOrder R → IsTotalOrder S → IsTotalOrder (by_both P Q)
 total_by P Q p q r s = both_total (same_total p r) (same_total q s)
 
-pub exact_by : {A B : Type 0} {R : A → A → Ordering} {S : B → B → Ordering} (P : A → A → Ordering) (Q : B → B → Ordering) → ((a b : A) → R a b ≡ P a b) → ((a b : B) → S a b ≡ Q a b) → CmpEqualImpliesEq R → CmpEqualImpliesEq S → CmpEqualImpliesEq (by_both P Q)
+pub exact_by : {A B : Type 0} {R : A → A → Ordering} {S : B → B → Ordering} (P : A → A → Ordering) (Q : B → B → Ordering)
+    → ((a b : A) → R a b ≡ P a b) → ((a b : B) → S a b ≡ Q a b) → CmpEqualImpliesEq R → CmpEqualImpliesEq S → CmpEqualImpliesEq (by_both P Q)
 exact_by P Q p q r s = exact_pairs P Q (λ a b h. r a b (p a b ∙ h)) (λ a b h. s a b (q a b ∙ h))
 
 -- by how they compare, the second where the first is less

@@ -50,11 +50,14 @@ impl<S: Exact + Drop, V: Exact + Drop> Lattice for Lww<S, V> {
 
     ghost HasRoom = { λ _ _. Unit {0} };
 
-    ghost associative = { newer_assoc (by_both S.order V.order) (total_by S.order V.order S.order_is V.order_is S.total V.total) (exact_by S.order V.order S.order_is V.order_is S.exact V.exact) };
+    ghost associative = { newer_assoc (by_both S.order V.order) (total_by S.order V.order S.order_is V.order_is S.total V.total)
+        (exact_by S.order V.order S.order_is V.order_is S.exact V.exact) };
 
-    ghost commutative = { newer_comm (by_both S.order V.order) (total_by S.order V.order S.order_is V.order_is S.total V.total) (exact_by S.order V.order S.order_is V.order_is S.exact V.exact) };
+    ghost commutative = { newer_comm (by_both S.order V.order) (total_by S.order V.order S.order_is V.order_is S.total V.total)
+        (exact_by S.order V.order S.order_is V.order_is S.exact V.exact) };
 
-    ghost idempotent = { newer_same (by_both S.order V.order) (total_by S.order V.order S.order_is V.order_is S.total V.total) (exact_by S.order V.order S.order_is V.order_is S.exact V.exact) };
+    ghost idempotent = { newer_same (by_both S.order V.order) (total_by S.order V.order S.order_is V.order_is S.total V.total)
+        (exact_by S.order V.order S.order_is V.order_is S.exact V.exact) };
 
     ghost least_joined = { λ a. refl };
 

@@ -124,7 +124,8 @@ impl<K: Twin + Eq + Hash, L: Bottom> MapOf<K, L> {
     /// The key of some value that passes a test, None exactly where no value does. It looks at one value after another, and takes no
     /// memory.
     pub fn found<T: Test<L>>(&self, test: &T) -> Option<&K>
-        ensures { MatchOption result ((q : K) → meaning_at false (T.passing test.now) K.eq self.now q ≡ false) (λ key. meaning_at false (T.passing test.now) K.eq self.now key.now ≡ true) }
+        ensures { MatchOption result ((q : K) → meaning_at false (T.passing test.now) K.eq self.now q ≡ false)
+            (λ key. meaning_at false (T.passing test.now) K.eq self.now key.now ≡ true) }
     {
         for i in 0..self.entries.len() {
             if let Some((key, value)) = self.entries.get_index(i) {
@@ -138,7 +139,9 @@ impl<K: Twin + Eq + Hash, L: Bottom> MapOf<K, L> {
 
     /// Joins one value. Where a growth was refused, nothing is joined. None is needed where there is a value with room for it.
     pub fn put(&mut self, alloc: Global, key: &K, value: L) -> Result<(), AllocError>
-        ensures ok { OnOk result ((q : K) → meaning_at L.least L.meaning K.eq self.new q ≡ cond (K.eq key.now q) (L.joined (meaning_at L.least L.meaning K.eq self.old q) (L.meaning value)) (meaning_at L.least L.meaning K.eq self.old q)) }
+        ensures ok { OnOk result ((q : K) → meaning_at L.least L.meaning K.eq self.new q
+            ≡ cond (K.eq key.now q) (L.joined (meaning_at L.least L.meaning K.eq self.old q) (L.meaning value))
+            (meaning_at L.least L.meaning K.eq self.old q)) }
         ensures err { OnErr result ((q : K) → meaning_at L.least L.meaning K.eq self.new q ≡ meaning_at L.least L.meaning K.eq self.old q) }
         ensures succeeds { IsSome (get K.eq self.old key.now) → RoomFor L.HasRoom (get K.eq self.old key.now) (Some value) → IsOk result }
     {
@@ -160,7 +163,8 @@ impl<K: Twin + Eq + Hash, L: Bottom> MapOf<K, L> {
 
     /// Changes each value, and drops those that are empty then. It takes no memory.
     pub fn change_all<C: Change<L>>(&mut self, by: &C)
-        ensures changed { (q : K) → meaning_at L.least L.meaning K.eq self.new q ≡ meaning_at L.least (λ v. L.meaning (C.changed by.now v)) K.eq self.old q }
+        ensures changed { (q : K) → meaning_at L.least L.meaning K.eq self.new q
+            ≡ meaning_at L.least (λ v. L.meaning (C.changed by.now v)) K.eq self.old q }
         ensures no_more { length self.new.entries ≤ length self.old.entries }
     {
         // Its contract has that no two keys are equal.
@@ -174,7 +178,9 @@ impl<K: Twin + Eq + Hash, L: Bottom> MapOf<K, L> {
     fn join_one(&mut self, key: K, value: L)
         requires value { RoomFor L.HasRoom (get K.eq self.old key) (Some value) }
         requires place { is_some (get K.eq self.old key) ≡ false → 0 < self.old.spare }
-        ensures joined { (q : K) → meaning_at L.least L.meaning K.eq self.new q ≡ cond (K.eq key q) (L.joined (meaning_at L.least L.meaning K.eq self.old q) (L.meaning value)) (meaning_at L.least L.meaning K.eq self.old q) }
+        ensures joined { (q : K) → meaning_at L.least L.meaning K.eq self.new q
+            ≡ cond (K.eq key q) (L.joined (meaning_at L.least L.meaning K.eq self.old q) (L.meaning value))
+            (meaning_at L.least L.meaning K.eq self.old q) }
         ensures others { (q : K) → K.eq key q ≡ false → get K.eq self.new q ≡ get K.eq self.old q }
         ensures kept { (q : K) → is_some (get K.eq self.old q) ≡ true → is_some (get K.eq self.new q) ≡ true }
         ensures room { self.old.spare ≤ self.new.spare + cond (is_some (get K.eq self.old key)) 0 1 }
@@ -225,7 +231,10 @@ impl<K: Twin + Eq + Hash, L: Bottom> MapOf<K, L> {
 
     /// Whether joining what the values of the other map show would change nothing.
     pub fn covers_shown<S: Show<L, Item = L>>(&self, other: &Self, show: &S) -> bool
-        ensures { IsTrue result ↔ ((q : K) → L.joined (meaning_at L.least L.meaning K.eq self.now q) (meaning_or L.least L.meaning (option_and_then (S.shown show.now) (get K.eq other.now q))) ≡ meaning_at L.least L.meaning K.eq self.now q) }
+        ensures { IsTrue result
+            ↔ ((q : K) → L.joined (meaning_at L.least L.meaning K.eq self.now q)
+            (meaning_or L.least L.meaning (option_and_then (S.shown show.now) (get K.eq other.now q)))
+            ≡ meaning_at L.least L.meaning K.eq self.now q) }
     {
         for i in 0..other.entries.len() {
             if let Some((key, value)) = other.entries.get_index(i) {
@@ -240,7 +249,9 @@ impl<K: Twin + Eq + Hash, L: Bottom> MapOf<K, L> {
     }
 
     fn covers_one(&self, key: &K, value: &L) -> bool
-        ensures { IsTrue result ↔ (L.joined (meaning_at L.least L.meaning K.eq self.now key.now) (L.meaning value.now) ≡ meaning_at L.least L.meaning K.eq self.now key.now) }
+        ensures { IsTrue result
+            ↔ (L.joined (meaning_at L.least L.meaning K.eq self.now key.now) (L.meaning value.now)
+            ≡ meaning_at L.least L.meaning K.eq self.now key.now) }
     {
         match self.entries.get(key) {
             Some(mine) => mine.covers(value),
@@ -308,7 +319,9 @@ impl<K: Twin + Eq + Hash, L: Bottom + Flat> MapOf<K, L> {
 
     /// Whether joining a value changes nothing, which is found only where its key stands at this place, and the place behind it.
     fn look_at(&self, place: usize, key: &K, value: &L) -> (bool, usize)
-        ensures { result.0 ≡ true → (q : K) → meaning_at L.least L.meaning K.eq self.now q ≡ cond (K.eq key.now q) (L.joined (meaning_at L.least L.meaning K.eq self.now q) (L.meaning value.now)) (meaning_at L.least L.meaning K.eq self.now q) }
+        ensures { result.0 ≡ true → (q : K) → meaning_at L.least L.meaning K.eq self.now q
+            ≡ cond (K.eq key.now q) (L.joined (meaning_at L.least L.meaning K.eq self.now q) (L.meaning value.now))
+            (meaning_at L.least L.meaning K.eq self.now q) }
     {
         match self.entries.get_index(place) {
             Some((other, mine)) if other == key => (mine.covers(value), place.saturating_add(1)),
@@ -319,7 +332,9 @@ impl<K: Twin + Eq + Hash, L: Bottom + Flat> MapOf<K, L> {
     /// Changes each of these values and joins it. A key may be named more than once. It takes no memory.
     pub fn join_list<C: Change<L>>(&mut self, values: Vec<(K, L)>, by: &C)
         requires { HasRoomForList K.eq self.old values.items }
-        ensures { (q : K) → meaning_at L.least L.meaning K.eq self.new q ≡ L.joined (meaning_at L.least L.meaning K.eq self.old q) (all_joined L.least (λ v. L.meaning (C.changed by.now v)) L.joined K.eq values.items q) }
+        ensures { (q : K) → meaning_at L.least L.meaning K.eq self.new q
+            ≡ L.joined (meaning_at L.least L.meaning K.eq self.old q)
+            (all_joined L.least (λ v. L.meaning (C.changed by.now v)) L.joined K.eq values.items q) }
     {
         let mut values = values;
         // A value that is there already is found without a look-up where it stands behind the one before it.
@@ -337,7 +352,9 @@ impl<K: Twin + Eq + Hash, L: Bottom + Flat> MapOf<K, L> {
     /// Changes each value of the other map and joins it. It takes no memory.
     pub fn join_changed<C: Change<L>>(&mut self, other: Self, by: &C)
         requires { missing K.eq self.old.entries other.entries ≤ self.old.spare }
-        ensures { (q : K) → meaning_at L.least L.meaning K.eq self.new q ≡ L.joined (meaning_at L.least L.meaning K.eq self.old q) (meaning_at L.least (λ v. L.meaning (C.changed by.now v)) K.eq other q) }
+        ensures { (q : K) → meaning_at L.least L.meaning K.eq self.new q
+            ≡ L.joined (meaning_at L.least L.meaning K.eq self.old q)
+            (meaning_at L.least (λ v. L.meaning (C.changed by.now v)) K.eq other q) }
     {
         let MapOf { mut entries } = other;
         while let Some((key, mut value)) = entries.pop() {
@@ -349,7 +366,9 @@ impl<K: Twin + Eq + Hash, L: Bottom + Flat> MapOf<K, L> {
     /// Joins one value at a key that has one. It takes no memory.
     pub fn join_at(&mut self, key: &K, value: L)
         requires { IsSome (get K.eq self.old key.now) }
-        ensures { (q : K) → meaning_at L.least L.meaning K.eq self.new q ≡ cond (K.eq key.now q) (L.joined (meaning_at L.least L.meaning K.eq self.old q) (L.meaning value)) (meaning_at L.least L.meaning K.eq self.old q) }
+        ensures { (q : K) → meaning_at L.least L.meaning K.eq self.new q
+            ≡ cond (K.eq key.now q) (L.joined (meaning_at L.least L.meaning K.eq self.old q) (L.meaning value))
+            (meaning_at L.least L.meaning K.eq self.old q) }
     {
         if let Some(mine) = self.entries.get_mut(key) {
             mine.join(value);
@@ -367,7 +386,9 @@ impl<K: Twin + Ord + Hash, L: Bottom> MapOf<K, L> {
     ) -> Result<Vec<(K, &'a L)>, AllocError>
         ensures rising { IfOk result (λ all. IsStrictlySortedBy K.cmp (keys_of all.items)) }
         ensures unique { IfOk result (λ all. IsDistinct K.eq (keys_of all.items)) }
-        ensures shown { IfOk result (λ all. (q : K) → option_and_then (λ v. S.shown show.now v.now) (lookup (K.eq q) all.items) ≡ option_and_then (S.shown show.now) (get K.eq self.now q)) }
+        ensures shown { IfOk result (λ all. (q : K)
+            → option_and_then (λ v. S.shown show.now v.now) (lookup (K.eq q) all.items)
+            ≡ option_and_then (S.shown show.now) (get K.eq self.now q)) }
     {
         let mut all = Vec::new(alloc);
         for i in 0..self.entries.len() {
@@ -390,7 +411,8 @@ impl<K: Twin + Ord + Hash, L: Bottom> MapOf<K, L> {
     ) -> Result<Vec<(K, S::Item)>, AllocError>
         ensures rising { IfOk result (λ all. IsStrictlySortedBy K.cmp (keys_of all.items)) }
         ensures unique { IfOk result (λ all. IsDistinct K.eq (keys_of all.items)) }
-        ensures shown { IfOk result (λ all. (q : K) → lookup (K.eq q) all.items ≡ option_and_then (S.shown show.now) (get K.eq self.now q)) }
+        ensures shown { IfOk result (λ all. (q : K)
+            → lookup (K.eq q) all.items ≡ option_and_then (S.shown show.now) (get K.eq self.now q)) }
     {
         let showing = self.showing(alloc, show)?;
         let mut all = Vec::with_capacity(alloc, showing.len())?;

@@ -153,7 +153,8 @@ StopsRead old TooLong new = ⊥
 -- why so many bytes don't wait
 abbrev pub StopsFill : ℕ → Incoming → LinkError → Incoming → Type 0
 StopsFill least old Closed new = (new.waiting ≡ []) × IsAtEnd new.unread × (old.failed ≡ false → new.failed ≡ false)
-StopsFill least old (Frame fault) new = (fault ≡ Short) × (0 < length new.waiting) × (length new.waiting < least) × IsAtEnd new.unread × (old.failed ≡ false → new.failed ≡ false)
+StopsFill least old (Frame fault) new = (fault ≡ Short) × (0 < length new.waiting) × (length new.waiting < least) × IsAtEnd new.unread
+    × (old.failed ≡ false → new.failed ≡ false)
 StopsFill least old Io new = new.failed ≡ true
 StopsFill least old Memory new = old.failed ≡ false → new.failed ≡ false
 StopsFill least old TooLong new = ⊥

@@ -58,7 +58,11 @@ entered item l = record l { hot = (item, unseen) ∷ l.hot }
 
 -- a hit moves nothing
 abbrev pub touched_by : {I : Type 0} → (I → I → Bool) → I → ListsOf I → ListsOf I
-touched_by same item l = record { hot = touched_in_by same item l.hot; warm = touched_in_by same item l.warm; cold = touched_in_by same item l.cold }
+touched_by same item l = record {
+  hot = touched_in_by same item l.hot;
+  warm = touched_in_by same item l.warm;
+  cold = touched_in_by same item l.cold;
+}
 
 -- an item is gone
 abbrev pub left_by : {I : Type 0} → (I → I → Bool) → I → ListsOf I → ListsOf I

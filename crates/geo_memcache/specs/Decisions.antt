@@ -47,7 +47,8 @@ stores Append flags exptime seen bytes now (Some e) = makes Stored e (e.bytes ++
 stores Prepend flags exptime seen bytes now None = (NotStored, Nothing)
 stores Prepend flags exptime seen bytes now (Some e) = makes Stored e (bytes ++ e.bytes)
 stores Cas flags exptime seen bytes now None = (NotFound, Nothing)
-stores Cas flags exptime seen bytes now (Some e) = cond {A = Verdict} (is_seen seen e.unique) (keeps flags exptime bytes now) (Exists, Nothing)
+stores Cas flags exptime seen bytes now (Some e) =
+    cond {A = Verdict} (is_seen seen e.unique) (keeps flags exptime bytes now) (Exists, Nothing)
 
 -- a delete always leaves a tombstone
 abbrev pub deletes : Option Entry → Verdict

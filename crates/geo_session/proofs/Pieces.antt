@@ -9,7 +9,9 @@ use Rattle.geo_grammar.specs.Protocol.{items_in as items_up_to, items_of}
 use Rattle.geo_grammar.specs.declared.item.Item.{Item}
 use Rattle.geo_grammar.specs.declared.reply.Reply.{Reply}
 use Rattle.geo_grammar.specs.declared.request.Request.{Request}
-use Rattle.geo_session.specs.Closings.{is_quit, has_quit, has_long_line, until_quit, StaysOpen}
+use Rattle.geo_grammar.specs.Faults.{has_long_line}
+use Rattle.geo_grammar.specs.Quitting.{is_quit, has_quit, until_quit}
+use Rattle.geo_session.specs.Closings.{StaysOpen}
 use Rattle.geo_session.specs.Connections.{Connection, Answered, Broken, BreaksFor, IsRefused, IsEnd}
 use Rattle.geo_session.specs.Exchanges.{Exchange, items_in, text_of, count_after, Runs}
 use Rattle.geo_session.specs.Sessions.{IsDue, Ended, Sends, AllWritten, StopsFor, Stopped, blames_reader, blames_writer}

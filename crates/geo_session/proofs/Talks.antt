@@ -5,7 +5,7 @@ use Rattle.geo_grammar.specs.declared.fault.Fault.{Fault}
 use Rattle.geo_grammar.specs.declared.item.Item.{Item}
 use Rattle.geo_grammar.specs.declared.reply.Reply.{Reply}
 use Rattle.geo_grammar.specs.declared.request.Request.{Request}
-use Rattle.geo_session.specs.Closings.{is_quit, has_quit, until_quit}
+use Rattle.geo_grammar.specs.Quitting.{is_quit, has_quit, until_quit}
 use Rattle.geo_grammar.specs.Limits.{most_number}
 use Rattle.geo_session.specs.Exchanges.{Exchange, Asked, Told, item_in, items_in, bytes_in, text_of, count_after, Runs}
 use Rattle.geo_session.specs.Batches.{Adds}

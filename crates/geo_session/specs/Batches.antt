@@ -6,7 +6,7 @@ use Rattle.geo_grammar.specs.declared.item.Item.{Item}
 use Rattle.geo_grammar.specs.declared.item.Item.TheVariants as kind
 use Rattle.geo_grammar.specs.declared.reply.Reply.{Reply}
 use Rattle.geo_grammar.specs.declared.request.Request.{Request}
-use Rattle.geo_session.specs.Closings.{has_quit, until_quit}
+use Rattle.geo_grammar.specs.Quitting.{has_quit, until_quit}
 use Rattle.geo_session.specs.Connections.{IsRefused, BreaksFor}
 use Rattle.geo_session.specs.Exchanges.{Exchange, item_in, items_in, text_of, count_after, Runs}
 use Rattle.geo_session.specs.Sessions.{StopsFor}

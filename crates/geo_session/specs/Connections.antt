@@ -5,7 +5,8 @@ use Rattle.geo_grammar.specs.declared.item.Item.{Item}
 use Rattle.geo_grammar.specs.declared.item.Item.TheVariants as item
 use Rattle.geo_grammar.specs.declared.reply.Reply.{Reply}
 use Rattle.geo_grammar.specs.declared.request.Request.{Request}
-use Rattle.geo_session.specs.Closings.{until_quit, StaysOpen, end_by}
+use Rattle.geo_grammar.specs.Quitting.{until_quit}
+use Rattle.geo_session.specs.Closings.{StaysOpen, end_by}
 use Rattle.geo_session.specs.Exchanges.{Exchange, items_in, text_of, count_after, Runs}
 use Rattle.geo_session.specs.declared.end.SessionEnd.{SessionEnd}
 use Rattle.geo_session.specs.declared.fault.SessionFault.{SessionFault}

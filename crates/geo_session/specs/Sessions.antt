@@ -5,7 +5,9 @@ use Rattle.geo_grammar.specs.Protocol.{items_of}
 use Rattle.geo_grammar.specs.declared.item.Item.{Item}
 use Rattle.geo_grammar.specs.declared.reply.Reply.{Reply}
 use Rattle.geo_grammar.specs.declared.request.Request.{Request}
-use Rattle.geo_session.specs.Closings.{has_quit, has_long_line, until_quit, StaysOpen}
+use Rattle.geo_grammar.specs.Faults.{has_long_line}
+use Rattle.geo_grammar.specs.Quitting.{has_quit, until_quit}
+use Rattle.geo_session.specs.Closings.{StaysOpen}
 use Rattle.geo_session.specs.Connections.{Connection, IsRefused, BreaksFor}
 use Rattle.geo_session.specs.Exchanges.{Exchange, items_in, text_of, Runs}
 use Rattle.geo_session.specs.declared.end.SessionEnd.{SessionEnd}

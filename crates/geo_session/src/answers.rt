@@ -1,7 +1,6 @@
 //! The answers to what one read brought.
 ghost use Rattle.std.specs.Prelude.{◌≡◌, ◌+◌, [], min, MatchBool, IfOk, IfErr};
 ghost use Rattle.geo_grammar.specs.Limits.{most_number};
-ghost use Rattle.geo_session.specs.Closings.{is_quit};
 
 use crate::backend::Backend;
 use crate::gate::Gate;
@@ -22,12 +21,6 @@ pub enum Course {
     Quits,
     /// Up to the first that the backend did not answer.
     Spent,
-}
-
-fn asks_to_quit(item: &Item) -> bool
-    ensures { result ≡ is_quit item.now }
-{
-    matches!(item, Item::Request(Request::Quit))
 }
 
 /// One more, as far as 64 bits go.
@@ -130,7 +123,7 @@ impl Answers {
         ensures err { IfErr result (λ _. LosesAnswers B.answers items.items backend.old backend.new self.old self.new) }
     {
         for item in items {
-            let quits = asks_to_quit(&item);
+            let quits = item.is_quit();
             if !self.answer_item(rt, alloc, backend, gate, item)? {
                 return Ok(Course::Spent);
             }

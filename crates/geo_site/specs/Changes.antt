@@ -100,8 +100,12 @@ is_memory Memory = true
 
 -- what becomes of a site by an effect on a key, by its result
 abbrev pub EffectDoes : Site → Site → List ℕ → List ℕ → Effect → Result (Unit {0}) WriteError → Type 0
-EffectDoes old new key bytes effect (Ok done) = (is_some_act (acts_of key bytes effect) ≡ true → CanWrite old key) × HasIssuedAfter (accesses_of key effect) old new (acts_of key bytes effect) × (counts_in new ≡ evicted_on (victim_in old (acts_of key bytes effect)) (counts_in old)) × FirstVictimFits old (acts_of key bytes effect)
-EffectDoes old new key bytes effect (Err why) = (is_some_act (acts_of key bytes effect) ≡ true) × (is_memory why ≡ true → list_any is_growth (acts_of key bytes effect) ≡ true) × WriteRefuses old key why × Same (state_in old) (state_in new) × (counts_in new ≡ counts_in old)
+EffectDoes old new key bytes effect (Ok done) = (is_some_act (acts_of key bytes effect) ≡ true → CanWrite old key)
+    × HasIssuedAfter (accesses_of key effect) old new (acts_of key bytes effect)
+    × (counts_in new ≡ evicted_on (victim_in old (acts_of key bytes effect)) (counts_in old)) × FirstVictimFits old (acts_of key bytes effect)
+EffectDoes old new key bytes effect (Err why) = (is_some_act (acts_of key bytes effect) ≡ true)
+    × (is_memory why ≡ true → list_any is_growth (acts_of key bytes effect) ≡ true) × WriteRefuses old key why
+    × Same (state_in old) (state_in new) × (counts_in new ≡ counts_in old)
 
 -- what is told of an effect beside the reply
 abbrev pub effect_done : Result Beside WriteError → Result (Unit {0}) WriteError

@@ -40,7 +40,8 @@ cas_of stamp = stamp.time * 256 + stamp.site
 
 abbrev pub entry_of_version : ℕ → List ℕ → Option Version → Option Entry
 entry_of_version now bytes None = None
-entry_of_version now bytes (Some v) = cond (is_live v.expiry now) (Some (record { bytes = bytes; flags = v.flags; expiry = v.expiry; unique = cas_of v.stamp })) None
+entry_of_version now bytes (Some v) =
+    cond (is_live v.expiry now) (Some (record { bytes = bytes; flags = v.flags; expiry = v.expiry; unique = cas_of v.stamp })) None
 
 -- a key is visible where its bytes are held and its version is live: the bytes are what is held, all else comes from the version
 abbrev pub entry_in : ℕ → Option Version → Option (List ℕ) → Option Entry
@@ -66,7 +67,8 @@ found_of numbers visible (key ∷ keys) = found_at numbers key (visible key) ++ 
 -- what a touch leaves of an entry: it has another expiry, or is live no longer
 abbrev pub renewed : ℕ → ℕ → Option Entry → Option Entry
 renewed now expiry None = None
-renewed now expiry (Some e) = cond (is_live expiry now) (Some (record { bytes = e.bytes; flags = e.flags; expiry = expiry; unique = e.unique })) None
+renewed now expiry (Some e) =
+    cond (is_live expiry now) (Some (record { bytes = e.bytes; flags = e.flags; expiry = expiry; unique = e.unique })) None
 
 -- what is visible of a key after touches of others
 abbrev pub after_touches : ℕ → ℕ → List (List ℕ) → List ℕ → Option Entry → Option Entry
@@ -78,7 +80,8 @@ found_after now expiry numbers visible before key = found_at numbers key (after_
 -- what a fetch that touches shows: one key after the other, each after the touches of those before it
 abbrev pub touched_after : ℕ → ℕ → Bool → Visible → List (List ℕ) → List (List ℕ) → List Found
 touched_after now expiry numbers visible before [] = []
-touched_after now expiry numbers visible before (key ∷ keys) = found_after now expiry numbers visible before key ++ touched_after now expiry numbers visible (before ++ key ∷ []) keys
+touched_after now expiry numbers visible before (key ∷ keys) =
+    found_after now expiry numbers visible before key ++ touched_after now expiry numbers visible (before ++ key ∷ []) keys
 
 abbrev pub touched_of : ℕ → ℕ → Bool → Visible → List (List ℕ) → List Found
 touched_of now expiry numbers visible keys = touched_after now expiry numbers visible [] keys
@@ -96,9 +99,11 @@ flush_acts delay now = cond {A = List Act} (flushes_now delay now) (Flush ∷ []
 
 -- what plain memcached answers
 abbrev pub replied : ℕ → Visible → Stats → Request → Reply
-replied now visible stats (request.Store verb key flags exptime unique bytes noreply) = (stores verb flags exptime unique bytes now (visible key)).0
+replied now visible stats (request.Store verb key flags exptime unique bytes noreply) =
+    (stores verb flags exptime unique bytes now (visible key)).0
 replied now visible stats (request.Fetch keys numbers) = reply.Values (found_of numbers visible keys)
-replied now visible stats (request.FetchTouch exptime keys numbers) = reply.Values (touched_of now (expiry_at exptime now) numbers visible keys)
+replied now visible stats (request.FetchTouch exptime keys numbers) =
+    reply.Values (touched_of now (expiry_at exptime now) numbers visible keys)
 replied now visible stats (request.Delete key noreply) = (deletes (visible key)).0
 replied now visible stats (request.Touch key exptime noreply) = (touches exptime now (visible key)).0
 replied now visible stats (request.Arith up key by noreply) = (counts up by (visible key)).0
@@ -126,7 +131,8 @@ made_of Tomb = None
 
 -- and of what a request makes of older bytes: append, prepend, incr and decr do
 abbrev pub made_on : ℕ → Visible → Request → Option (List ℕ × ℕ)
-made_on now visible (request.Store verb key flags exptime unique bytes noreply) = made_of (stores verb flags exptime unique bytes now (visible key)).1
+made_on now visible (request.Store verb key flags exptime unique bytes noreply) =
+    made_of (stores verb flags exptime unique bytes now (visible key)).1
 made_on now visible (request.Fetch keys numbers) = None
 made_on now visible (request.FetchTouch exptime keys numbers) = None
 made_on now visible (request.Delete key noreply) = None
@@ -140,9 +146,11 @@ made_on now visible request.Quit = None
 
 -- and what plain memcached issues
 abbrev pub issued : ℕ → Visible → Request → List Act
-issued now visible (request.Store verb key flags exptime unique bytes noreply) = acts_of key bytes (stores verb flags exptime unique bytes now (visible key)).1
+issued now visible (request.Store verb key flags exptime unique bytes noreply) =
+    acts_of key bytes (stores verb flags exptime unique bytes now (visible key)).1
 issued now visible (request.Fetch keys numbers) = []
-issued now visible (request.FetchTouch exptime keys numbers) = touches_of (expiry_at exptime now) (touched_of now (expiry_at exptime now) numbers visible keys)
+issued now visible (request.FetchTouch exptime keys numbers) =
+    touches_of (expiry_at exptime now) (touched_of now (expiry_at exptime now) numbers visible keys)
 issued now visible (request.Delete key noreply) = acts_of key [] (deletes (visible key)).1
 issued now visible (request.Touch key exptime noreply) = acts_of key [] (touches exptime now (visible key)).1
 issued now visible (request.Arith up key by noreply) = acts_of key [] (counts up by (visible key)).1
@@ -194,7 +202,11 @@ abbrev pub none_counted : Counts
 none_counted = record { hits = 0; misses = 0; evictions = 0 }
 
 abbrev pub counted_on : Counts → ℕ → ℕ → Counts
-counted_on c found missed = record { hits = min (c.hits + found) most_number; misses = min (c.misses + missed) most_number; evictions = c.evictions }
+counted_on c found missed = record {
+  hits = min (c.hits + found) most_number;
+  misses = min (c.misses + missed) most_number;
+  evictions = c.evictions;
+}
 
 -- a victim is counted
 abbrev pub evicted_on : Option (List ℕ) → Counts → Counts
@@ -204,7 +216,8 @@ evicted_on (Some key) c = record { hits = c.hits; misses = c.misses; evictions =
 -- a fetch that does not touch counts each of its keys, and no other request counts
 abbrev pub counted : Visible → Request → Counts → Counts
 counted visible (request.Store verb key flags exptime unique bytes noreply) c = c
-counted visible (request.Fetch keys numbers) c = let found = length (found_of numbers visible keys) in counted_on c found (length keys - found)
+counted visible (request.Fetch keys numbers) c = let found = length (found_of numbers visible keys) in
+    counted_on c found (length keys - found)
 counted visible (request.FetchTouch exptime keys numbers) c = c
 counted visible (request.Delete key noreply) c = c
 counted visible (request.Touch key exptime noreply) c = c
@@ -279,7 +292,8 @@ may_want_memory now basis request =
 
 -- the reply is the one that is owed, or want of memory where it may be wanted
 abbrev pub Answers : ℕ → Basis → Request → Reply → Type 0
-Answers now basis request answer = (answer ≡ owed now basis request) ⊎ ((answer ≡ reply.OutOfMemory) × (may_want_memory now basis request ≡ true))
+Answers now basis request answer = (answer ≡ owed now basis request)
+    ⊎ ((answer ≡ reply.OutOfMemory) × (may_want_memory now basis request ≡ true))
 
 -- where a site refused what plain memcached does, nothing is done
 abbrev pub is_done : Reply → Bool

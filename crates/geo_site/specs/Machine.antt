@@ -73,7 +73,9 @@ victim_by Flush stock = None
 
 -- a victim is another key than the one that is written, and bytes of the same class were held of it
 abbrev pub VictimFits : Act → Stock → Type 0
-VictimFits (Write key bytes flags expiry) stock = IfSome (victim_by (Write key bytes flags expiry) stock) (λ victim. (same_key victim key ≡ false) × IsHeldIn stock victim (class_for (length bytes)))
+VictimFits (Write key bytes flags expiry) stock =
+    IfSome (victim_by (Write key bytes flags expiry) stock) (λ victim. (same_key victim key ≡ false)
+    × IsHeldIn stock victim (class_for (length bytes)))
 VictimFits (Delete key) stock = Unit {0}
 VictimFits (Touch key expiry) stock = Unit {0}
 VictimFits Flush stock = Unit {0}

@@ -36,7 +36,15 @@ pub record Known : Type 0 where
 
 -- nothing is known, where there are so many sites and this is what each was told at its start
 abbrev pub nothing_known : ℕ → (ℕ → Limits) → Known
-nothing_known sites limits = record { at = λ _. []; held = λ _ _. None; counts = λ _. none_counted; waiting = λ _. None; limits = limits; sites = sites; sent = [] }
+nothing_known sites limits = record {
+  at = λ _. [];
+  held = λ _ _. None;
+  counts = λ _. none_counted;
+  waiting = λ _. None;
+  limits = limits;
+  sites = sites;
+  sent = [];
+}
 
 -- of so many sites each knows every operation up to a time, and none issues another one up to it
 pub record StableAt (sites : ℕ) (at : ℕ → List Operation) (time : ℕ) : Type 0 where
@@ -52,7 +60,15 @@ still_held ops held key = named_by (version_of ops key) (held key)
 
 -- a site knows these operations now, and of what it holds keeps what its versions name
 abbrev pub settles : Known → ℕ → List Operation → Held → Known
-settles w site ops held = record { at = λ t. if t == site then ops else w.at t; held = λ t. if t == site then still_held ops held else w.held t; counts = w.counts; waiting = w.waiting; limits = w.limits; sites = w.sites; sent = w.sent }
+settles w site ops held = record {
+  at = λ t. if t == site then ops else w.at t;
+  held = λ t. if t == site then still_held ops held else w.held t;
+  counts = w.counts;
+  waiting = w.waiting;
+  limits = w.limits;
+  sites = w.sites;
+  sent = w.sent;
+}
 
 -- the next operation of a site, after the greatest time that it knows
 abbrev pub new_operation : Known → ℕ → Act → Operation
@@ -84,11 +100,27 @@ issues_on w site now request = issued now (visible w site now) request
 
 -- a site counts the keys of a request
 abbrev pub counts_keys : Known → ℕ → Counts → Known
-counts_keys w site counts = record { at = w.at; held = w.held; counts = λ t. if t == site then counts else w.counts t; waiting = w.waiting; limits = w.limits; sites = w.sites; sent = w.sent }
+counts_keys w site counts = record {
+  at = w.at;
+  held = w.held;
+  counts = λ t. if t == site then counts else w.counts t;
+  waiting = w.waiting;
+  limits = w.limits;
+  sites = w.sites;
+  sent = w.sent;
+}
 
 -- a site holds the bytes of a victim no longer, if there is one
 abbrev pub lets_go : Known → ℕ → Option (List ℕ) → Known
-lets_go w site victim = record { at = w.at; held = λ t. if t == site then without victim (w.held site) else w.held t; counts = w.counts; waiting = w.waiting; limits = w.limits; sites = w.sites; sent = w.sent }
+lets_go w site victim = record {
+  at = w.at;
+  held = λ t. if t == site then without victim (w.held site) else w.held t;
+  counts = w.counts;
+  waiting = w.waiting;
+  limits = w.limits;
+  sites = w.sites;
+  sent = w.sent;
+}
 
 -- the bytes of a key are evicted, which is counted
 abbrev pub evicts : Known → ℕ → List ℕ → Known
@@ -96,7 +128,8 @@ evicts w site key = counts_keys (lets_go w site (Some key)) site (evicted_on (So
 
 -- a victim is another key than the one that is written, and a value of the same class is held of it
 abbrev pub IsVictim : Held → Act → List ℕ → Type 0
-IsVictim held (Write key bytes flags expiry) victim = (same_key victim key ≡ false) × (old : List ℕ) × (held victim ≡ Some old) × (class_for (length old) ≡ class_for (length bytes))
+IsVictim held (Write key bytes flags expiry) victim = (same_key victim key ≡ false) × (old : List ℕ) × (held victim ≡ Some old)
+    × (class_for (length old) ≡ class_for (length bytes))
 IsVictim held (Delete key) victim = ⊥
 IsVictim held (Touch key expiry) victim = ⊥
 IsVictim held Flush victim = ⊥
@@ -109,16 +142,26 @@ VictimOf held (act ∷ acts) (Some victim) = IsVictim held act victim
 
 -- a flush waits at a site for its moment, or none does
 abbrev pub waits : Known → ℕ → Option ℕ → Known
-waits w site waiting = record { at = w.at; held = w.held; counts = w.counts; waiting = λ t. if t == site then waiting else w.waiting t; limits = w.limits; sites = w.sites; sent = w.sent }
+waits w site waiting = record {
+  at = w.at;
+  held = w.held;
+  counts = w.counts;
+  waiting = λ t. if t == site then waiting else w.waiting t;
+  limits = w.limits;
+  sites = w.sites;
+  sent = w.sent;
+}
 
 -- a site carries out a flush that is due
 abbrev pub flushed : Known → ℕ → ℕ → Known
-flushed w site now = waits (issues w site (due_acts (w.waiting site) (latest (w.at site)) now)) site (waits_on (w.waiting site) (latest (w.at site)) now)
+flushed w site now = waits (issues w site (due_acts (w.waiting site) (latest (w.at site)) now)) site
+    (waits_on (w.waiting site) (latest (w.at site)) now)
 
 -- a site carries out a request, for which the bytes of a victim go first, if there is one
 abbrev pub carries_out : Known → ℕ → ℕ → Request → Option (List ℕ) → Known
 carries_out w site now request victim =
-    waits (counts_keys (issues (lets_go w site victim) site (issues_on w site now request)) site (evicted_on victim (counted (visible w site now) request (w.counts site))))
+    waits (counts_keys (issues (lets_go w site victim) site (issues_on w site now request)) site
+    (evicted_on victim (counted (visible w site now) request (w.counts site))))
     site (waits_after now request (w.waiting site))
 
 -- a site deletes a key that is to be reaped
@@ -166,9 +209,18 @@ issues_by w site now request reply = cond {A = List Act} (is_done reply) (issues
 
 -- what is known after an event; one that was refused adds nothing but a due flush, and a removal adds nothing
 abbrev pub happens : Known → Event → Trace → Known
-happens w (Command site now request) (Replied reply victim) = let v = flushed w site now in cond (is_done reply) (carries_out v site now request victim) v
+happens w (Command site now request) (Replied reply victim) = let v = flushed w site now in
+    cond (is_done reply) (carries_out v site now request victim) v
 happens w (Evict site key) (Evicted done) = cond done (evicts w site key) w
-happens w (Send site to) Sent = record { at = w.at; held = w.held; counts = w.counts; waiting = w.waiting; limits = w.limits; sites = w.sites; sent = w.sent ++ (to, w.at site) ∷ [] }
+happens w (Send site to) Sent = record {
+  at = w.at;
+  held = w.held;
+  counts = w.counts;
+  waiting = w.waiting;
+  limits = w.limits;
+  sites = w.sites;
+  sent = w.sent ++ (to, w.at site) ∷ [];
+}
 happens w (Take site parcel) Taken = learns w site (carried w parcel)
 happens w (Tick site now) (Ticked done) = flushed w site now
 happens w (Reap site now key) (Reaped done) = let v = flushed w site now in issues v site (reaps_on v site now key)
@@ -195,7 +247,8 @@ TakeRefusedFor site to take.Memory = to ≡ site
 
 -- a reap deletes exactly a key that is to be reaped, and is refused exactly where no stamp is left for that
 abbrev pub ReapsIn : Known → ℕ → ℕ → List ℕ → Bool → Type 0
-ReapsIn w site now key done = (done ≡ is_reapable site (w.limits site).reap_after now (version_of (w.at site) key)) × (lacks (latest (w.at site)) (reaps_on w site now key) ≡ false)
+ReapsIn w site now key done = (done ≡ is_reapable site (w.limits site).reap_after now (version_of (w.at site) key))
+    × (lacks (latest (w.at site)) (reaps_on w site now key) ≡ false)
 
 abbrev pub ReapRefusedFor : Known → ℕ → ℕ → List ℕ → ReapError → Type 0
 ReapRefusedFor w site now key reap.ClockEnded = lacks (latest (w.at site)) (reaps_on w site now key) ≡ true
@@ -203,7 +256,9 @@ ReapRefusedFor w site now key reap.Memory = ⊥
 
 -- the trace is one that the event can have
 abbrev pub Lawful : Known → Event → Trace → Type 0
-Lawful w (Command site now request) (Replied reply victim) = let v = flushed w site now in RepliesBy (is_stuck (w.waiting site) (latest (w.at site)) now) v site now request reply × VictimOf (v.held site) (issues_by v site now request reply) victim
+Lawful w (Command site now request) (Replied reply victim) = let v = flushed w site now in
+    RepliesBy (is_stuck (w.waiting site) (latest (w.at site)) now) v site now request reply
+    × VictimOf (v.held site) (issues_by v site now request reply) victim
 Lawful w (Evict site key) (Evicted done) = done ≡ is_some (w.held site key)
 Lawful w (Send site to) Sent = to ≢ site
 Lawful w (Send site to) (SendRefused why) = SendRefusedFor site to why

@@ -165,7 +165,9 @@ fetched site now keys numbers = found_of numbers (visible_in (state_in site) now
 abbrev pub FetchDoes : Site → Site → ℕ → List (List ℕ) → Bool → Reply → Type 0
 FetchDoes old new now keys numbers reply =
     Stays old new × (waiting_in new ≡ waiting_in old)
-    × (((reply ≡ Values (fetched old now keys numbers)) × Same (accessed (keys_found (fetched old now keys numbers)) (state_in old)) (state_in new) × (let found = length (fetched old now keys numbers) in counts_in new ≡ counted_on (counts_in old) found (length keys - found)))
+    × (((reply ≡ Values (fetched old now keys numbers))
+    × Same (accessed (keys_found (fetched old now keys numbers)) (state_in old)) (state_in new)
+    × (let found = length (fetched old now keys numbers) in counts_in new ≡ counted_on (counts_in old) found (length keys - found)))
     ⊎ ((reply ≡ OutOfMemory) × Same (state_in old) (state_in new) × (counts_in new ≡ counts_in old)))
 
 -- what a fetch that touches does, by its reply: it shows what is found and touches each of that, or it is refused and changes
@@ -196,9 +198,12 @@ pub record FlushDoes (old new : Site) (now : ℕ) : Type 0 where
 -- what a request does at a site where no flush is due
 pub record RequestDoes (old new : Site) (now : ℕ) (request : Request) (reply : Reply) : Type 0 where
   pub answer : Answers now (basis_in old now) request reply
-  pub done : is_done reply ≡ true → HasIssuedAfter (accesses now (visible_in (state_in old) now) request) old new (issued_in old now request)
+  pub done : is_done reply ≡ true
+      → HasIssuedAfter (accesses now (visible_in (state_in old) now) request) old new (issued_in old now request)
   pub refused : is_done reply ≡ false → Same (state_in old) (state_in new)
-  pub counts : counts_in new ≡ cond (is_done reply) (evicted_on (victim_in old (issued_in old now request)) (counted (visible_in (state_in old) now) request (counts_in old))) (counts_in old)
+  pub counts : counts_in new ≡ cond (is_done reply)
+      (evicted_on (victim_in old (issued_in old now request)) (counted (visible_in (state_in old) now) request (counts_in old)))
+      (counts_in old)
   pub victim : is_done reply ≡ true → FirstVictimFits old (issued_in old now request)
   pub waiting : waiting_in new ≡ cond (is_done reply) (waits_after now request (waiting_in old)) (waiting_in old)
   pub stays : Stays old new
@@ -244,7 +249,8 @@ pub record ActTells (old new : Site) (now : ℕ) (request : Request) (wanted : �
 -- nothing changes
 abbrev pub ActFullDoes : Site → Site → ℕ → Request → ℕ → Result Acted AllocError → Type 0
 ActFullDoes old new now request wanted (Ok acted) = ActTells old new now request wanted acted
-ActFullDoes old new now request wanted (Err refused) = ActDoes old new now request OutOfMemory ⊎ ((wanted ≢ 0) × Same (state_in old) (state_in new) × Rests old new × Stays old new)
+ActFullDoes old new now request wanted (Err refused) = ActDoes old new now request OutOfMemory
+    ⊎ ((wanted ≢ 0) × Same (state_in old) (state_in new) × Rests old new × Stays old new)
 
 -- a tick is a due flush alone, and says whether there was one
 pub record TickDoes (old new : Site) (now : ℕ) (done : Bool) : Type 0 where
@@ -260,8 +266,10 @@ reaped_in site now key = reap_acts site.number (limits_of site).reap_after now k
 
 -- what it does, by its result: it deletes exactly a key that is to be reaped, and is refused exactly where no stamp is left
 abbrev pub ReapResult : Site → Site → ℕ → List ℕ → Result Bool ReapError → Type 0
-ReapResult old new now key (Ok done) = (done ≡ to_reap old now key) × (lacks (clock_in old) (reaped_in old now key) ≡ false) × HasIssued old new (reaped_in old now key)
-ReapResult old new now key (Err reaps.ClockEnded) = (lacks (clock_in old) (reaped_in old now key) ≡ true) × Same (state_in old) (state_in new)
+ReapResult old new now key (Ok done) = (done ≡ to_reap old now key) × (lacks (clock_in old) (reaped_in old now key) ≡ false)
+    × HasIssued old new (reaped_in old now key)
+ReapResult old new now key (Err reaps.ClockEnded) = (lacks (clock_in old) (reaped_in old now key) ≡ true)
+    × Same (state_in old) (state_in new)
 ReapResult old new now key (Err reaps.Memory) = ⊥
 
 pub record ReapDoes (old new : Site) (now : ℕ) (key : List ℕ) (result : Result Bool ReapError) : Type 0 where
@@ -273,19 +281,25 @@ pub record ReapDoes (old new : Site) (now : ℕ) (key : List ℕ) (result : Resu
 
 -- a site takes a parcel that is for it, that another site of as many can have made, and whose base it knows
 abbrev pub Takes : Site → Parcel → Type 0
-Takes site parcel = (parcel.to ≡ site.number) × (is_sound (length site.vector) site.number parcel ≡ true) × (vector_joined site.vector parcel.base ≡ site.vector)
+Takes site parcel = (parcel.to ≡ site.number) × (is_sound (length site.vector) site.number parcel ≡ true)
+    × (vector_joined site.vector parcel.base ≡ site.vector)
 
 -- why it does not, tested in this order; want of memory comes last
 abbrev pub RefusesFor : Site → Parcel → TakeError → Type 0
 RefusesFor site parcel NotForMe = parcel.to ≢ site.number
 RefusesFor site parcel UnknownSite = (parcel.to ≡ site.number) × (is_sound (length site.vector) site.number parcel ≡ false)
-RefusesFor site parcel Gap = (parcel.to ≡ site.number) × (is_sound (length site.vector) site.number parcel ≡ true) × (vector_joined site.vector parcel.base ≢ site.vector)
+RefusesFor site parcel Gap = (parcel.to ≡ site.number) × (is_sound (length site.vector) site.number parcel ≡ true)
+    × (vector_joined site.vector parcel.base ≢ site.vector)
 RefusesFor site parcel takes.Memory = Takes site parcel
 
 -- what a take does, by its result
 abbrev pub TakeDoes : Site → Site → Parcel → Result Taken Refused → Type 0
-TakeDoes old new parcel (Ok taken) = Takes old parcel × Same (take old.number (sifted_delta (horizon_in old) (delta_of parcel)) (state_in old)) (state_in new) × (IsTrue taken.rose ↔ (vector_joined old.vector parcel.upto ≢ old.vector)) × (held_count new + taken.dropped ≡ held_count old) × (heard_in new ≡ heard (heard_in old) parcel.from parcel.upto)
-TakeDoes old new parcel (Err refused) = RefusesFor old parcel refused.why × (refused.parcel ≡ parcel) × Same (state_in old) (state_in new) × (heard_in new ≡ heard_in old)
+TakeDoes old new parcel (Ok taken) = Takes old parcel
+    × Same (take old.number (sifted_delta (horizon_in old) (delta_of parcel)) (state_in old)) (state_in new)
+    × (IsTrue taken.rose ↔ (vector_joined old.vector parcel.upto ≢ old.vector)) × (held_count new + taken.dropped ≡ held_count old)
+    × (heard_in new ≡ heard (heard_in old) parcel.from parcel.upto)
+TakeDoes old new parcel (Err refused) = RefusesFor old parcel refused.why × (refused.parcel ≡ parcel) × Same (state_in old) (state_in new)
+    × (heard_in new ≡ heard_in old)
 
 -- what a removal does, and how many records it drops
 pub record RemoveDoes (old new : Site) (count : ℕ) : Type 0 where
@@ -328,8 +342,10 @@ pub record EvictDoes (old new : Site) (key : List ℕ) (done : Bool) : Type 0 wh
 
 -- what a juggle does: the one move that is due in a class, if any, or nothing where memory was wanted for it
 abbrev pub JuggleDoes : Site → Site → ℕ → Result Bool AllocError → Type 0
-JuggleDoes old new class (Ok moved) = (moved ≡ is_some (juggled_by same_key ((state_in old).stock.lists class))) × Same (with_stock (juggled_in class (state_in old).stock) (state_in old)) (state_in new)
-JuggleDoes old new class (Err refused) = IsSome (juggled_by same_key ((state_in old).stock.lists class)) × Same (state_in old) (state_in new)
+JuggleDoes old new class (Ok moved) = (moved ≡ is_some (juggled_by same_key ((state_in old).stock.lists class)))
+    × Same (with_stock (juggled_in class (state_in old).stock) (state_in old)) (state_in new)
+JuggleDoes old new class (Err refused) = IsSome (juggled_by same_key ((state_in old).stock.lists class))
+    × Same (state_in old) (state_in new)
 
 -- what a site can be made of: 1 to 16 sites, a number of one of them, a page for each slab class and not too many, and 1 to a million
 -- records at most
@@ -356,5 +372,7 @@ SetupRefuses setup setups.Memory = SitesInRange setup × NumberInRange setup × 
 
 -- what opening a site does, by its result
 abbrev pub OpenDoes : Setup → Result Site SetupError → Type 0
-OpenDoes setup (Ok site) = SitesInRange setup × NumberInRange setup × PagesInRange setup × RecordsInRange setup × (site.number ≡ setup.site) × (limits_of site ≡ record { max_records = setup.max_records; reap_after = setup.reap_after }) × (counts_in site ≡ none_counted) × (waiting_in site ≡ None) × (heard_in site ≡ none_heard setup.sites) × Same (fresh setup.sites setup.pages) (state_in site)
+OpenDoes setup (Ok site) = SitesInRange setup × NumberInRange setup × PagesInRange setup × RecordsInRange setup × (site.number ≡ setup.site)
+    × (limits_of site ≡ record { max_records = setup.max_records; reap_after = setup.reap_after }) × (counts_in site ≡ none_counted)
+    × (waiting_in site ≡ None) × (heard_in site ≡ none_heard setup.sites) × Same (fresh setup.sites setup.pages) (state_in site)
 OpenDoes setup (Err why) = SetupRefuses setup why

@@ -32,7 +32,18 @@ impl SiteState {
     /// The state of a site that knows nothing, where there are so many sites, 0 to 16. It takes no memory.
     pub fn empty(alloc: Global, sites: u8) -> SiteState
         requires { sites ≤ 16 }
-        ensures { result ≡ record { floor = None; records = []; vector = zeros sites; rows = none_heard sites; held = []; waiting = None; hits = 0; misses = 0; evictions = 0 } }
+        ensures { result ≡ record {
+          floor = None;
+          records = [];
+          vector = zeros sites;
+          rows = none_heard sites;
+          held = [];
+          waiting =
+              None;
+          hits = 0;
+          misses = 0;
+          evictions = 0;
+        } }
     {
         SiteState {
             floor: None,

@@ -54,7 +54,8 @@ AllFit chunk_bytes os = (k n : ℕ) → slice_get os k ≡ Some (Some n) → n �
 
 -- each chunk that was used lies within its page
 abbrev pub AllReach : ℕ → ℕ → List (List ℕ) → ℕ → Type 0
-AllReach chunk_bytes per_page pages used = (k : ℕ) → k < used → (k % per_page) * chunk_bytes + chunk_bytes ≤ length (slice_index_or pages (k / per_page) [])
+AllReach chunk_bytes per_page pages used = (k : ℕ) → k < used
+    → (k % per_page) * chunk_bytes + chunk_bytes ≤ length (slice_index_or pages (k / per_page) [])
 
 -- each page has its memory
 abbrev pub AllReserved : List (Vec ℕ Global) → Type 0
@@ -114,7 +115,8 @@ TakeDoes next many free (Some (number, rest)) =
 TakeDoes next many free None = (free.freed ≡ 0) × (many ≤ free.used)
 
 -- what holds of a class's pages, the lengths of the chunks that were used, the chunks that are free, and the room for pages
-pub record IsClass (chunk_bytes per_page most_pages : ℕ) (pages : List (Vec ℕ Global)) (lengths : List (Option ℕ)) (free : FreeChunks) (pages_has : ℕ) : Type 0 where
+pub record IsClass (chunk_bytes per_page most_pages : ℕ) (pages : List (Vec ℕ Global)) (lengths : List (Option ℕ)) (free : FreeChunks)
+    (pages_has : ℕ) : Type 0 where
   pub whole : per_page * chunk_bytes ≡ 1048576
   pub least : 4 ≤ chunk_bytes
   pub used : free.used ≡ length lengths

@@ -66,7 +66,11 @@ with_chunks storage class chunks =
 abbrev pub with_page : Storage → ℕ → Storage
 with_page storage class =
     let old = class_in storage class in
-    record { classes = slice_set storage.classes class (record old { chunks = old.chunks ++ replicate old.per_page None; room = old.room - 1 }); spare = storage.spare - 1 }
+    record {
+      classes = slice_set storage.classes class
+          (record old { chunks = old.chunks ++ replicate old.per_page None; room = old.room - 1 });
+      spare = storage.spare - 1;
+    }
 
 -- a chunk holds bytes, or none
 abbrev pub with_held : Storage → ℕ → ℕ → Option (List ℕ) → Storage
@@ -81,12 +85,18 @@ pub record IsPut (old new : Storage) (class : ℕ) (bytes : List ℕ) (chunk : C
 
 -- what a put does: where no chunk of the class is free it takes a spare page first, and without one nothing is done
 abbrev pub PutDoes : Storage → Storage → ℕ → List ℕ → Option Chunk → Type 0
-PutDoes old new class bytes (Some chunk) = IsPut old new class bytes chunk ⊎ (AllHeld (chunks_in old class) × (0 < old.spare) × IsPut (with_page old class) new class bytes chunk)
+PutDoes old new class bytes (Some chunk) = IsPut old new class bytes chunk
+    ⊎ (AllHeld (chunks_in old class) × (0 < old.spare) × IsPut (with_page old class) new class bytes chunk)
 PutDoes old new class bytes None = IsFull old class × (new ≡ old)
 
 -- all classes at first: each has a page whose chunks are free, and room for all that are spare
 abbrev pub first_class : ℕ → ℕ → ClassState
-first_class pages class = record { chunks = replicate (chunks_a_page class) None; chunk_bytes = chunk_bytes class; per_page = chunks_a_page class; room = pages - 1 }
+first_class pages class = record {
+  chunks = replicate (chunks_a_page class) None;
+  chunk_bytes = chunk_bytes class;
+  per_page = chunks_a_page class;
+  room = pages - 1;
+}
 
 abbrev pub first_classes : ℕ → ℕ → List ClassState
 first_classes pages zero = []

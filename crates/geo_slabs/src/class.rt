@@ -30,7 +30,8 @@ fn write_in(pages: &mut Vec<Vec<u8>>, at: usize, from: usize, end: usize, bytes:
     requires within { from + length bytes.now ≤ end }
     requires end { end ≤ page_bytes }
     requires reserved { AllReserved pages.old.items }
-    ensures bytes { bytes_of pages.new.items ≡ slice_set (bytes_of pages.old.items) at (put_mid from (length bytes.now) (grown end (slice_index_or (bytes_of pages.old.items) at [])) bytes.now) }
+    ensures bytes { bytes_of pages.new.items ≡ slice_set (bytes_of pages.old.items) at
+        (put_mid from (length bytes.now) (grown end (slice_index_or (bytes_of pages.old.items) at [])) bytes.now) }
     ensures reserved { AllReserved pages.new.items }
     ensures capacity { vec_capacity pages.new ≡ vec_capacity pages.old }
     ensures len { length pages.new.items ≡ length pages.old.items }
@@ -124,7 +125,8 @@ impl Model for Class {
     ghost Value = { ClassState };
 
     ghost view = { λ s. record {
-      chunks = chunks_from (read s.chunk_bytes s.per_page (bytes_of s.pages.items)) 0 (with_fresh s.lengths.each (s.per_page * length s.pages.items));
+      chunks = chunks_from (read s.chunk_bytes s.per_page (bytes_of s.pages.items)) 0
+          (with_fresh s.lengths.each (s.per_page * length s.pages.items));
       chunk_bytes = s.chunk_bytes;
       per_page = s.per_page;
       room = s.most_pages - length s.pages.items;

@@ -197,8 +197,8 @@ impl Slabs {
         self.put_free(class, bytes)
     }
 
-    /// Puts bytes into a chunk of a class, which takes a spare page where none of its chunks is free and keeps it from then on. None exactly
-    /// where no page is spare either. A put takes the time of a chunk's bytes at most.
+    /// Puts bytes into a chunk of a class, which takes a spare page where none of its chunks is free and keeps it from then on. None
+    /// exactly where no page is spare either. A put takes the time of a chunk's bytes at most.
     pub fn put(&mut self, class: usize, bytes: &[u8]) -> Option<Chunk>
         requires class { class < class_count }
         requires fits { length bytes.now ≤ chunk_bytes class }

@@ -28,7 +28,8 @@ stamp_cmp a b = ordering_then (nat_cmp a.time b.time) (nat_cmp a.site b.site)
 
 -- the order tells all stamps apart, and is total
 pub exact_stamps : CmpEqualImpliesEq stamp_cmp
-exact_stamps a b h = ap (λ (p : ℕ × ℕ). record { time = p.0; site = p.1 }) (exact_pairs nat_cmp nat_cmp exact_unsigned exact_unsigned (a.time, a.site) (b.time, b.site) h)
+exact_stamps a b h = ap (λ (p : ℕ × ℕ). record { time = p.0; site = p.1 })
+    (exact_pairs nat_cmp nat_cmp exact_unsigned exact_unsigned (a.time, a.site) (b.time, b.site) h)
 
 pub stamps_total : IsTotalOrder stamp_cmp
 stamps_total = then_total (on_total (λ (s : Moment). s.time) nat_cmp_total) (on_total (λ (s : Moment). s.site) nat_cmp_total)

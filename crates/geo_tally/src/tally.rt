@@ -42,8 +42,8 @@ impl Model for Tally {
 }
 
 impl Tally {
-    /// A tally with all counters at 0, and so many seats of it, 1 to 256, which have added nothing. Seats where it is another number, Memory
-    /// where memory was wanted and refused. No other call takes memory.
+    /// A tally with all counters at 0, and so many seats of it, 1 to 256, which have added nothing. Seats where it is another number,
+    /// Memory where memory was wanted and refused. No other call takes memory.
     pub fn new(alloc: Global, seats: usize) -> Result<(Tally, Vec<TallySeat>), TallyError>
         ensures refused { (result ≡ Err TallyError.Seats) ↔ ((seats < 1) ⊎ (most_seats < seats)) }
         ensures tally { IfOk result (λ made. made.0.seats ≡ seats) }

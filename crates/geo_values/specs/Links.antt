@@ -27,7 +27,12 @@ pub record Kept : Type 0 where
   pub classes : List Lists
 
 abbrev pub links_of : Kept → Links
-links_of k = record { item = λ q. lookup (same_key q) k.items; key = λ number. slice_index_or k.keys number None; storage = k.slabs; lists = λ class. slice_index_or k.classes class no_items }
+links_of k = record {
+  item = λ q. lookup (same_key q) k.items;
+  key = λ number. slice_index_or k.keys number None;
+  storage = k.slabs;
+  lists = λ class. slice_index_or k.classes class no_items;
+}
 
 abbrev pub kept_in : Parts → Kept
 kept_in p = record { items = p.items.entries; keys = p.keys.slots; slabs = p.slabs; classes = p.classes.items }
@@ -57,7 +62,12 @@ pages_in storage class = length (chunks_in storage class) / chunks_a_page class
 
 -- what a caller sees of them
 abbrev pub stock_of : Links → Stock
-stock_of l = record { held = λ q. bytes_of l.storage (l.item q); lists = λ class. named (key_of l) (l.lists class); pages = pages_in l.storage; spare = l.storage.spare }
+stock_of l = record {
+  held = λ q. bytes_of l.storage (l.item q);
+  lists = λ class. named (key_of l) (l.lists class);
+  pages = pages_in l.storage;
+  spare = l.storage.spare;
+}
 
 -- how many of the chunks hold something
 abbrev pub held_count : List (Option (List ℕ)) → ℕ
@@ -85,7 +95,8 @@ pub record IsLinked (l : Links) : Type 0 where
   -- no two keys share a chunk
   pub apart : (key other : List ℕ) (i j : Item) → l.item key ≡ Some i → l.item other ≡ Some j → i.chunk ≡ j.chunk → key ≡ other
   -- an item stands once, in a list of its class, and a number without an item nowhere
-  pub placed : (key : List ℕ) (item : Item) → l.item key ≡ Some item → (class : ℕ) → places item.number (l.lists class) ≡ cond (nat_eq class item.class) 1 0
+  pub placed : (key : List ℕ) (item : Item) → l.item key ≡ Some item → (class : ℕ)
+      → places item.number (l.lists class) ≡ cond (nat_eq class item.class) 1 0
   pub only : (number class : ℕ) → l.key number ≡ None → places number (l.lists class) ≡ 0
   -- a class has as many items as chunks that hold something
   pub counted : (class : ℕ) → class < class_count → held_count (chunks_in l.storage class) ≡ count (l.lists class)

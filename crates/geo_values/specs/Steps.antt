@@ -76,7 +76,12 @@ IsNotHot l key class = (item : Item) → l.item key ≡ Some item → item.class
 
 -- a hit on an item
 abbrev pub hit_on : Item → Links → Links
-hit_on item l = record { item = l.item; key = l.key; storage = l.storage; lists = λ class. cond (nat_eq class item.class) (touched_at item.number (l.lists class)) (l.lists class) }
+hit_on item l = record {
+  item = l.item;
+  key = l.key;
+  storage = l.storage;
+  lists = λ class. cond (nat_eq class item.class) (touched_at item.number (l.lists class)) (l.lists class);
+}
 
 abbrev pub Hits : Links → Links → Option Item → Type 0
 Hits old new None = SameLinks old new
@@ -84,7 +89,12 @@ Hits old new (Some item) = SameLinks (hit_on item old) new
 
 -- the move that is due in a class
 abbrev pub moved_in : ℕ → Links → Links
-moved_in class l = record { item = l.item; key = l.key; storage = l.storage; lists = λ c. cond (nat_eq c class) (unwrap_or (juggled (l.lists c)) (l.lists c)) (l.lists c) }
+moved_in class l = record {
+  item = l.item;
+  key = l.key;
+  storage = l.storage;
+  lists = λ c. cond (nat_eq c class) (unwrap_or (juggled (l.lists c)) (l.lists c)) (l.lists c);
+}
 
 -- the item of a number can be evicted
 pub record CanEvict (l : Links) (number : ℕ) : Type 0 where
@@ -142,8 +152,14 @@ pub record IsPutForOther (old new : Links) (class : ℕ) (bytes : List ℕ) (chu
   pub put : IsPutIn between new class bytes chunk
 
 abbrev pub PutsWithRoom : Links → Links → ℕ → List ℕ → Chunk → Option (List ℕ) → Type 0
-PutsWithRoom old new class bytes chunk evicted = ((evicted ≡ None) × IsPutIn old new class bytes chunk) ⊎ IsPutForOther old new class bytes chunk evicted
+PutsWithRoom old new class bytes chunk evicted = ((evicted ≡ None) × IsPutIn old new class bytes chunk)
+    ⊎ IsPutForOther old new class bytes chunk evicted
 
 -- the item of a key comes
 abbrev pub with_item : List ℕ → Item → Links → Links
-with_item key item l = record { item = λ q. cond (same_key q key) (Some item) (l.item q); key = l.key; storage = l.storage; lists = l.lists }
+with_item key item l = record {
+  item = λ q. cond (same_key q key) (Some item) (l.item q);
+  key = l.key;
+  storage = l.storage;
+  lists = l.lists;
+}

@@ -32,15 +32,29 @@ no_items = record { hot = []; warm = []; cold = [] }
 
 -- nothing is held: each class has one of the pages, and the others are spare
 abbrev pub first_stock : ℕ → Stock
-first_stock pages = record { held = λ _. None; lists = λ _. no_items; pages = λ class. cond (nat_lt class class_count) 1 0; spare = pages - class_count }
+first_stock pages = record {
+  held = λ _. None;
+  lists = λ _. no_items;
+  pages = λ class. cond (nat_lt class class_count) 1 0;
+  spare = pages - class_count;
+}
 
 -- of three lists, the keys that stay, in their order
 abbrev pub staying : (List ℕ → Bool) → ListsOf (List ℕ) → ListsOf (List ℕ)
-staying stays l = record { hot = filter (λ e. stays e.0) l.hot; warm = filter (λ e. stays e.0) l.warm; cold = filter (λ e. stays e.0) l.cold }
+staying stays l = record {
+  hot = filter (λ e. stays e.0) l.hot;
+  warm = filter (λ e. stays e.0) l.warm;
+  cold = filter (λ e. stays e.0) l.cold;
+}
 
 -- a key is no longer held, and stands in no list
 abbrev pub dropped : List ℕ → Stock → Stock
-dropped key s = record { held = λ q. cond (same_key q key) None (s.held q); lists = λ class. staying (λ q. not (same_key q key)) (s.lists class); pages = s.pages; spare = s.spare }
+dropped key s = record {
+  held = λ q. cond (same_key q key) None (s.held q);
+  lists = λ class. staying (λ q. not (same_key q key)) (s.lists class);
+  pages = s.pages;
+  spare = s.spare;
+}
 
 -- a hit on a key
 abbrev pub hit_at : List ℕ → Stock → Stock
@@ -52,7 +66,12 @@ evicted_from class s = option_map_or (λ key. dropped key s) (victim_of (s.lists
 
 -- the one move in a class that is due, if any
 abbrev pub juggled_in : ℕ → Stock → Stock
-juggled_in class s = record { held = s.held; lists = λ c. cond (nat_eq c class) (unwrap_or (juggled_by same_key (s.lists c)) (s.lists c)) (s.lists c); pages = s.pages; spare = s.spare }
+juggled_in class s = record {
+  held = s.held;
+  lists = λ c. cond (nat_eq c class) (unwrap_or (juggled_by same_key (s.lists c)) (s.lists c)) (s.lists c);
+  pages = s.pages;
+  spare = s.spare;
+}
 
 -- no chunk of the class is free: it has as many items as its pages have chunks
 abbrev pub is_used_up : Stock → ℕ → Bool
@@ -64,7 +83,12 @@ is_full s class = is_used_up s class && nat_eq s.spare 0
 
 -- a spare page goes to the class
 abbrev pub with_page_of : ℕ → Stock → Stock
-with_page_of class s = record { held = s.held; lists = s.lists; pages = λ c. cond (nat_eq c class) (s.pages c + 1) (s.pages c); spare = s.spare - 1 }
+with_page_of class s = record {
+  held = s.held;
+  lists = s.lists;
+  pages = λ c. cond (nat_eq c class) (s.pages c + 1) (s.pages c);
+  spare = s.spare - 1;
+}
 
 -- the class with a free chunk: where none is free it takes a spare page, and without one its victim is evicted
 abbrev pub with_room : ℕ → Stock → Stock
@@ -76,7 +100,12 @@ victim_for class s = cond (is_full s class) (victim_of (s.lists class)) None
 
 -- a key's bytes come, as an item of the class
 abbrev pub arrived : List ℕ → List ℕ → ℕ → Stock → Stock
-arrived key bytes class s = record { held = λ q. cond (same_key q key) (Some bytes) (s.held q); lists = λ c. cond (nat_eq c class) (entered key (s.lists c)) (s.lists c); pages = s.pages; spare = s.spare }
+arrived key bytes class s = record {
+  held = λ q. cond (same_key q key) (Some bytes) (s.held q);
+  lists = λ c. cond (nat_eq c class) (entered key (s.lists c)) (s.lists c);
+  pages = s.pages;
+  spare = s.spare;
+}
 
 -- bytes of a class are held of a key
 pub record IsHeldIn (s : Stock) (key : List ℕ) (class : ℕ) : Type 0 where
@@ -110,7 +139,8 @@ with_digest digest None = None
 with_digest digest (Some bytes) = cond (bytes_eq (sha256 bytes) digest) (Some bytes) None
 
 -- a call of a test at a key, the SHA-256 of its bytes and their length may answer so
-pub record Answers {F : Type 0} (calls : Shared F (Bor (List ℕ) × (Bor (List ℕ) × (ℕ × Unit {0}))) Bool) (test : F) (key bytes : List ℕ) (answer : Bool) : Type 0 where
+pub record Answers {F : Type 0} (calls : Shared F (Bor (List ℕ) × (Bor (List ℕ) × (ℕ × Unit {0}))) Bool) (test : F) (key bytes : List ℕ)
+    (answer : Bool) : Type 0 where
   pub key_at : Bor (List ℕ)
   pub digest_at : Bor (List ℕ)
   pub shows : (key_at.now ≡ key) × (digest_at.now ≡ sha256 bytes)
@@ -118,7 +148,12 @@ pub record Answers {F : Type 0} (calls : Shared F (Bor (List ℕ) × (Bor (List 
 
 -- the keys that stay are held, and no other
 abbrev pub kept_where : (List ℕ → Bool) → Stock → Stock
-kept_where stays s = record { held = λ q. cond (stays q) (s.held q) None; lists = λ class. staying stays (s.lists class); pages = s.pages; spare = s.spare }
+kept_where stays s = record {
+  held = λ q. cond (stays q) (s.held q) None;
+  lists = λ class. staying stays (s.lists class);
+  pages = s.pages;
+  spare = s.spare;
+}
 
 -- the keys that a test passes are kept: `may` tells which answers it may give of a key and its bytes
 pub record IsRetained (may : List ℕ → List ℕ → Bool → Type 0) (old new : Stock) : Type 0 where

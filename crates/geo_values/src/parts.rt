@@ -43,7 +43,8 @@ fn release(slabs: &mut Slabs, classes: &mut Vec<Segments>, item: Item)
     requires held { IsSome (held_in slabs.old item.chunk) }
     requires class { item.class < length classes.old.items }
     ensures freed { slabs.new ≡ with_held slabs.old item.chunk.class item.chunk.number None }
-    ensures left { classes.new.items ≡ slice_set classes.old.items item.class (left item.number (slice_index_or classes.old.items item.class no_items)) }
+    ensures left { classes.new.items ≡ slice_set classes.old.items item.class
+        (left item.number (slice_index_or classes.old.items item.class no_items)) }
 {
     classes[item.class].leave(item.number);
     slabs.free(item.chunk);
@@ -101,8 +102,10 @@ impl Parts {
     fn take_out_at(&mut self, index: usize)
         requires classes { length self.old.classes.items ≡ class_count }
         requires goes { IfSome (slice_get self.old.items.entries index) (λ e. CanGo (links_in self.old) e.1) }
-        ensures out { IfSome (slice_get self.old.items.entries index) (λ e. SameLinks (taken_out e.0 e.1 (links_in self.old)) (links_in self.new)) }
-        ensures moved { IfSome (slice_get self.old.items.entries index) (λ e. self.new.items.entries ≡ swap_remove self.old.items.entries index e) }
+        ensures out { IfSome (slice_get self.old.items.entries index)
+            (λ e. SameLinks (taken_out e.0 e.1 (links_in self.old)) (links_in self.new)) }
+        ensures moved { IfSome (slice_get self.old.items.entries index)
+            (λ e. self.new.items.entries ≡ swap_remove self.old.items.entries index e) }
         ensures no_more { length self.new.items.entries ≤ length self.old.items.entries }
         ensures classes { length self.new.classes.items ≡ class_count }
     {
@@ -118,7 +121,8 @@ impl Parts {
         requires linked { IsLinked (links_in self.now) }
         requires within { index < length self.now.items.entries }
         ensures found { IfSome (slice_get self.now.items.entries index) (λ e. (links_in self.now).item e.0 ≡ Some e.1) }
-        ensures told { IfSome (slice_get self.now.items.entries index) (λ e. MayAnswer (Answers F.Fn keep.now) (links_in self.now) e.0 result) }
+        ensures told { IfSome (slice_get self.now.items.entries index)
+            (λ e. MayAnswer (Answers F.Fn keep.now) (links_in self.now) e.0 result) }
     {
         let Some((key, item)) = self.items.get_index(index) else {
             unreachable!();
@@ -131,7 +135,8 @@ impl Parts {
     pub(crate) fn held(&self, alloc: Global) -> Result<Vec<(Key, Digest, u32)>, AllocError>
         requires linked { IsLinked (links_in self.now) }
         ensures rising { IfOk result (λ all. Rising (by_key all.items)) }
-        ensures held { IfOk result (λ all. (q : List ℕ) → digest_at all.items q ≡ option_map digest_of ((stock_of (links_in self.now)).held q)) }
+        ensures held { IfOk result (λ all. (q : List ℕ)
+            → digest_at all.items q ≡ option_map digest_of ((stock_of (links_in self.now)).held q)) }
     {
         let mut all = Vec::with_capacity(alloc, self.items.len())?;
         for index in 0..self.items.len() {

@@ -85,10 +85,12 @@ module _ {A : Type 0} (C : A → A → Ordering) (m : Option Moment) where
       absurd (true≢false (sym p ∙ below_too m s.0 r.0 q (lt_gt s.0 r.0 ∙ then_not_greater (stamp_cmp r.0 s.0) (C r.1 s.1) e)))
   above_two r s Less e false u p q = ap (λ u. cond u (Some s) None) q
   above_two r s Equal e true true p q = ap (λ t. cond t (Some r) None) p ∙ ap (λ o. Some (by_order o r s)) (sym e)
-  above_two r s Equal e false true p q = absurd (true≢false (sym q ∙ below_too m r.0 s.0 p (then_not_less (stamp_cmp r.0 s.0) (C r.1 s.1) (ap is_lt e))))
+  above_two r s Equal e false true p q =
+      absurd (true≢false (sym q ∙ below_too m r.0 s.0 p (then_not_less (stamp_cmp r.0 s.0) (C r.1 s.1) (ap is_lt e))))
   above_two r s Equal e t false p q = ap (λ t. cond t (Some r) None) p ∙ sym (newer_none (by_both stamp_cmp C) (cond t (Some r) None))
   above_two r s Greater e true true p q = ap (λ t. cond t (Some r) None) p ∙ ap (λ o. Some (by_order o r s)) (sym e)
-  above_two r s Greater e false true p q = absurd (true≢false (sym q ∙ below_too m r.0 s.0 p (then_not_less (stamp_cmp r.0 s.0) (C r.1 s.1) (ap is_lt e))))
+  above_two r s Greater e false true p q =
+      absurd (true≢false (sym q ∙ below_too m r.0 s.0 p (then_not_less (stamp_cmp r.0 s.0) (C r.1 s.1) (ap is_lt e))))
   above_two r s Greater e t false p q = ap (λ t. cond t (Some r) None) p ∙ sym (newer_none (by_both stamp_cmp C) (cond t (Some r) None))
 
   -- what is above the floor of a join is the join of what is above it
@@ -97,7 +99,8 @@ module _ {A : Type 0} (C : A → A → Ordering) (m : Option Moment) where
   above_newer (Some r) None = sym (newer_none (by_both stamp_cmp C) (above m (Some r)))
   above_newer (Some r) (Some s) = above_two r s (by_both stamp_cmp C r s) refl (is_above m r.0) (is_above m s.0) refl refl
 
-pub above_both_joined : (m : Option Moment) (a b : Record) → above_both m (record_joined a b) ≡ record_joined (above_both m a) (above_both m b)
+pub above_both_joined : (m : Option Moment) (a b : Record)
+    → above_both m (record_joined a b) ≡ record_joined (above_both m a) (above_both m b)
 above_both_joined m a b = λ i. (above_newer body_cmp m a.0 b.0 i, above_newer nat_cmp m a.1 b.1 i)
 
 pub above_both_twice : (m : Option Moment) (r : Record) → above_both m (above_both m r) ≡ above_both m r
@@ -106,29 +109,37 @@ above_both_twice m r = λ i. (above_twice m r.0 i, above_twice m r.1 i)
 pub above_both_lower : (f g : Option Moment) (r : Record) → above_both (floor_joined f g) (above_both f r) ≡ above_both (floor_joined f g) r
 above_both_lower f g r = λ i. (above_lower f g r.0 i, above_lower f g r.1 i)
 
-pub above_both_higher : (f g : Option Moment) (r : Record) → above_both (floor_joined f g) (above_both g r) ≡ above_both (floor_joined f g) r
+pub above_both_higher : (f g : Option Moment) (r : Record)
+    → above_both (floor_joined f g) (above_both g r) ≡ above_both (floor_joined f g) r
 above_both_higher f g r =
     let flip = newer_comm stamp_cmp stamps_total exact_stamps f g in
     ap (λ m. above_both m (above_both g r)) flip ∙ above_both_lower g f r ∙ ap (λ m. above_both m r) (sym flip)
 
 -- of two records above the floor the join is
-pub joined_above : (m : Option Moment) (a b : Record) → above_both m a ≡ a → above_both m b ≡ b → above_both m (record_joined a b) ≡ record_joined a b
+pub joined_above : (m : Option Moment) (a b : Record) → above_both m a ≡ a → above_both m b ≡ b
+    → above_both m (record_joined a b) ≡ record_joined a b
 joined_above m a b p q = above_both_joined m a b ∙ (λ i. record_joined (p i) (q i))
 
 pub record_comm : (a b : Record) → record_joined a b ≡ record_joined b a
 record_comm a b =
-    let B = newer_comm (by_both stamp_cmp body_cmp) (both_total stamps_total bodies_total) (exact_pairs stamp_cmp body_cmp exact_stamps exact_bodies) in
-    let X = newer_comm (by_both stamp_cmp nat_cmp) (both_total stamps_total nat_cmp_total) (exact_pairs stamp_cmp nat_cmp exact_stamps exact_unsigned) in
+    let B = newer_comm (by_both stamp_cmp body_cmp) (both_total stamps_total bodies_total)
+    (exact_pairs stamp_cmp body_cmp exact_stamps exact_bodies) in
+    let X = newer_comm (by_both stamp_cmp nat_cmp) (both_total stamps_total nat_cmp_total)
+    (exact_pairs stamp_cmp nat_cmp exact_stamps exact_unsigned) in
     λ i. (B a.0 b.0 i, X a.1 b.1 i)
 
 pub record_assoc : (a b c : Record) → record_joined a (record_joined b c) ≡ record_joined (record_joined a b) c
 record_assoc a b c =
-    let B = newer_assoc (by_both stamp_cmp body_cmp) (both_total stamps_total bodies_total) (exact_pairs stamp_cmp body_cmp exact_stamps exact_bodies) in
-    let X = newer_assoc (by_both stamp_cmp nat_cmp) (both_total stamps_total nat_cmp_total) (exact_pairs stamp_cmp nat_cmp exact_stamps exact_unsigned) in
+    let B = newer_assoc (by_both stamp_cmp body_cmp) (both_total stamps_total bodies_total)
+    (exact_pairs stamp_cmp body_cmp exact_stamps exact_bodies) in
+    let X = newer_assoc (by_both stamp_cmp nat_cmp) (both_total stamps_total nat_cmp_total)
+    (exact_pairs stamp_cmp nat_cmp exact_stamps exact_unsigned) in
     λ i. (B a.0 b.0 c.0 i, X a.1 b.1 c.1 i)
 
 pub record_same : (a : Record) → record_joined a a ≡ a
 record_same a =
-    let B = newer_same (by_both stamp_cmp body_cmp) (both_total stamps_total bodies_total) (exact_pairs stamp_cmp body_cmp exact_stamps exact_bodies) in
-    let X = newer_same (by_both stamp_cmp nat_cmp) (both_total stamps_total nat_cmp_total) (exact_pairs stamp_cmp nat_cmp exact_stamps exact_unsigned) in
+    let B = newer_same (by_both stamp_cmp body_cmp) (both_total stamps_total bodies_total)
+    (exact_pairs stamp_cmp body_cmp exact_stamps exact_bodies) in
+    let X = newer_same (by_both stamp_cmp nat_cmp) (both_total stamps_total nat_cmp_total)
+    (exact_pairs stamp_cmp nat_cmp exact_stamps exact_unsigned) in
     λ i. (B a.0 i, X a.1 i)

@@ -19,10 +19,13 @@ abbrev pub body_cmp : Body → Body → Ordering
 body_cmp a b =
     let m = body_parts a in
     let n = body_parts b in
-    ordering_then (nat_cmp m.0 n.0) (ordering_then (slice_cmp nat_cmp m.1.0 n.1.0) (ordering_then (nat_cmp m.1.1.0 n.1.1.0) (nat_cmp m.1.1.1 n.1.1.1)))
+    ordering_then (nat_cmp m.0 n.0)
+    (ordering_then (slice_cmp nat_cmp m.1.0 n.1.0) (ordering_then (nat_cmp m.1.1.0 n.1.1.0) (nat_cmp m.1.1.1 n.1.1.1)))
 
 pub bodies_total : IsTotalOrder body_cmp
-bodies_total = then_total (on_total (λ (b : Body). (body_parts b).0) nat_cmp_total) (then_total (on_total (λ (b : Body). (body_parts b).1.0) nat_list_cmp_total) (then_total (on_total (λ (b : Body). (body_parts b).1.1.0) nat_cmp_total) (on_total (λ (b : Body). (body_parts b).1.1.1) nat_cmp_total)))
+bodies_total = then_total (on_total (λ (b : Body). (body_parts b).0) nat_cmp_total)
+    (then_total (on_total (λ (b : Body). (body_parts b).1.0) nat_list_cmp_total)
+    (then_total (on_total (λ (b : Body). (body_parts b).1.1.0) nat_cmp_total) (on_total (λ (b : Body). (body_parts b).1.1.1) nat_cmp_total)))
 
 -- a body from its parts
 abbrev pub body_from : ℕ × (List ℕ × (ℕ × ℕ)) → Body

@@ -18,7 +18,8 @@ coded_stamp : Coded Moment
 coded_stamp = code_by (ℕ × ℕ) (coded× coded_ℕ coded_ℕ) (λ s. (s.time, s.site)) (λ p. record { time = p.0; site = p.1 }) (λ _. refl)
 
 coded_body : Coded Body
-coded_body = code_by (ℕ × (List ℕ × (ℕ × ℕ))) (coded× coded_ℕ (coded× (coded_list coded_ℕ) (coded× coded_ℕ coded_ℕ))) body_parts body_from body_back
+coded_body = code_by (ℕ
+    × (List ℕ × (ℕ × ℕ))) (coded× coded_ℕ (coded× (coded_list coded_ℕ) (coded× coded_ℕ coded_ℕ))) body_parts body_from body_back
 
 record_set : IsSet Record
 record_set = Coded-set (coded× (coded_option (coded× coded_stamp coded_body)) (coded_option (coded× coded_stamp coded_ℕ)))
@@ -59,14 +60,19 @@ normal_associative a b c = same_normal (normal_joined a (normal_joined b c)) (no
     let r = λ (key : List ℕ). record_assoc (a.0.1 key) (b.0.1 key) (c.0.1 key) in
     let left = λ (key : List ℕ). inner_right (a.0.0) (floor_joined b.0.0 c.0.0) (a.0.1 key) (record_joined (b.0.1 key) (c.0.1 key)) in
     let right = λ (key : List ℕ). inner_left (floor_joined a.0.0 b.0.0) c.0.0 (record_joined (a.0.1 key) (b.0.1 key)) (c.0.1 key) in
-    (λ i. (floor_joined a.0.0 (floor_joined b.0.0 c.0.0), λ key. left key i)) ∙ (λ i. (f i, λ key. above_both (f i) (r key i))) ∙ sym (λ i. (floor_joined (floor_joined a.0.0 b.0.0) c.0.0, λ key. right key i)))
+    (λ i. (floor_joined a.0.0 (floor_joined b.0.0 c.0.0), λ key. left key i)) ∙ (λ i. (f i, λ key. above_both (f i) (r key i))) ∙ sym
+    (λ i. (floor_joined (floor_joined a.0.0 b.0.0) c.0.0, λ key. right key i)))
   where
     -- what is dropped below one floor is dropped below a greater one
-    inner_right : (f g : Option Moment) (x y : Record) → above_both (floor_joined f g) (record_joined x (above_both g y)) ≡ above_both (floor_joined f g) (record_joined x y)
-    inner_right f g x y = above_both_joined (floor_joined f g) x (above_both g y) ∙ ap (record_joined (above_both (floor_joined f g) x)) (above_both_higher f g y) ∙ sym (above_both_joined (floor_joined f g) x y)
+    inner_right : (f g : Option Moment) (x y : Record)
+        → above_both (floor_joined f g) (record_joined x (above_both g y)) ≡ above_both (floor_joined f g) (record_joined x y)
+    inner_right f g x y = above_both_joined (floor_joined f g) x (above_both g y) ∙ ap (record_joined (above_both (floor_joined f g) x))
+        (above_both_higher f g y) ∙ sym (above_both_joined (floor_joined f g) x y)
 
-    inner_left : (f g : Option Moment) (x y : Record) → above_both (floor_joined f g) (record_joined (above_both f x) y) ≡ above_both (floor_joined f g) (record_joined x y)
-    inner_left f g x y = above_both_joined (floor_joined f g) (above_both f x) y ∙ ap (λ r. record_joined r (above_both (floor_joined f g) y)) (above_both_lower f g x) ∙ sym (above_both_joined (floor_joined f g) x y)
+    inner_left : (f g : Option Moment) (x y : Record)
+        → above_both (floor_joined f g) (record_joined (above_both f x) y) ≡ above_both (floor_joined f g) (record_joined x y)
+    inner_left f g x y = above_both_joined (floor_joined f g) (above_both f x) y ∙ ap
+        (λ r. record_joined r (above_both (floor_joined f g) y)) (above_both_lower f g x) ∙ sym (above_both_joined (floor_joined f g) x y)
 
 pub nothing_joined : (a : Normal) → normal_joined nothing_known a ≡ a
 nothing_joined a = same_normal (normal_joined nothing_known a) a (λ i. (a.0.0, λ key. a.1 key i))

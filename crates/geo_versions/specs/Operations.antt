@@ -134,7 +134,8 @@ abbrev pub version_in : Record → Option Version
 version_in (None, e) = None
 version_in (Some (s, Gone), e) = None
 version_in (Some (s, Value d f l), None) = Some (record { stamp = s; digest = d; flags = f; length = l; expiry_stamp = s; expiry = 0 })
-version_in (Some (s, Value d f l), Some (t, e)) = Some (record { stamp = s; digest = d; flags = f; length = l; expiry_stamp = t; expiry = e })
+version_in (Some (s, Value d f l), Some (t, e)) =
+    Some (record { stamp = s; digest = d; flags = f; length = l; expiry_stamp = t; expiry = e })
 
 -- the version of a key that the operations name: it exists where the winner is a write
 abbrev pub version_of : List Operation → List ℕ → Option Version

@@ -35,7 +35,10 @@ listed_at = all_joined (None, None) rec_means record_joined same_key
 
 -- the record, without the registers that are not above the floor
 abbrev pub rec_above : Option Moment → Rec → Rec
-rec_above floor r = record { left = record { register = above floor r.left.register }; right = record { register = above floor r.right.register } }
+rec_above floor r = record {
+  left = record { register = above floor r.left.register };
+  right = record { register = above floor r.right.register };
+}
 
 -- a vector does not know a register
 abbrev pub is_unknown : {A : Type 0} → List ℕ → Register A → Bool
@@ -68,12 +71,16 @@ abbrev pub recent_both : ℕ → Record → Record
 recent_both horizon r = (recent horizon r.0, recent horizon r.1)
 
 abbrev pub rec_recent : ℕ → Rec → Rec
-rec_recent horizon r = record { left = record { register = recent horizon r.left.register }; right = record { register = recent horizon r.right.register } }
+rec_recent horizon r = record {
+  left = record { register = recent horizon r.left.register };
+  right = record { register = recent horizon r.right.register };
+}
 
 -- listed records without their old registers, and without those that are left with none
 abbrev pub sifted : ℕ → List (List ℕ × Rec) → List (List ℕ × Rec)
 sifted horizon [] = []
-sifted horizon (e ∷ es) = cond (has_register (rec_means (rec_recent horizon e.1))) ((e.0, rec_recent horizon e.1) ∷ sifted horizon es) (sifted horizon es)
+sifted horizon (e ∷ es) =
+    cond (has_register (rec_means (rec_recent horizon e.1))) ((e.0, rec_recent horizon e.1) ∷ sifted horizon es) (sifted horizon es)
 
 -- whether a record has no version, and no register that isn't old
 abbrev pub is_over : ℕ → Record → Bool
@@ -84,7 +91,8 @@ abbrev pub remaining : ℕ → Record → Record
 remaining horizon r = cond (is_over horizon r) (None, None) r
 
 abbrev pub rec_remaining : ℕ → Rec → Rec
-rec_remaining horizon r = cond (is_over horizon (rec_means r)) (record { left = record { register = None }; right = record { register = None } }) r
+rec_remaining horizon r =
+    cond (is_over horizon (rec_means r)) (record { left = record { register = None }; right = record { register = None } }) r
 
 -- each key is greater than the one before it, byte by byte
 abbrev pub Above : {V : Type 0} → List ℕ → List (List ℕ × V) → Type 0

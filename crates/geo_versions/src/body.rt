@@ -26,9 +26,15 @@ impl Exact for Body {
 
     ghost order = { body_cmp };
 
-    ghost order_is = { elim [ Gone ↦ elim [ Gone ↦ refl | Value d f l ↦ refl ] | Value e g m ↦ elim [ Gone ↦ refl | Value d f l ↦ refl ] ] };
+    ghost order_is = { elim [
+      | Gone ↦ elim [ Gone ↦ refl | Value d f l ↦ refl ]
+      | Value e g m ↦ elim [ Gone ↦ refl | Value d f l ↦ refl ]
+    ] };
 
-    ghost exact = { elim [ Gone ↦ elim [ Gone ↦ exact_bodies Gone Gone | Value d f l ↦ exact_bodies Gone (Value d f l) ] | Value e g m ↦ elim [ Gone ↦ exact_bodies (Value e g m) Gone | Value d f l ↦ exact_bodies (Value e g m) (Value d f l) ] ] };
+    ghost exact = { elim [
+      | Gone ↦ elim [ Gone ↦ exact_bodies Gone Gone | Value d f l ↦ exact_bodies Gone (Value d f l) ]
+      | Value e g m ↦ elim [ Gone ↦ exact_bodies (Value e g m) Gone | Value d f l ↦ exact_bodies (Value e g m) (Value d f l) ]
+    ] };
 }
 
 /// What is kept of a key: the greatest write or delete, and the latest expiry with the stamp of the operation that set it, in

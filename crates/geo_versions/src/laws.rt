@@ -20,7 +20,8 @@ pub fn equal_sets_mean_the_same()
 /// One operation more is one floor or one record joined.
 pub fn one_operation_joins()
     ensures floor { (op : Operation) (ops : List Operation) → floor_of (op ∷ ops) ≡ floor_joined (floor_of ops) (flush_of op) }
-    ensures records { (op : Operation) (ops : List Operation) (q : List ℕ) → record_of (op ∷ ops) q ≡ above_both (floor_of (op ∷ ops)) (record_joined (record_of ops q) (body_of q op, expiry_of q op)) }
+    ensures records { (op : Operation) (ops : List Operation) (q : List ℕ)
+        → record_of (op ∷ ops) q ≡ above_both (floor_of (op ∷ ops)) (record_joined (record_of ops q) (body_of q op, expiry_of q op)) }
 {}
 
 /// Of what a set means no register is below or at the floor.

@@ -92,7 +92,9 @@ impl Versions {
     /// `before`. None exactly where there is no such key. A site finds so its own writes whose time to live is over, and deletes
     /// them for all sites. It passes over all records and takes no memory.
     pub fn ended(&self, site: u8, before: u64) -> Option<&Key>
-        ensures { MatchOption result ((q : List ℕ) → has_ended site before (version_in (record_in self.now q)) ≡ false) (λ key. has_ended site before (version_in (record_in self.now key.now)) ≡ true) }
+        ensures { MatchOption result ((q : List ℕ)
+            → has_ended site before (version_in (record_in self.now q)) ≡ false)
+            (λ key. has_ended site before (version_in (record_in self.now key.now)) ≡ true) }
     {
         self.records.found(&Ended { site, before })
     }
@@ -107,7 +109,10 @@ impl Versions {
         body: Body,
         expiry: u64,
     ) -> Result<(), AllocError>
-        ensures ok { OnOk result ((q : List ℕ) → record_in self.new q ≡ cond (same_key q key.now) (above_both (floor_in self.old) (record_joined (record_in self.old q) (Some (stamp, body), Some (stamp, expiry)))) (record_in self.old q)) }
+        ensures ok { OnOk result ((q : List ℕ) → record_in self.new q
+            ≡ cond (same_key q key.now)
+            (above_both (floor_in self.old) (record_joined (record_in self.old q) (Some (stamp, body), Some (stamp, expiry))))
+            (record_in self.old q)) }
         ensures err { OnErr result ((q : List ℕ) → record_in self.new q ≡ record_in self.old q) }
         ensures succeeds { (record_in self.old key.now ≡ (None, None) → ⊥) → IsOk result }
         ensures floor { floor_in self.new ≡ floor_in self.old }
@@ -126,7 +131,9 @@ impl Versions {
     /// Joins a touch of a key that has a record. It takes no memory.
     pub fn touch(&mut self, key: &Key, stamp: Stamp, expiry: u64)
         requires { record_in self.old key.now ≡ (None, None) → ⊥ }
-        ensures records { (q : List ℕ) → record_in self.new q ≡ cond (same_key q key.now) (above_both (floor_in self.old) (record_joined (record_in self.old q) (None, Some (stamp, expiry)))) (record_in self.old q) }
+        ensures records { (q : List ℕ) → record_in self.new q
+            ≡ cond (same_key q key.now) (above_both (floor_in self.old) (record_joined (record_in self.old q) (None, Some (stamp, expiry))))
+            (record_in self.old q) }
         ensures floor { floor_in self.new ≡ floor_in self.old }
     {
         if counts(self.floor, stamp) {
@@ -176,7 +183,8 @@ impl Versions {
     pub fn join_records(&mut self, floor: Option<Stamp>, records: Vec<(Key, Rec)>)
         requires { HasRoomFor self.old records.items }
         ensures floor { floor_in self.new ≡ floor_joined (floor_in self.old) floor }
-        ensures records { (q : List ℕ) → record_in self.new q ≡ above_both (floor_in self.new) (record_joined (record_in self.old q) (listed_at records.items q)) }
+        ensures records { (q : List ℕ) → record_in self.new q
+            ≡ above_both (floor_in self.new) (record_joined (record_in self.old q) (listed_at records.items q)) }
     {
         let above = AboveFloor {
             floor: later(self.floor, floor),

@@ -33,7 +33,13 @@ pub record SiteKnown : Type 0 where
   pub limits : Limits
 
 abbrev pub about : Known → ℕ → SiteKnown
-about w number = record { ops = w.at number; held = w.held number; counts = w.counts number; waiting = w.waiting number; limits = w.limits number }
+about w number = record {
+  ops = w.at number;
+  held = w.held number;
+  counts = w.counts number;
+  waiting = w.waiting number;
+  limits = w.limits number;
+}
 
 abbrev pub nothing_about : Limits → SiteKnown
 nothing_about limits = record { ops = []; held = λ _. None; counts = none_counted; waiting = None; limits = limits }
@@ -45,7 +51,8 @@ pub record Stands (sites number : ℕ) (site : Site) (known : SiteKnown) : Type 
   pub horizon : ℕ
   pub top : horizon ≤ last_time
   pub state : StateOf sites number horizon (state_in site) known.ops known.held
-  pub reached : (q j : ℕ) → 1 ≤ q → q ≤ sites → 1 ≤ j → j ≤ sites → horizon ≤ entry_of (row_of (with_own (heard_in site) number site.vector) q) j
+  pub reached : (q j : ℕ) → 1 ≤ q → q ≤ sites → 1 ≤ j → j ≤ sites
+      → horizon ≤ entry_of (row_of (with_own (heard_in site) number site.vector) q) j
   pub counts : counts_in site ≡ known.counts
   pub waiting : waiting_in site ≡ known.waiting
   pub limits : limits_of site ≡ known.limits
@@ -65,10 +72,12 @@ pub record Carries (sites : ℕ) (at : ℕ → List Operation) (parcel : Parcel)
 
 -- each site and each parcel is what is known of it, and no vector promises more than is known
 pub record Agrees (sites : List Site) (parcels : List Parcel) (w : Known) : Type 0 where
-  pub each : (k number : ℕ) (site : Site) → number ≡ k + 1 → slice_get sites k ≡ Some site → Stands (length sites) number site (about w number)
+  pub each : (k number : ℕ) (site : Site) → number ≡ k + 1 → slice_get sites k ≡ Some site
+      → Stands (length sites) number site (about w number)
   pub numbers : w.sites ≡ length sites
   pub as_many : length w.sent ≡ length parcels
-  pub each_sent : (p : ℕ) (parcel : Parcel) → slice_get parcels p ≡ Some parcel → Carries (length sites) w.at parcel (slice_index_or w.sent p (0, []))
+  pub each_sent : (p : ℕ) (parcel : Parcel) → slice_get parcels p ≡ Some parcel
+      → Carries (length sites) w.at parcel (slice_index_or w.sent p (0, []))
   pub bounds : Bounded (length sites) (vectors sites) (rows sites) parcels w.at w.sent
 
 -- the site's floor and versions are those that the operations name
@@ -82,7 +91,8 @@ pub record SameVersions (one other : Site) : Type 0 where
 
 -- what opening a world does, by its result
 abbrev pub WorldOpens : List Setup → Result World WorldError → Type 0
-WorldOpens setups (Ok world) = (are_setups setups ≡ true) × (length world.sites.items ≡ length setups) × Agrees world.sites.items world.parcels.items (start setups)
+WorldOpens setups (Ok world) = (are_setups setups ≡ true) × (length world.sites.items ≡ length setups)
+    × Agrees world.sites.items world.parcels.items (start setups)
 WorldOpens setups (Err Setups) = are_setups setups ≡ false
 WorldOpens setups (Err (BadEvent index)) = ⊥
 WorldOpens setups (Err Memory) = are_setups setups ≡ true
@@ -97,9 +107,12 @@ LeadsOn old new event trace =
 
 -- what a step does, by its result: it is lawful and keeps the agreement, or its event is not there
 abbrev pub StepDoes : World → World → Event → ℕ → Result Trace WorldError → Type 0
-StepDoes old new event index (Ok trace) = (is_there (length old.sites.items) (length old.parcels.items) event ≡ true) × ((w : Known) → Agrees old.sites.items old.parcels.items w → Lawful w event trace × Agrees new.sites.items new.parcels.items (happens w event trace))
+StepDoes old new event index (Ok trace) = (is_there (length old.sites.items) (length old.parcels.items) event ≡ true)
+    × ((w : Known) → Agrees old.sites.items old.parcels.items w → Lawful w event trace
+    × Agrees new.sites.items new.parcels.items (happens w event trace))
 StepDoes old new event index (Err Setups) = ⊥
-StepDoes old new event index (Err (BadEvent at)) = (at ≡ index) × (is_there (length old.sites.items) (length old.parcels.items) event ≡ false)
+StepDoes old new event index (Err (BadEvent at)) = (at ≡ index)
+    × (is_there (length old.sites.items) (length old.parcels.items) event ≡ false)
 StepDoes old new event index (Err Memory) = is_there (length old.sites.items) (length old.parcels.items) event ≡ true
 
 -- the site of an event
@@ -134,5 +147,7 @@ pub record DoesAlone (old new : List Site) (event : Event) (trace : Trace) : Typ
 -- each event can be there
 abbrev pub RunRefuses : List Setup → List Event → WorldError → Type 0
 RunRefuses setups events Setups = are_setups setups ≡ false
-RunRefuses setups events (BadEvent index) = (are_setups setups ≡ true) × (CannotCome (length setups) events index ⊎ ((all_there (length setups) 0 events ≡ true) × IsMissing (length setups) (start setups) events index))
+RunRefuses setups events (BadEvent index) = (are_setups setups ≡ true)
+    × (CannotCome (length setups) events index
+    ⊎ ((all_there (length setups) 0 events ≡ true) × IsMissing (length setups) (start setups) events index))
 RunRefuses setups events Memory = (are_setups setups ≡ true) × (all_there (length setups) 0 events ≡ true)

@@ -31,7 +31,8 @@ abbrev pub told_in : List (ℕ × List Operation) → ℕ → List Operation
 told_in sent p = (slice_index_or sent p (0, [])).1
 
 -- so many sites have these vectors, heard this of one another, and know these operations
-pub record Bounded (sites : ℕ) (vector : ℕ → List ℕ) (heard : ℕ → ℕ → List ℕ) (parcels : List Parcel) (at : ℕ → List Operation) (sent : List (ℕ × List Operation)) : Type 0 where
+pub record Bounded (sites : ℕ) (vector : ℕ → List ℕ) (heard : ℕ → ℕ → List ℕ) (parcels : List Parcel) (at : ℕ
+    → List Operation) (sent : List (ℕ × List Operation)) : Type 0 where
   -- each operation is of one of the sites, and is known where it was issued
   pub first : (t : ℕ) (op : Operation) → Among (at t) op → 1 ≤ op.stamp.site
   pub last : (t : ℕ) (op : Operation) → Among (at t) op → op.stamp.site ≤ sites
@@ -42,7 +43,9 @@ pub record Bounded (sites : ℕ) (vector : ℕ → List ℕ) (heard : ℕ → �
   -- what was heard of a site it knows
   pub heard_known : (r s : ℕ) → 1 ≤ s → s ≤ sites → IsAbove (vector s) (heard r s)
   -- a parcel tells what its sender knows, all up to its entries, and its addressee knows the base
-  pub sent_told : (p : ℕ) (parcel : Parcel) (op : Operation) → slice_get parcels p ≡ Some parcel → Among (told_in sent p) op → Among (at parcel.from) op
-  pub sent_complete : (p t : ℕ) (parcel : Parcel) (op : Operation) → slice_get parcels p ≡ Some parcel → Among (at t) op → Knows parcel.upto op.stamp → Among (told_in sent p) op
+  pub sent_told : (p : ℕ) (parcel : Parcel) (op : Operation) → slice_get parcels p ≡ Some parcel → Among (told_in sent p) op
+      → Among (at parcel.from) op
+  pub sent_complete : (p t : ℕ) (parcel : Parcel) (op : Operation) → slice_get parcels p ≡ Some parcel → Among (at t) op
+      → Knows parcel.upto op.stamp → Among (told_in sent p) op
   pub sent_upto : (p : ℕ) (parcel : Parcel) → slice_get parcels p ≡ Some parcel → IsAbove (vector parcel.from) parcel.upto
   pub sent_base : (p : ℕ) (parcel : Parcel) → slice_get parcels p ≡ Some parcel → IsAbove (vector parcel.to) parcel.base

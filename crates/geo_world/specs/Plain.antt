@@ -83,7 +83,8 @@ pub record Meets (sites : List Knowledge) (sent : List (ℕ × List Operation)) 
   pub each : (k number : ℕ) (site : Knowledge) → number ≡ k + 1 → slice_get sites k ≡ Some site → Knows site (w.at number) (w.held number)
   pub counted : (k number : ℕ) (site : Knowledge) → number ≡ k + 1 → slice_get sites k ≡ Some site → counts_of site ≡ w.counts number
   pub waits : (k number : ℕ) (site : Knowledge) → number ≡ k + 1 → slice_get sites k ≡ Some site → site.waiting ≡ w.waiting number
-  pub reaps : (k number : ℕ) (site : Knowledge) → number ≡ k + 1 → slice_get sites k ≡ Some site → site.reap_after ≡ (w.limits number).reap_after
+  pub reaps : (k number : ℕ) (site : Knowledge) → number ≡ k + 1 → slice_get sites k ≡ Some site
+      → site.reap_after ≡ (w.limits number).reap_after
   pub sent_is : map sent_of sent ≡ w.sent
 
 -- the bytes that are lent
@@ -93,9 +94,11 @@ lent (Some bytes) = Some bytes.now
 
 -- what a change adds, by its result: the site issues these acts, or no stamp is left for them, or memory was wanted
 abbrev pub ChangeAdds : Known → Known → ℕ → (spec_known.Known → List spec.Act) → Result (Unit {0}) PlainError → Type 0
-ChangeAdds old new site acts (Ok done) = (w : spec_known.Known) → Meets old.sites.items old.sent.items w → Meets new.sites.items new.sent.items (issues w site (acts w))
+ChangeAdds old new site acts (Ok done) = (w : spec_known.Known) → Meets old.sites.items old.sent.items w
+    → Meets new.sites.items new.sent.items (issues w site (acts w))
 ChangeAdds old new site acts (Err NotThere) = ⊥
-ChangeAdds old new site acts (Err ClockEnded) = (w : spec_known.Known) → Meets old.sites.items old.sent.items w → lacks (spec.latest (w.at site)) (acts w) ≡ true
+ChangeAdds old new site acts (Err ClockEnded) = (w : spec_known.Known) → Meets old.sites.items old.sent.items w
+    → lacks (spec.latest (w.at site)) (acts w) ≡ true
 ChangeAdds old new site acts (Err Memory) = Unit {0}
 
 -- an event that can be followed: it is there, and its moment is in range

@@ -5,7 +5,9 @@ use Rattle.geo_site.specs.declared.setup.Setup.{Setup}
 use Rattle.geo_site.specs.declared.setup.Limits.{Limits}
 
 abbrev pub is_setup : ℕ → ℕ → Setup → Bool
-is_setup sites number setup = (setup.site == number) && (setup.sites == sites) && nat_le 15 setup.pages && nat_le setup.pages 65536 && nat_le 1 setup.max_records && nat_le setup.max_records 1000000
+is_setup sites number setup =
+    (setup.site == number) &&
+    (setup.sites == sites) && nat_le 15 setup.pages && nat_le setup.pages 65536 && nat_le 1 setup.max_records && nat_le setup.max_records 1000000
 
 abbrev pub are_numbered : ℕ → ℕ → List Setup → Bool
 are_numbered sites number [] = true

@@ -84,11 +84,19 @@ take_at number b t =
 
 -- it drops exactly what lies at or below its horizon and has no version
 abbrev pub remove_at : ℕ → Table → Table
-remove_at number t = record { vector = t.vector; rows = t.rows; floor = t.floor; kept = λ key. remaining (horizon_at number t) (t.kept key) }
+remove_at number t = record {
+  vector = t.vector;
+  rows = t.rows;
+  floor = t.floor;
+  kept = λ key. remaining (horizon_at number t) (t.kept key);
+}
 
 -- what it cuts for another: the records that it did not hear the other to know
 abbrev pub cut_at : ℕ → ℕ → Table → Brought
-cut_at number to t = record { from = number; delta = record { upto = t.vector; floor = t.floor; map = λ key. since (row_of t.rows to) (t.kept key) } }
+cut_at number to t = record {
+  from = number;
+  delta = record { upto = t.vector; floor = t.floor; map = λ key. since (row_of t.rows to) (t.kept key) };
+}
 
 -- a site keeps this now
 abbrev pub keeps : Tables → ℕ → Table → Tables
@@ -131,7 +139,8 @@ brought_in parcel = record { from = parcel.from; delta = delta_of parcel }
 pub record Keep (sites : List Site) (parcels : List Parcel) (all : Tables) : Type 0 where
   pub each : (k number : ℕ) (site : Site) → number ≡ k + 1 → slice_get sites k ≡ Some site → table_in site ≡ all.at number
   pub as_many : length all.sent ≡ length parcels
-  pub each_sent : (p : ℕ) (parcel : Parcel) → slice_get parcels p ≡ Some parcel → brought_in parcel ≡ slice_index_or all.sent p brings_nothing
+  pub each_sent : (p : ℕ) (parcel : Parcel) → slice_get parcels p ≡ Some parcel
+      → brought_in parcel ≡ slice_index_or all.sent p brings_nothing
 
 -- the reply is what a site owes to the request that keeps this, or want of memory where it may be wanted
 pub record OwesOver (w : Known) (kept : List ℕ → Record) (site now : ℕ) (request : Request) (reply : Reply) : Type 0 where
@@ -156,14 +165,18 @@ pub record CountsDropped (before after : List ℕ → Record) (count : ℕ) : Ty
 
 -- a reply is owed over what its site keeps after a due flush, and a removal goes by its site's own horizon and tells how many it dropped
 abbrev pub Tallies : Known → Tables → Event → Trace → Type 0
-Tallies w all (Command site now request) (Replied reply victim) = OwesBy (is_stuck (w.waiting site) (latest (w.at site)) now) (flushed w site now) ((flushed_at w all site now).at site).kept site now request reply
-Tallies w all (Remove site) (Removed horizon count) = (horizon ≡ horizon_at site (all.at site)) × CountsDropped (all.at site).kept (remove_at site (all.at site)).kept count
+Tallies w all (Command site now request) (Replied reply victim) =
+    OwesBy (is_stuck (w.waiting site) (latest (w.at site)) now) (flushed w site now)
+    ((flushed_at w all site now).at site).kept site now request reply
+Tallies w all (Remove site) (Removed horizon count) = (horizon ≡ horizon_at site (all.at site))
+    × CountsDropped (all.at site).kept (remove_at site (all.at site)).kept count
 Tallies w all event trace = Unit {0}
 
 abbrev pub EachTallies : Known → Tables → List Event → List Trace → Type 0
 EachTallies w all [] traces = Unit {0}
 EachTallies w all (event ∷ events) [] = Unit {0}
-EachTallies w all (event ∷ events) (trace ∷ traces) = Tallies w all event trace × EachTallies (happens w event trace) (kept_after w all event trace) events traces
+EachTallies w all (event ∷ events) (trace ∷ traces) = Tallies w all event trace
+    × EachTallies (happens w event trace) (kept_after w all event trace) events traces
 
 -- where sites and parcels are what is known and kept, an event tallies and leaves them so
 abbrev pub Tabled : List Site → List Parcel → List Site → List Parcel → Event → Trace → Type 0

@@ -68,7 +68,8 @@ all_in_time events = list_all is_in_time events
 abbrev pub EachThere : ℕ → Known → List Event → List Trace → Type 0
 EachThere sites w [] traces = Unit {0}
 EachThere sites w (event ∷ events) [] = Unit {0}
-EachThere sites w (event ∷ events) (trace ∷ traces) = (is_there sites (length w.sent) event ≡ true) × EachThere sites (happens w event trace) events traces
+EachThere sites w (event ∷ events) (trace ∷ traces) = (is_there sites (length w.sent) event ≡ true)
+    × EachThere sites (happens w event trace) events traces
 
 -- the event at the index is not there when it comes, after lawful traces of those before it
 pub record IsMissing (sites : ℕ) (first : Known) (events : List Event) (index : ℕ) : Type 0 where

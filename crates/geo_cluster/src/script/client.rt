@@ -31,7 +31,8 @@ impl Cluster {
         request: Request,
         answer: &mut Vec<u8>,
     ) -> Result<bool, AllocError>
-        ensures { IfOk result (λ there. AnswersFor self.old site (item.Request request ∷ []) answer.old.items there answer.new.items self.new) }
+        ensures { IfOk result
+            (λ there. AnswersFor self.old site (item.Request request ∷ []) answer.old.items there answer.new.items self.new) }
     {
         let event = Event::Command {
             site,

@@ -1,21 +1,16 @@
 //! The connection of a site's one client.
 ghost use Rattle.std.specs.Prelude.{◌≡◌, position, IfOk};
-ghost use Rattle.geo_cluster.specs.Connections.{is_quit, has_quit, until_quit, IsNew, Brings};
+ghost use Rattle.geo_grammar.specs.Quitting.{is_quit, has_quit, until_quit};
+ghost use Rattle.geo_cluster.specs.Connections.{IsNew, Brings};
 
-use geo_grammar::{Item, Reader, Request};
+use geo_grammar::{Item, Reader};
 use std::alloc::{AllocError, Global};
-
-fn asks_to_quit(item: &Item) -> bool
-    ensures { result ≡ is_quit item.now }
-{
-    matches!(item, Item::Request(Request::Quit))
-}
 
 /// Where the first quit stands.
 fn first_quit(items: &[Item]) -> Option<usize>
     ensures { result ≡ position is_quit items.now }
 {
-    items.iter().position(|item| asks_to_quit(item))
+    items.iter().position(|item| item.is_quit())
 }
 
 /// Drops what stands behind the first quit: it isn't acted on.
@@ -31,7 +26,7 @@ fn cut_behind_quit(items: &mut Vec<Item>)
 fn ends_by_quit(items: &[Item]) -> bool
     ensures { result ≡ has_quit items.now }
 {
-    items.iter().any(|item| asks_to_quit(item))
+    items.iter().any(|item| item.is_quit())
 }
 
 /// The connection of a site's one client.

@@ -174,7 +174,8 @@ fn evict_line(alloc: Global, args: &[u8]) -> Result<Option<Line>, AllocError>
 
 /// A number at the front of a text, and what stands behind it.
 fn front_number(text: &[u8], least: u64, most: u64) -> Option<(u64, Option<&[u8]>)>
-    ensures number { MatchOption result (front_number least most text.now ≡ None) (λ p. front_number least most text.now ≡ Some (p.0, option_copied p.1)) }
+    ensures number { MatchOption result (front_number least most text.now ≡ None)
+        (λ p. front_number least most text.now ≡ Some (p.0, option_copied p.1)) }
     ensures range { IfSome result (λ p. (least ≤ p.0) × (p.0 ≤ most)) }
 {
     match cut_at(b' ', text) {
@@ -193,7 +194,8 @@ fn option_number<'a>(
 ) -> Option<(u64, Option<&'a [u8]>)>
     requires least { least ≤ otherwise }
     requires most { otherwise ≤ most }
-    ensures number { MatchOption result (option_number name.now least most otherwise (option_copied text.entry) ≡ None) (λ p. option_number name.now least most otherwise (option_copied text.entry) ≡ Some (p.0, option_copied p.1)) }
+    ensures number { MatchOption result (option_number name.now least most otherwise (option_copied text.entry) ≡ None)
+        (λ p. option_number name.now least most otherwise (option_copied text.entry) ≡ Some (p.0, option_copied p.1)) }
     ensures range { IfSome result (λ p. (least ≤ p.0) × (p.0 ≤ most)) }
 {
     let Some(text) = text else {

@@ -60,7 +60,8 @@ impl Run {
     /// Writes what was printed and waits. After a failed write nothing waits any more.
     fn flush<W: Write>(&mut self, alloc: Global, writer: &mut Device<W>) -> Result<(), ScriptFault>
         ensures ok { OnOk result (Appends (W.contents writer.old.inner) (W.contents writer.new.inner) self.old.out.items) }
-        ensures err { IfErr result (λ e. (e ≡ ScriptFault.Write) × ((n : ℕ) × Appends (W.contents writer.old.inner) (W.contents writer.new.inner) (take n self.old.out.items))) }
+        ensures err { IfErr result (λ e. (e ≡ ScriptFault.Write)
+            × ((n : ℕ) × Appends (W.contents writer.old.inner) (W.contents writer.new.inner) (take n self.old.out.items))) }
         ensures failed { OnErr result (IsTrue writer.new.failed) }
         ensures stays { IsTrue writer.old.failed → IsTrue writer.new.failed }
         ensures empty { self.new.out.items ≡ [] }
@@ -72,8 +73,10 @@ impl Run {
 
     /// Carries out a line that has come whole, and is counted already.
     fn play_line(&mut self, alloc: Global, line: &[u8]) -> Result<(), ScriptFault>
-        ensures ok { OnOk result ((p : Progress) → Stands p self.old.cluster → PlaysOn p line.now self.old.out.items self.new.out.items self.new.cluster) }
-        ensures err { IfErr result (λ e. (self.new.out.items ≡ self.old.out.items) × ((p : Progress) → Stands p self.old.cluster → EndsAtLine e p line.now self.old.lines)) }
+        ensures ok { OnOk result ((p : Progress) → Stands p self.old.cluster
+            → PlaysOn p line.now self.old.out.items self.new.out.items self.new.cluster) }
+        ensures err { IfErr result (λ e. (self.new.out.items ≡ self.old.out.items)
+            × ((p : Progress) → Stands p self.old.cluster → EndsAtLine e p line.now self.old.lines)) }
         ensures failed { IfErr result (λ e. IsOfWriter e false) }
         ensures rest { (self.new.lines ≡ self.old.lines) × (self.new.unfinished.items ≡ self.old.unfinished.items) }
     {
@@ -98,8 +101,12 @@ impl Run {
         front: &[u8],
     ) -> Result<(), ScriptFault>
         requires { self.old.lines + 1 < 2 ^ 64 }
-        ensures ok { OnOk result (Advances self.old self.new ((self.old.unfinished.items ++ front.now) ∷ []) (W.contents writer.old.inner) (W.contents writer.new.inner)) }
-        ensures err { IfErr result (λ e. Stops e self.old ((self.old.unfinished.items ++ front.now) ∷ []) (W.contents writer.old.inner) (W.contents writer.new.inner) self.new.out.items) }
+        ensures ok { OnOk result
+            (Advances self.old self.new ((self.old.unfinished.items ++ front.now) ∷ []) (W.contents writer.old.inner)
+            (W.contents writer.new.inner)) }
+        ensures err { IfErr result
+            (λ e. Stops e self.old ((self.old.unfinished.items ++ front.now) ∷ []) (W.contents writer.old.inner)
+            (W.contents writer.new.inner) self.new.out.items) }
         ensures failed { IfErr result (λ e. IsOfWriter e writer.new.failed) }
         ensures ended { OnOk result ((self.new.unfinished.items ≡ []) × (self.new.lines ≡ self.old.lines + 1)) }
     {
@@ -121,8 +128,12 @@ impl Run {
         piece: &[u8],
     ) -> Result<(), ScriptFault>
         requires { self.old.lines + length piece.now < 2 ^ 64 }
-        ensures ok { OnOk result (Advances self.old self.new (ended_in self.old.unfinished.items piece.now) (W.contents writer.old.inner) (W.contents writer.new.inner)) }
-        ensures err { IfErr result (λ e. Stops e self.old (ended_in self.old.unfinished.items piece.now) (W.contents writer.old.inner) (W.contents writer.new.inner) self.new.out.items) }
+        ensures ok { OnOk result
+            (Advances self.old self.new (ended_in self.old.unfinished.items piece.now) (W.contents writer.old.inner)
+            (W.contents writer.new.inner)) }
+        ensures err { IfErr result
+            (λ e. Stops e self.old (ended_in self.old.unfinished.items piece.now) (W.contents writer.old.inner)
+            (W.contents writer.new.inner) self.new.out.items) }
         ensures failed { IfErr result (λ e. IsOfWriter e writer.new.failed) }
         ensures left { OnOk result (self.new.unfinished.items ≡ left_in self.old.unfinished.items piece.now) }
         ensures few { OnOk result (self.new.lines ≤ self.old.lines + length piece.now) }
@@ -144,8 +155,12 @@ impl Run {
         writer: &mut Device<W>,
     ) -> Result<(), ScriptFault>
         requires { IsFresh self.old }
-        ensures ok { OnOk result (IfSome (R.remaining reader.old.inner) (λ input. Advances self.old self.new (lines_of input) (W.contents writer.old.inner) (W.contents writer.new.inner))) }
-        ensures err { IfErr result (λ e. IfSome (R.remaining reader.old.inner) (λ input. Stops e self.old (lines_of input) (W.contents writer.old.inner) (W.contents writer.new.inner) self.new.out.items)) }
+        ensures ok { OnOk result
+            (IfSome (R.remaining reader.old.inner)
+            (λ input. Advances self.old self.new (lines_of input) (W.contents writer.old.inner) (W.contents writer.new.inner))) }
+        ensures err { IfErr result
+            (λ e. IfSome (R.remaining reader.old.inner)
+            (λ input. Stops e self.old (lines_of input) (W.contents writer.old.inner) (W.contents writer.new.inner) self.new.out.items)) }
         ensures failed { IfErr result (λ e. IsOfDevices e (R.remaining reader.old.inner) reader.new.failed writer.new.failed) }
     {
         let mut buffer = piece_buffer(alloc)?;
@@ -170,7 +185,8 @@ impl Run {
 /// Writes all bytes, or a beginning of them where a write fails.
 fn write_all<W: Write>(writer: &mut Device<W>, bytes: &[u8]) -> Result<(), ScriptFault>
     ensures ok { OnOk result (Appends (W.contents writer.old.inner) (W.contents writer.new.inner) bytes.now) }
-    ensures err { IfErr result (λ e. (e ≡ ScriptFault.Write) × ((n : ℕ) × Appends (W.contents writer.old.inner) (W.contents writer.new.inner) (take n bytes.now))) }
+    ensures err { IfErr result (λ e. (e ≡ ScriptFault.Write)
+        × ((n : ℕ) × Appends (W.contents writer.old.inner) (W.contents writer.new.inner) (take n bytes.now))) }
     ensures failed { OnErr result (IsTrue writer.new.failed) }
     ensures stays { IsTrue writer.old.failed → IsTrue writer.new.failed }
 {
@@ -196,8 +212,12 @@ pub fn run_script<R: Read, W: Write>(
     reader: &mut Device<R>,
     writer: &mut Device<W>,
 ) -> Result<(), ScriptFault>
-    ensures ok { OnOk result (IfSome (R.remaining reader.old.inner) (λ input. Performs (lines_of input) (W.contents writer.old.inner) (W.contents writer.new.inner))) }
-    ensures err { IfErr result (λ e. IfSome (R.remaining reader.old.inner) (λ input. Ends e (lines_of input) (W.contents writer.old.inner) (W.contents writer.new.inner))) }
+    ensures ok { OnOk result
+        (IfSome (R.remaining reader.old.inner)
+        (λ input. Performs (lines_of input) (W.contents writer.old.inner) (W.contents writer.new.inner))) }
+    ensures err { IfErr result
+        (λ e. IfSome (R.remaining reader.old.inner)
+        (λ input. Ends e (lines_of input) (W.contents writer.old.inner) (W.contents writer.new.inner))) }
     ensures failed { IfErr result (λ e. IsOfDevices e (R.remaining reader.old.inner) reader.new.failed writer.new.failed) }
 {
     let mut run = Run::new(alloc, hasher);

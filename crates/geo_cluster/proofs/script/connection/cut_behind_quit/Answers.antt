@@ -1,7 +1,7 @@
 use Rattle.std.proofs.Common.{◌≡◌, ◌+◌, ◌≤◌, suc, Some, None, List, length, take, sym, ap, subst, ◌∙◌, arith}
 use Rattle.std.specs.List.{position_or_len}
 use Rattle.geo_grammar.specs.declared.item.Item.{Item}
-use Rattle.geo_cluster.specs.Connections.{is_quit}
+use Rattle.geo_grammar.specs.Quitting.{is_quit}
 use Rattle.geo_cluster.proofs.Cutting.{position_says}
 use Rattle.geo_cluster.proofs.Quitting.{until_first, until_none}
 use Rattle.geo_cluster.proofs.script.connection.cut_behind_quit.Goals as goal

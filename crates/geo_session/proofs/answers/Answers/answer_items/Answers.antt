@@ -1,7 +1,7 @@
 use Rattle.std.proofs.Common.{arith, refl, sym, ap, ◌∙◌, ◌≡◌, ◌++◌, ◌∷◌, [], true, false, List, length, cond}
 use Rattle.std.specs.Vec.Iter.{into_iter_items}
 use Rattle.geo_grammar.specs.declared.item.Item.{Item}
-use Rattle.geo_session.specs.Closings.{is_quit, until_quit}
+use Rattle.geo_grammar.specs.Quitting.{is_quit, until_quit}
 use Rattle.geo_session.specs.Exchanges.{count_after}
 use Rattle.geo_lattice.proofs.Showing.{rest_more, rest_none}
 use Rattle.geo_session.proofs.Lists.{on_err}
@@ -50,7 +50,7 @@ returns-then-quits-clause-ok g c =
     let rest = into_iter_items c.next.new.self in
     let all : c.loop-item.yielded ++ (item ∷ rest) ≡ c.args.items.items = ap (λ (x : List Item). c.loop-item.yielded ++ x) (sym c.in-Some.ensures.steps.0) ∙ i.rest ∙ c.into_iter-item-iterator.ensures.into_iter_gives.0 in
     let h = rw c.if-not-branch.false at c.in_ok-answer_item.ensures.ok in
-    let quits : is_quit item ≡ true = sym c.asks_to_quit-quits.ensures ∙ c.if-quits.true in
+    let quits : is_quit item ≡ true = sym c.is_quit-quits.ensures ∙ c.if-quits.true in
     record {
       done = i.done ++ h.exchange ∷ [];
       left = [];
@@ -67,7 +67,7 @@ loop-item-preserved g c =
     let item = c.in-Some.item in
     let steps = c.in-Some.ensures.steps.0 in
     let h = rw c.if-not-branch.false at c.in_ok-answer_item.ensures.ok in
-    let goes : is_quit item ≡ false = sym c.asks_to_quit-quits.ensures ∙ c.if-quits.false in
+    let goes : is_quit item ≡ false = sym c.is_quit-quits.ensures ∙ c.if-quits.false in
     record {
       done = i.done ++ h.exchange ∷ [];
       rest = rest_more c.loop-item.yielded _ _ _ item i.rest steps;

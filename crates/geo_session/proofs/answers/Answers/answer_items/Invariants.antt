@@ -1,6 +1,6 @@
 use Rattle.std.proofs.Common.{◌≡◌, ◌++◌, false, List, length}
 use Rattle.std.specs.Vec.Iter.{into_iter_items, into_iter_len}
-use Rattle.geo_session.specs.Closings.{has_quit}
+use Rattle.geo_grammar.specs.Quitting.{has_quit}
 use Rattle.geo_session.specs.Exchanges.{Exchange, items_in, Runs}
 use Rattle.geo_session.specs.Batches.{Adds}
 use Rattle.geo_session.proofs.answers.Answers.answer_items.Given as goal
