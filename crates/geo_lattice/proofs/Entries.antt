@@ -1,5 +1,5 @@
 -- What a look-up among entries finds.
-use Rattle.std.proofs.Common.{◌≡◌, Bool, true, false, cond, List, [], ◌∷◌, ◌++◌, Option, None, Some, refl, sym, ap, ◌∙◌, subst, ℕ, zero, suc, ◌<◌, ◌≤◌, length, arith, slice_get, get_or}
+use Rattle.std.proofs.Common.{◌≡◌, Bool, true, false, cond, List, [], ◌∷◌, ◌++◌, Option, None, Some, refl, sym, ap, ◌∙◌, subst, ℕ, zero, suc, ◌<◌, ◌≤◌, length, arith, slice_get, get_or, IfSome}
 use Rattle.std.specs.Map.{lookup}
 use Rattle.geo_lattice.specs.Maps.{meaning_or, EachOf, EachFound}
 
@@ -39,6 +39,14 @@ none_passes {K} {V} passing es n le each test = by (lookup test es) refl
     by : (o : Option V) → lookup test es ≡ o → meaning_or false passing o ≡ false
     by None found = refl
     by (Some v) found = (each_entry (λ (k : K) v. passing v ≡ false) es n le each test v found).2
+
+-- where each entry meets something, what is found does
+pub each_found : {K V : Type 0} (P : V → Type 0) (es : List (K × V)) (n : ℕ) → length es ≤ n → EachOf (λ k v. P v) es n → (test : K → Bool) → IfSome (lookup test es) P
+each_found {K} {V} P es n le each test = by (lookup test es) refl
+  where
+    by : (o : Option V) → lookup test es ≡ o → IfSome o P
+    by None found = tt
+    by (Some v) found = (each_entry (λ (k : K) v. P v) es n le each test v found).2
 
 -- the last entry is found, where no entry before it has its key
 found_by : {V : Type 0} (b : Bool) (x : V) (o p : Option V) {w : Option V} → cond b (Some x) o ≡ None → (o ≡ None → p ≡ w) → cond b (Some x) p ≡ w

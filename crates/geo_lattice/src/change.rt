@@ -1,5 +1,5 @@
-//! Changes, views and tests of values, by what they mean.
-ghost use Rattle.std.specs.Prelude.{◌≡◌, Bool, Option};
+//! Changes, views, tests and measures of values, by what they mean.
+ghost use Rattle.std.specs.Prelude.{◌≡◌, ℕ, Bool, Option};
 
 /// A change of values.
 pub trait Change<L> {
@@ -32,4 +32,14 @@ pub trait Test<L> {
     /// Whether one value passes.
     fn passes(&self, value: &L) -> bool
         ensures { result ≡ passing self.now value.now };
+}
+
+/// A measure of values.
+pub trait Measure<L> {
+    /// A value's measure.
+    ghost measured: { Self → L → ℕ };
+
+    /// One value's measure.
+    fn measure(&self, value: &L) -> u64
+        ensures { result ≡ measured self.now value.now };
 }

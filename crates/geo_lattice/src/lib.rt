@@ -15,7 +15,7 @@ pub mod max;
 pub mod pair;
 pub mod twin;
 
-pub use change::{Change, Show, Test};
+pub use change::{Change, Measure, Show, Test};
 pub use exact::Exact;
 pub use items::Items;
 pub use lattice::{Bottom, Flat, Lattice};

@@ -1,12 +1,12 @@
 //! A map, joined key by key.
-ghost use Rattle.std.specs.Prelude.{◌≡◌, ◌+◌, ◌≤◌, ◌<◌, IsTrue, IsOk, IfOk, OnOk, OnErr, Option, IsSome, option_map, option_copied, None, Some, MatchOption, false, true, cond, is_some, length, ◌↔◌};
+ghost use Rattle.std.specs.Prelude.{◌≡◌, ◌+◌, ◌≤◌, ◌<◌, IsTrue, IsOk, IfOk, IfSome, OnOk, OnErr, Option, IsSome, option_map, option_copied, None, Some, MatchOption, false, true, cond, is_some, length, ◌↔◌};
 ghost use Rattle.std.specs.Map.{keys_of, lookup};
 ghost use Rattle.std.specs.List.Sorted.{IsStrictlySortedBy};
 ghost use Rattle.std.specs.Option.{option_and_then};
 ghost use Rattle.std.specs.List.{IsDistinct};
 ghost use Rattle.geo_lattice.specs.Maps.{get, meaning_or, meaning_at, RoomFor, HasRoomFor, HasRoomForList, missing, EachFound, all_joined};
 
-use crate::change::{Change, Show, Test};
+use crate::change::{Change, Measure, Show, Test};
 use crate::lattice::{Bottom, Flat, Lattice};
 use crate::twin::Twin;
 use indexmap::IndexMap;
@@ -135,6 +135,19 @@ impl<K: Twin + Eq + Hash, L: Bottom> MapOf<K, L> {
             }
         }
         None
+    }
+
+    /// The least measure of a value, 2^64 - 1 where there is none. It looks at one value after another, and takes no memory.
+    pub fn least<M: Measure<L>>(&self, measure: &M) -> u64
+        ensures { (q : K) → IfSome (get K.eq self.now q) (λ v. result ≤ M.measured measure.now v) }
+    {
+        let mut least = u64::MAX;
+        for i in 0..self.entries.len() {
+            if let Some((_, value)) = self.entries.get_index(i) {
+                least = least.min(measure.measure(value));
+            }
+        }
+        least
     }
 
     /// Joins one value. Where a growth was refused, nothing is joined. None is needed where there is a value with room for it.

@@ -3,3 +3,4 @@ pub mod Cut
 pub mod Listed
 pub mod InOrder
 pub mod Sifting
+pub mod Lasting

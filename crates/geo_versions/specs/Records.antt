@@ -1,5 +1,5 @@
 -- What the code's records mean, in the words of operations.
-use Rattle.std.specs.Prelude.{◌≡◌, ℕ, Bool, true, false, cond, not, ◌&&◌, ◌||◌, ◌==◌, nat_le, nat_lt, List, [], ◌∷◌, Option, None, Some, is_some}
+use Rattle.std.specs.Prelude.{◌≡◌, ℕ, Bool, true, false, cond, not, ◌&&◌, ◌||◌, ◌==◌, ◌<◌, min, nat_le, nat_lt, List, [], ◌∷◌, Option, None, Some, is_some}
 use Rattle.std.specs.Ordering.{nat_cmp}
 use Rattle.std.specs.Cmp.Lexicographic.{slice_cmp}
 use Rattle.std.specs.declared.cmp.Ordering.TheVariants.{Less}
@@ -10,7 +10,7 @@ use Rattle.geo_lattice.specs.declared.pair.Pair.{Pair}
 use Rattle.geo_stamp.specs.Stamps.{Moment}
 use Rattle.geo_stamp.specs.Vectors.{entry_of}
 use Rattle.geo_versions.specs.Keys.{same_key}
-use Rattle.geo_versions.specs.Operations.{Record, Register, record_joined, above, version_in}
+use Rattle.geo_versions.specs.Operations.{Record, Register, record_joined, above, above_both, version_in}
 use Rattle.geo_versions.specs.declared.body.Body.{Body}
 use Rattle.geo_versions.specs.declared.version.Version.{Version}
 
@@ -93,6 +93,19 @@ remaining horizon r = cond (is_over horizon r) (None, None) r
 abbrev pub rec_remaining : ℕ → Rec → Rec
 rec_remaining horizon r =
     cond (is_over horizon (rec_means r)) (record { left = record { register = None }; right = record { register = None } }) r
+
+-- the record stays whole over each removal at a horizon below a time
+abbrev pub LastsTo : ℕ → Record → Type 0
+LastsTo time r = (horizon : ℕ) → horizon < time → remaining horizon r ≡ r
+
+-- the time of a register, the greatest number where it is empty
+abbrev pub time_in : {A : Type 0} → Register A → ℕ
+time_in None = 18446744073709551615
+time_in (Some r) = r.0.time
+
+-- a time that a record lasts to once it is cut at a floor: no removal takes what has a version, nor what has a later time
+abbrev pub lasting_of : Option Moment → Record → ℕ
+lasting_of floor r = cond (is_some (version_in (above_both floor r))) 18446744073709551615 (min (time_in r.0) (time_in r.1))
 
 -- each key is greater than the one before it, byte by byte
 abbrev pub Above : {V : Type 0} → List ℕ → List (List ℕ × V) → Type 0

@@ -1,12 +1,15 @@
 //! What every site knows already, and need not keep.
-ghost use Rattle.std.specs.Prelude.{◌≡◌};
+ghost use Rattle.std.specs.Prelude.{◌≡◌, ◌≤◌, is_some};
+ghost use Rattle.std.specs.List.{All};
 ghost use Rattle.geo_versions.specs.Maps.{is_old, sifted};
-ghost use Rattle.geo_versions.specs.Records.{rec_recent, rec_remaining};
+ghost use Rattle.geo_versions.specs.Operations.{above_both, version_in};
+ghost use Rattle.geo_versions.specs.Records.{rec_means, rec_recent, rec_remaining, time_in, lasting_of};
 
-use crate::body::Rec;
+use crate::body::{Body, Rec};
+use crate::floor::counts;
 use crate::key::Key;
 use crate::version::shown_version;
-use geo_lattice::{Bottom, Change, Exact, Lww};
+use geo_lattice::{Bottom, Change, Exact, Lww, Measure};
 use geo_stamp::Stamp;
 
 /// Whether a register is empty, or every site knows its operation.
@@ -54,6 +57,60 @@ impl Change<Rec> for Remaining {
         {
             *value = Rec::bottom();
         }
+    }
+}
+
+/// The time of a register, the greatest number where it is empty.
+fn time_of<V: Exact + Drop>(register: &Lww<Stamp, V>) -> u64
+    ensures { result ≡ time_in register.now.register }
+{
+    match register.get() {
+        None => u64::MAX,
+        Some((stamp, _)) => stamp.time(),
+    }
+}
+
+/// Whether a record has a version above a floor.
+fn is_shown(floor: Option<Stamp>, rec: &Rec) -> bool
+    ensures { result ≡ is_some (version_in (above_both floor (rec_means rec.now))) }
+{
+    match rec.left.get() {
+        None | Some((_, Body::Gone)) => false,
+        Some((stamp, Body::Value { .. })) => counts(floor, *stamp),
+    }
+}
+
+/// The time up to which no removal drops a record that is cut at a floor.
+#[derive(Clone, Copy)]
+pub(crate) struct Lasting {
+    pub floor: Option<Stamp>,
+}
+
+impl Measure<Rec> for Lasting {
+    ghost use Rattle.geo_versions.specs.Records.{rec_means, lasting_of};
+
+    ghost measured = { λ l r. lasting_of l.floor (rec_means r) };
+
+    fn measure(&self, value: &Rec) -> u64 {
+        if is_shown(self.floor, value) {
+            u64::MAX
+        } else {
+            time_of(&value.left).min(time_of(&value.right))
+        }
+    }
+}
+
+impl Lasting {
+    /// The least of a time and those of records.
+    pub(crate) fn least(&self, most: u64, records: &[(Key, Rec)]) -> u64
+        ensures most { result ≤ most }
+        ensures each { All (λ e. result ≤ lasting_of self.now.floor (rec_means e.1)) records.now }
+    {
+        let mut least = most;
+        for (_, rec) in records {
+            least = least.min(self.measure(rec));
+        }
+        least
     }
 }
 

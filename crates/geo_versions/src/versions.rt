@@ -1,14 +1,15 @@
 //! The floor, and what is kept of each key.
-ghost use Rattle.geo_versions.specs.Records.{record_at};
+ghost use Rattle.std.specs.Prelude.{List, ℕ};
+ghost use Rattle.geo_versions.specs.Records.{record_at, LastsTo};
 ghost use Rattle.geo_versions.specs.Normal.{IsNormal, normal_prop};
 
 use crate::body::{Body, Rec};
 use crate::floor::{AboveFloor, counts, later};
 use crate::key::Key;
-use crate::removal::Remaining;
+use crate::removal::{Lasting, Remaining};
 use crate::shown::{Ended, Shown, UnknownTo, Whole, copied};
 use crate::version::{Version, shown_version};
-use geo_lattice::{Bottom, Change, Lattice, Lww, MapOf, Pair};
+use geo_lattice::{Bottom, Change, Lattice, Lww, MapOf, Measure, Pair};
 use geo_stamp::{Stamp, Vector};
 use std::alloc::{AllocError, Global};
 use std::hash::RandomState;
@@ -18,6 +19,9 @@ use std::hash::RandomState;
 pub struct Versions {
     floor: Option<Stamp>,
     records: MapOf<Key, Rec>,
+    /// No removal at a horizon below this time drops a record.
+    lasting: u64,
+    ghost lasts: { (q : List ℕ) → LastsTo lasting (record_at records q) },
     ghost above: { IsNormal (floor, record_at records) } by { normal_prop (floor, record_at records) },
 }
 
@@ -38,6 +42,7 @@ impl Versions {
         Versions {
             floor: None,
             records: MapOf::with_hasher(alloc, hasher),
+            lasting: u64::MAX,
         }
     }
 
@@ -124,7 +129,9 @@ impl Versions {
             left: Lww::of(stamp, body),
             right: Lww::of(stamp, expiry),
         };
+        let lasting = Lasting { floor: self.floor }.measure(&record);
         self.records.put(alloc, key, record)?;
+        self.lasting = self.lasting.min(lasting);
         Ok(())
     }
 
@@ -160,6 +167,7 @@ impl Versions {
         if self.floor != above.floor {
             self.floor = above.floor;
             self.records.change_all(&above);
+            self.lasting = 0;
         }
     }
 
@@ -189,22 +197,30 @@ impl Versions {
         let above = AboveFloor {
             floor: later(self.floor, floor),
         };
+        let lasting = Lasting { floor: above.floor }.least(self.lasting, records.as_slice());
         self.records.join_list(records, &above);
+        self.lasting = lasting;
         if self.floor != above.floor {
             self.floor = above.floor;
             self.records.change_all(&above);
+            self.lasting = 0;
         }
     }
 
     /// Drops the records that have no version and no operation with a time above the horizon, up to which every site knows all, and
-    /// tells how many it dropped (stable operations: Almeida et al. 2018). It passes over all records and takes no memory.
+    /// tells how many it dropped (stable operations: Almeida et al. 2018). Where it knows that there is none, it tells so at once; else it
+    /// passes over all records. It takes no memory.
     pub fn remove_below(&mut self, horizon: u64) -> usize
         ensures records { (q : List ℕ) → record_in self.new q ≡ remaining horizon (record_in self.old q) }
         ensures floor { floor_in self.new ≡ floor_in self.old }
         ensures counts { count_in self.new + result ≡ count_in self.old }
     {
+        if horizon < self.lasting {
+            return 0;
+        }
         let before = self.records.len();
         self.records.change_all(&Remaining { horizon });
+        self.lasting = self.records.least(&Lasting { floor: self.floor });
         before - self.records.len()
     }
 
@@ -274,11 +290,12 @@ impl Lattice for Versions {
     }
 
     fn join(&mut self, other: Self) {
-        let Versions { floor, records } = other;
+        let Versions { floor, records, .. } = other;
         let above = AboveFloor {
             floor: later(self.floor, floor),
         };
         self.records.join_changed(records, &above);
+        self.lasting = 0;
         if self.floor != above.floor {
             self.floor = above.floor;
             self.records.change_all(&above);

@@ -4,7 +4,9 @@ ghost use Rattle.geo_lattice.specs.Maps.{meaning_or};
 ghost use Rattle.geo_lattice.specs.declared.lww.Lww.{Lww};
 
 use crate::tests::text::{Row, check, join, numbers, show_number, show_numbers};
-use geo_lattice::{Bottom, Change, Items, Lattice, Lww, MapOf, Max, Pair, Show, Test, Twin};
+use geo_lattice::{
+    Bottom, Change, Items, Lattice, Lww, MapOf, Max, Measure, Pair, Show, Test, Twin,
+};
 use std::alloc::{AllocError, Global};
 use std::hash::RandomState;
 use std::process::Abort;
@@ -70,6 +72,21 @@ impl Test<Register> for After {
         match value.get() {
             None => false,
             Some((stamp, _)) => self.stamp < *stamp,
+        }
+    }
+}
+
+/// The stamp of a register, 0 where it is empty.
+#[derive(Clone, Copy)]
+struct StampOf;
+
+impl Measure<Register> for StampOf {
+    ghost measured = { λ _ r. meaning_or 0 (λ p. p.0) r.register };
+
+    fn measure(&self, value: &Register) -> u64 {
+        match value.get() {
+            None => 0,
+            Some((stamp, _)) => *stamp,
         }
     }
 }
@@ -299,6 +316,7 @@ fn step(
         Step::JoinList => join_list(map, list_of(alloc, text)?),
         Step::JoinAt => join_at(out, map, text),
         Step::Found => show_found(out, map, text),
+        Step::Least => show_number(out, map.least(&StampOf)),
         Step::Listed => show_listed(out, map),
         Step::Empty => {
             map.change_all(&Emptied);

@@ -49,6 +49,8 @@ pub enum Step {
     JoinAt,
     /// Seeks a name whose stamp is later.
     Found,
+    /// Shows the least stamp.
+    Least,
     /// Lists all.
     Listed,
     /// Empties all.
@@ -103,18 +105,21 @@ const AGAIN: &[MapRow] = &[
     ),
 ];
 
-/// A name is found whose value passes a test.
+/// A name is found whose value passes a test, and so is the least measure of a value.
 const SOUGHT: &[MapRow] = &[
     (Step::Found, "0", "none:0"),
+    (Step::Least, "", " 18446744073709551615:0"),
     (
         Step::Put,
         "1=4.40 2=2.20 3=7.70",
         ":3, 1 4 40, 2 2 20, 3 7 70",
     ),
     (Step::Found, "6", " 3:3, 1 4 40, 2 2 20, 3 7 70"),
+    (Step::Least, "", " 2:3, 1 4 40, 2 2 20, 3 7 70"),
     (Step::Found, "7", "none:3, 1 4 40, 2 2 20, 3 7 70"),
     (Step::Put, "2=9.90", ":3, 1 4 40, 2 9 90, 3 7 70"),
     (Step::Found, "7", " 2:3, 1 4 40, 2 9 90, 3 7 70"),
+    (Step::Least, "", " 4:3, 1 4 40, 2 9 90, 3 7 70"),
 ];
 
 /// Each begins with an empty map.

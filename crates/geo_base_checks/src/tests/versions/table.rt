@@ -210,12 +210,22 @@ const REMOVED: &[VersionRow] = &[
     ),
     (Step::Remove(2), " 0:- 3, a 1 0 1 2.1 0 2.1, b gone, c gone"),
     (Step::Remove(3), " 1:- 2, a 1 0 1 2.1 0 2.1, c gone"),
+    (Step::Remove(4), " 0:- 2, a 1 0 1 2.1 0 2.1, c gone"),
     (Step::Remove(9), " 1:- 1, a 1 0 1 2.1 0 2.1"),
+];
+
+/// What a flush left of a key that was touched later is removed up to the horizon.
+const LEFT: &[VersionRow] = &[
+    (Step::Write("a", (1, 1), ONE, 0), ":- 1, a 1 0 1 1.1 0 1.1"),
+    (Step::Touch("a", (6, 2), 70), ":- 1, a 1 0 1 1.1 70 6.2"),
+    (Step::Flush((4, 1)), ":4.1 1, a gone"),
+    (Step::Remove(5), " 0:4.1 1, a gone"),
+    (Step::Remove(6), " 1:4.1 0"),
 ];
 
 /// Each begins with nothing known.
 pub const VERSIONS: &[&[VersionRow]] = &[
-    WRITTEN, DELETED, TOUCHED, FLUSHED, PARCELS, SINCE, ENDED, MOVED, JOINED, WITH, REMOVED,
+    WRITTEN, DELETED, TOUCHED, FLUSHED, PARCELS, SINCE, ENDED, MOVED, JOINED, WITH, REMOVED, LEFT,
 ];
 
 /// A write at 2, one at 5 whose key was touched at 9, and a delete at 3 of site 2.

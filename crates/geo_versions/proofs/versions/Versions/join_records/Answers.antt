@@ -1,9 +1,11 @@
-use Rattle.std.proofs.Common.{rules, ◌≡◌, ◌∙◌, ap}
+use Rattle.std.proofs.Common.{rules, ◌≡◌, ◌≤◌, ◌∙◌, ap, sym, subst, List, ℕ}
+use Rattle.std.specs.List.{All}
 use Rattle.geo_lattice.specs.Maps.{get}
 use Rattle.geo_versions.specs.Keys.{same_key}
 use Rattle.geo_versions.specs.Operations.{above_both, record_joined}
-use Rattle.geo_versions.specs.Records.{record_at, listed_at}
+use Rattle.geo_versions.specs.Records.{Rec, rec_means, record_at, listed_at, LastsTo, lasting_of}
 use Rattle.geo_versions.proofs.Cut.{changed_above, listed_above, cut_normal, joined_at_floor, joined_at_rise}
+use Rattle.geo_versions.proofs.Lasting.{lasts_less, lasts_joined, lasts_listed}
 use Rattle.geo_versions.proofs.versions.Versions.join_records.Goals as goal
 
 pub returns-then-ne-clause-records : goal.returns-then-ne-clause-records
@@ -24,6 +26,10 @@ invariant_of-self-else-ne c =
     let v = c.args.self.now in
     let same : c.later.result ≡ v.floor = search rules in
     record {
+      lasts = λ q.
+          subst (LastsTo c.least-lasting.result) (sym (c.join_list.ensures q))
+          (lasts_joined c.least-lasting.result (record_at v.records q) _ (lasts_less v.lasting c.least-lasting.result (record_at v.records q) c.least-lasting.ensures.most (v.lasts q))
+          (lasts_listed c.later.result c.least-lasting.result c.args.records.items (subst (λ (es : List (List ℕ × Rec)). All (λ e. c.least-lasting.result ≤ lasting_of c.later.result (rec_means e.1)) es) c.as_slice.ensures.value c.least-lasting.ensures.each) q));
       above = λ q.
           let joined = joined_at_floor v.floor (record_at v.records q) (record_at c.join_list.new.self q) (listed_at c.args.records.items q) _ (v.above q)
           (listed_above c.later.result c.args.records.items q ∙ ap (λ f. above_both f (listed_at c.args.records.items q)) same) (c.join_list.ensures q) in

@@ -1,7 +1,9 @@
-use Rattle.std.proofs.Common.{◌≡◌, ◌∙◌, sym}
-use Rattle.geo_versions.specs.Operations.{Record, above_both}
+use Rattle.std.proofs.Common.{◌≡◌, ◌∙◌, sym, cond}
+use Rattle.geo_versions.specs.Keys.{same_key}
+use Rattle.geo_versions.specs.Operations.{Record, above_both, record_joined}
 use Rattle.geo_versions.specs.Records.{record_at}
 use Rattle.geo_versions.proofs.Cut.{one_joined_normal, touch_above}
+use Rattle.geo_versions.proofs.Lasting.{lasts_touch}
 use Rattle.geo_versions.proofs.versions.Versions.touch.Goals as goal
 
 pub invariant_of-self : goal.invariant_of-self
@@ -10,4 +12,8 @@ invariant_of-self c =
     let x : Record = (c.none-left.result.register, c.of-expiry.result.register) in
     let above : above_both v.floor x ≡ x =
     (λ i. above_both v.floor (c.none-left.ensures i, c.of-expiry.ensures i)) ∙ touch_above v.floor c.args.stamp c.args.expiry (sym c.if-counts.ensures) ∙ (λ i. (sym c.none-left.ensures i, sym c.of-expiry.ensures i)) in
-    record { above = one_joined_normal v.floor (record_at v.records) (record_at c.join_at.new.self) c.args.key.now x v.above above c.join_at.ensures }
+    record {
+      lasts = lasts_touch v.lasting (record_at v.records) (record_at c.join_at.new.self) c.args.key.now c.of-expiry.result.register v.lasts c.requires
+          (λ q. c.join_at.ensures q ∙ (λ i. cond {A = Record} (same_key c.args.key.now q) (record_joined (record_at v.records q) (c.none-left.ensures i, c.of-expiry.result.register)) (record_at v.records q)));
+      above = one_joined_normal v.floor (record_at v.records) (record_at c.join_at.new.self) c.args.key.now x v.above above c.join_at.ensures;
+    }

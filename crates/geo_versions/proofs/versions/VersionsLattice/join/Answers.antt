@@ -1,4 +1,4 @@
-use Rattle.std.proofs.Common.{rules, ◌≡◌, ◌∙◌, sym, ap, List, ℕ}
+use Rattle.std.proofs.Common.{rules, ◌≡◌, ◌∙◌, sym, ap, List, ℕ, arith}
 use Rattle.geo_lattice.specs.Maps.{get}
 use Rattle.geo_versions.specs.Keys.{same_key}
 use Rattle.geo_versions.specs.Normal.{same_normal}
@@ -34,6 +34,7 @@ invariant_of-self-else-ne c =
     let w = c.args.other in
     let same : c.later.result ≡ v.floor = search rules in
     record {
+      lasts = λ q h lt. absurd (omega (arith, lt));
       above = λ q.
           let joined = joined_at_floor v.floor (record_at v.records q) (record_at c.join_changed.new.self q) (record_at w.records q) _ (v.above q)
           (changed_above c.later.result (get same_key w.records q) ∙ ap (λ f. above_both f (record_at w.records q)) same) (c.join_changed.ensures q) in
