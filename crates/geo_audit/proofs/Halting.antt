@@ -10,7 +10,7 @@ use Rattle.geo_history.specs.declared.step.Event.TheVariants.{Take}
 use Rattle.geo_history.specs.declared.step.Answer.{Answer}
 use Rattle.geo_history.specs.declared.step.Answer.TheVariants.{Replied, Evicted, Sent, SendRefused, Taken as Took, TakeRefused, Removed, Ticked, Reaped, ReapRefused}
 use Rattle.geo_history.specs.declared.step.Step.{Step}
-use Rattle.geo_audit.specs.Runs.{Turn, steps_at, parcel_in, listed, sent_in, Carries, EachCarries, IsOneOf, Interleaves}
+use Rattle.geo_audit.specs.Runs.{Turn, steps_at, parcel_in, listed, sent_in, TakesNumbered, EachTakesNumbered, IsOneOf, Interleaves}
 use Rattle.geo_audit.specs.Verdicts.{HasMore, Waits}
 use Rattle.geo_audit.proofs.Lists.{none_some, some_is, got_left, got_right}
 use Rattle.geo_audit.proofs.Runs.{if_more, sent_more}
@@ -85,7 +85,7 @@ there_at (x ∷ xs) (suc i) h = there_at xs i (omega (arith, h))
 module _ (histories : List History) (counts : List ℕ) (more : HasMore histories counts) (waits : (k : ℕ) (h : History) → slice_get histories k ≡ Some h → slice_index counts k < length h.steps.items → Waits histories counts h (slice_index counts k)) where
   -- the next turn of a run takes a step that is counted
   module _ (done rest : List Turn) (t : Turn) (own : All (IsOneOf histories) (done ++ t ∷ rest)) (whole : (k : ℕ) (h : History) → slice_get histories k ≡ Some h → steps_at (k + 1) (done ++ t ∷ rest) ≡ h.steps.items)
-      (carries : Carries (sent_in done) t.number t.step.event) (few : (k : ℕ) (h : History) → slice_get histories k ≡ Some h → length (steps_at (k + 1) done) ≤ slice_index counts k) where
+      (carries : TakesNumbered (sent_in done) t.number t.step.event) (few : (k : ℕ) (h : History) → slice_get histories k ≡ Some h → length (steps_at (k + 1) done) ≤ slice_index counts k) where
     module _ (k : ℕ) (h : History) (there : slice_get histories k ≡ Some h) (is : t.site ≡ k + 1) (full : length (steps_at (k + 1) done) ≡ slice_index counts k) where
       here : slice_get h.steps.items (slice_index counts k) ≡ Some t.step
       here = ap (slice_get h.steps.items) (sym full) ∙ ap (λ (l : List Step). slice_get l (length (steps_at (k + 1) done))) (sym (whole k h there)) ∙ step_here done rest t (k + 1) is
@@ -97,7 +97,7 @@ module _ (histories : List History) (counts : List ℕ) (more : HasMore historie
       takes = ap (λ (s : Step). s.event) (some_is t.step wait.goes_on.step (sym here ∙ wait.goes_on.next)) ∙ wait.goes_on.takes
 
       made : MadeBy done wait.parcel
-      made = made_by_one done t.number wait.parcel (subst (Carries (sent_in done) t.number) takes carries)
+      made = made_by_one done t.number wait.parcel (subst (TakesNumbered (sent_in done) t.number) takes carries)
 
       one : IsOneOf histories made.turn
       one = all_at (IsOneOf histories) (done ++ t ∷ rest) made.place made.turn own (got_left done (t ∷ rest) made.place (slice_get_within done made.place made.turn made.there) ∙ made.there)
@@ -138,7 +138,7 @@ module _ (histories : List History) (counts : List ℕ) (more : HasMore historie
     ]
 
   none_goes : (rest done : List Turn) → All (IsOneOf histories) (done ++ rest) → ((k : ℕ) (h : History) → slice_get histories k ≡ Some h → steps_at (k + 1) (done ++ rest) ≡ h.steps.items)
-      → EachCarries (sent_in done) rest → ((k : ℕ) (h : History) → slice_get histories k ≡ Some h → length (steps_at (k + 1) done) ≤ slice_index counts k) → ⊥
+      → EachTakesNumbered (sent_in done) rest → ((k : ℕ) (h : History) → slice_get histories k ≡ Some h → length (steps_at (k + 1) done) ≤ slice_index counts k) → ⊥
   none_goes [] done own whole carries few =
       let f = few more.place more.history more.there in
       let l : length (steps_at (more.place + 1) done) ≡ length more.history.steps.items = ap (λ r. length (steps_at (more.place + 1) r)) (sym (append-nil done)) ∙ ap length (whole more.place more.history more.there) in
@@ -147,7 +147,7 @@ module _ (histories : List History) (counts : List ℕ) (more : HasMore historie
   none_goes (t ∷ rest) done own whole carries few = none_goes rest (done ++ t ∷ [])
       (subst (All (IsOneOf histories)) (sym (append_assoc done (t ∷ []) rest)) own)
       (subst (λ (r : List Turn). (k : ℕ) (h : History) → slice_get histories k ≡ Some h → steps_at (k + 1) r ≡ h.steps.items) (sym (append_assoc done (t ∷ []) rest)) whole)
-      (subst (λ s. EachCarries s rest) (sym (sent_more done t)) carries.1)
+      (subst (λ s. EachTakesNumbered s rest) (sym (sent_more done t)) carries.1)
       (few_more done rest t own whole carries.0 few)
 
   pub none_interleaves : (schedule : List Happening) → Interleaves schedule histories → ⊥

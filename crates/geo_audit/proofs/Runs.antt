@@ -15,7 +15,7 @@ use Rattle.geo_history.specs.declared.step.Event.{Event}
 use Rattle.geo_history.specs.declared.step.Event.TheVariants.{Command, Evict, Send, Take, Remove, Tick, Reap}
 use Rattle.geo_history.specs.declared.step.Step.{Step}
 use Rattle.geo_audit.specs.declared.sent.Place.{Place}
-use Rattle.geo_audit.specs.Runs.{Turn, turn_of, steps_at, parcel_in, listed, sent_in, event_of, lets_go, gone, events_of, traces_of, events_in, traces_in, Carries, EachCarries, IsTold, Fits, EachFits, IsRun, first_of, none_of, IsOneOf, Takes}
+use Rattle.geo_audit.specs.Runs.{Turn, turn_of, steps_at, parcel_in, listed, sent_in, event_of, lets_go, gone, events_of, traces_of, events_in, traces_in, TakesNumbered, EachTakesNumbered, IsTold, Fits, EachFits, IsRun, first_of, none_of, IsOneOf, Takes}
 use Rattle.geo_audit.specs.Verdicts.{NoneSends}
 use Rattle.geo_audit.specs.Merging.{parcel_at, IsSentAs, IsUnsent, CarriesAs, Merged, left_of}
 use Rattle.geo_audit.proofs.Lists.{none_some, some_is, got_right, got_taken, taken_more, got_map, got_mapped}
@@ -47,9 +47,9 @@ traces_more : (run : List Turn) (t : Turn) → traces_in (run ++ t ∷ []) ≡ t
 traces_more [] t = append-nil (traces_of t)
 traces_more (x ∷ run) t = ap (λ l. traces_of x ++ l) (traces_more run t) ∙ sym (append_assoc (traces_of x) (traces_in run) (traces_of t))
 
-carries_more : (sent : List Parcel) (run : List Turn) (t : Turn) → EachCarries sent run → Carries (sent ++ sent_in run) t.number t.step.event → EachCarries sent (run ++ t ∷ [])
-carries_more sent [] t h c = (subst (λ l. Carries l t.number t.step.event) (append-nil sent) c, tt)
-carries_more sent (x ∷ run) t h c = (h.0, carries_more (sent ++ listed (parcel_in x.step.answer)) run t h.1 (subst (λ l. Carries l t.number t.step.event) (sym (append_assoc sent (listed (parcel_in x.step.answer)) (sent_in run))) c))
+carries_more : (sent : List Parcel) (run : List Turn) (t : Turn) → EachTakesNumbered sent run → TakesNumbered (sent ++ sent_in run) t.number t.step.event → EachTakesNumbered sent (run ++ t ∷ [])
+carries_more sent [] t h c = (subst (λ l. TakesNumbered l t.number t.step.event) (append-nil sent) c, tt)
+carries_more sent (x ∷ run) t h c = (h.0, carries_more (sent ++ listed (parcel_in x.step.answer)) run t h.1 (subst (λ l. TakesNumbered l t.number t.step.event) (sym (append_assoc sent (listed (parcel_in x.step.answer)) (sent_in run))) c))
 
 -- what is known and kept after a turn and more
 known_turn : (w : Known) (site : ℕ) (victim : Option (List ℕ)) (e : Happening) (c : Trace) (es : List Happening) (ts : List Trace) → known w ((lets_go site victim ++ e ∷ []) ++ es) ((gone victim ++ c ∷ []) ++ ts) ≡ known (known w (lets_go site victim ++ e ∷ []) (gone victim ++ c ∷ [])) es ts
@@ -84,7 +84,7 @@ sent_as histories places sent number parcel e is = there found.0 found.1 found.2
     there : (x : Parcel) → slice_get sent number ≡ Some x → Some x ≡ Some parcel → slice_get sent number ≡ Some parcel
     there x f g = f ∙ g
 
-pub carried : (histories : List History) (places : List Place) (sent : List Parcel) (number : ℕ) (event : Event) → map (parcel_at histories) places ≡ map Some sent → CarriesAs histories places number event → Carries sent number event
+pub carried : (histories : List History) (places : List Place) (sent : List Parcel) (number : ℕ) (event : Event) → map (parcel_at histories) places ≡ map Some sent → CarriesAs histories places number event → TakesNumbered sent number event
 carried histories places sent number (Command now request) e c = tt
 carried histories places sent number (Evict key) e c = tt
 carried histories places sent number (Send to) e c = tt
@@ -137,7 +137,7 @@ counted_other counts k j h = get_or-set_other counts k j (slice_index counts k +
 
 -- one turn more
 pub takes_more : (histories : List History) (counts : List ℕ) (sites new : List Site) (parcels made : List Parcel) (run : List Turn) (k number : ℕ) (h : History) (step : Step) (trace : Trace) → Takes histories counts sites parcels run → slice_get histories k ≡ Some h
-    → slice_get h.steps.items (slice_index counts k) ≡ Some step → length new ≡ length sites → IsTold (turn_of (k + 1) number step trace) → Carries (sent_in run) number step.event
+    → slice_get h.steps.items (slice_index counts k) ≡ Some step → length new ≡ length sites → IsTold (turn_of (k + 1) number step trace) → TakesNumbered (sent_in run) number step.event
     → Fits (known (first_of histories) (events_in run) (traces_in run)) (kept (first_of histories) (none_of histories) (events_in run) (traces_in run)) (known (known (first_of histories) (events_in run) (traces_in run)) (events_of (turn_of (k + 1) number step trace)) (traces_of (turn_of (k + 1) number step trace))) (turn_of (k + 1) number step trace)
     → IsRun (first_of histories) (none_of histories) new made (events_in run ++ events_of (turn_of (k + 1) number step trace)) (traces_in run ++ traces_of (turn_of (k + 1) number step trace))
     → Takes histories (slice_set counts k (slice_index counts k + 1)) new made (run ++ turn_of (k + 1) number step trace ∷ [])

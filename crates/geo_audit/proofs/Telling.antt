@@ -19,12 +19,12 @@ use Rattle.geo_history.specs.declared.step.Answer.TheVariants.{Replied, Evicted,
 use Rattle.geo_history.specs.declared.step.Step.{Step}
 use Rattle.geo_world.specs.There.{is_there}
 use Rattle.geo_world.specs.Agreement.{Carries as TellsOf, Agrees, about}
-use Rattle.geo_world.specs.Tables.{Tables, Table, kept, kept_after, cut_at, brings_nothing, Keep, Tallies, EachTallies}
+use Rattle.geo_world.specs.Tables.{Tables, Table, kept, kept_after, brought_at, brings_nothing, Keep, Tallies, EachTallies}
 use Rattle.geo_world.proofs.Running.{shows}
 use Rattle.geo_audit.specs.declared.play.Play.{Play}
 use Rattle.geo_audit.specs.Runs.{event_of, events_of, traces_of, turn_of, lets_go, gone, IsMade, Brings, TellsBeside, Fits, IsToldBy, IsSaid, IsPlainStep}
 use Rattle.geo_audit.specs.Misses.{Unheld, BringsOther, OtherBeside, MissesBy, Misses}
-use Rattle.geo_audit.specs.Playing.{Plays, Leads, Always, StaysFor, EndsWith, Answers, Replays, versions_at}
+use Rattle.geo_audit.specs.Playing.{Plays, Leads, Always, StaysFor, EndsWith, ComesAsTold, Replays, versions_at}
 use Rattle.geo_audit.proofs.Only.{untold}
 use Rattle.geo_audit.proofs.Playing.{last_lawful, last_tallies, known_on, kept_on, leads_both}
 
@@ -59,13 +59,13 @@ module _ (w : Known) (all : Tables) (site to : ℕ) (sites : List Site) (parcels
   place_known = let a = agrees.as_many in let l = length-append w.sent ((to, w.at site) ∷ []) in omega (arith, a, l)
 
   place_kept : length parcels - 1 ≡ length all.sent
-  place_kept = let a = keep.as_many in let l = length-append all.sent (cut_at site to (all.at site) ∷ []) in omega (arith, a, l)
+  place_kept = let a = keep.as_many in let l = length-append all.sent (brought_at site to (all.at site) ∷ []) in omega (arith, a, l)
 
   pub made_is : (parcel : Parcel) → slice_get parcels (length parcels - 1) ≡ Some parcel → IsMade w all site to parcel
   made_is parcel last = record {
     tells = subst (λ n. TellsOf n w.at parcel (to, w.at site)) (sym agrees.numbers)
         (subst (TellsOf (length sites) w.at parcel) (last_is w.sent (to, w.at site) (0, []) (length parcels - 1) place_known) (agrees.each_sent (length parcels - 1) parcel last));
-    brings = keep.each_sent (length parcels - 1) parcel last ∙ last_is all.sent (cut_at site to (all.at site)) brings_nothing (length parcels - 1) place_kept;
+    brings = keep.each_sent (length parcels - 1) parcel last ∙ last_is all.sent (brought_at site to (all.at site)) brings_nothing (length parcels - 1) place_kept;
   }
 
   pub one_made : (q : Parcel) × (slice_get parcels (length parcels - 1) ≡ Some q)
@@ -197,7 +197,7 @@ module _ (old new : Play) (k number : ℕ) (step : Step) (happening : Happening)
         })
 
         -- or what is so
-        pub answers_so : TellsBeside (state_in one).vector (state_in one).stock.held (state_in two).stock.held (versions_at two) step.event step.answer step.victim step.made → Answers old new (k + 1) happening step
+        pub answers_so : TellsBeside (state_in one).vector (state_in one).stock.held (state_in two).stock.held (versions_at two) step.event step.answer step.victim step.made → ComesAsTold old new (k + 1) happening step
         answers_so x = record {
           trace = trace;
           leads = leads;
@@ -237,7 +237,7 @@ module _ (old a : Play) (site number : ℕ) (step : Step) (stays : StaysFor old 
         (known_on old b (lets_go site step.victim) (gone step.victim) both first none before p) (kept_on old b (lets_go site step.victim) (gone step.victim) both first none before p)
         (apart first none (before ++ gone step.victim) (both.runs first none before p)))))
 
-    pub replays_for : (new : Play) → IsPlainStep step → Answers b new site (event_of site number step.event) step → Replays old new site number step
+    pub replays_for : (new : Play) → IsPlainStep step → ComesAsTold b new site (event_of site number step.event) step → Replays old new site number step
     replays_for new plain answers = record {
       trace = answers.trace;
       leads = leads_both old b new (lets_go site step.victim) (event_of site number step.event ∷ []) (gone step.victim) (answers.trace ∷ []) both answers.leads;

@@ -9,7 +9,7 @@ use Rattle.geo_world.specs.Tables.{kept}
 use Rattle.geo_audit.specs.declared.merge.Merge.{Merge}
 use Rattle.geo_audit.specs.declared.play.Play.{Play}
 use Rattle.geo_audit.specs.declared.sent.Place.{Place}
-use Rattle.geo_audit.specs.Runs.{Turn, turn_of, parcel_in, listed, sent_in, events_of, traces_of, events_in, traces_in, first_of, none_of, Carries, Fits, IsRun, Takes}
+use Rattle.geo_audit.specs.Runs.{Turn, turn_of, parcel_in, listed, sent_in, events_of, traces_of, events_in, traces_in, first_of, none_of, TakesNumbered, Fits, IsRun, Takes}
 use Rattle.geo_audit.specs.Misses.{Misses}
 use Rattle.geo_audit.specs.Playing.{Plays, Always, Replays}
 use Rattle.geo_audit.specs.Verdicts.{Fails}
@@ -58,7 +58,7 @@ module _ (histories : List History) (old : Merge) (k number count : ℕ) (h : Hi
   count_is : count ≡ slice_index old.counts.items k
   count_is = any_default old.counts.items k count inside counted
 
-  carries : Carries (sent_in m.run) number step.event
+  carries : TakesNumbered (sent_in m.run) number step.event
   carries = carried histories old.sent.places.items (sent_in m.run) number step.event m.sent goes.carries
 
   plays : Plays (first_of histories) (none_of histories) old.play (traces_in m.run)

@@ -100,7 +100,7 @@ EndsWith parcels (Sent parcel) = slice_get parcels (length parcels - 1) ≡ Some
 EndsWith parcels answer = Unit {0}
 
 -- one event is carried out, and what comes of it is what the step tells
-pub record Answers (old new : Play) (site : ℕ) (happening : Happening) (step : Step) : Type 0 where
+pub record ComesAsTold (old new : Play) (site : ℕ) (happening : Happening) (step : Step) : Type 0 where
   pub trace : Trace
   pub leads : Leads old new (happening ∷ []) (trace ∷ [])
   pub told : IsToldBy trace step.answer

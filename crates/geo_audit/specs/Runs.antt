@@ -34,7 +34,7 @@ use Rattle.geo_history.specs.declared.step.Step.{Step}
 use Rattle.geo_world.specs.Setups.{are_setups, start}
 use Rattle.geo_world.specs.There.{is_in_time, EachThere}
 use Rattle.geo_world.specs.Agreement.{Carries as TellsOf, Agrees, ShowsVersions}
-use Rattle.geo_world.specs.Tables.{Tables, empty_tables, kept, cut_at, brought_in, Keep, EachTallies}
+use Rattle.geo_world.specs.Tables.{Tables, empty_tables, kept, brought_at, brought_in, Keep, EachTallies}
 
 -- a turn: a site takes a step. A parcel that is taken has this number among those that were made, and this came of the event
 pub record Turn : Type 0 where
@@ -100,14 +100,14 @@ traces_in [] = []
 traces_in (t ∷ run) = traces_of t ++ traces_in run
 
 -- the parcel that is taken, if any, is the one with this number of those that were made
-abbrev pub Carries : List Parcel → ℕ → Event → Type 0
-Carries sent number (Take parcel) = slice_get sent number ≡ Some parcel
-Carries sent number event = Unit {0}
+abbrev pub TakesNumbered : List Parcel → ℕ → Event → Type 0
+TakesNumbered sent number (Take parcel) = slice_get sent number ≡ Some parcel
+TakesNumbered sent number event = Unit {0}
 
 -- where these parcels were made before
-abbrev pub EachCarries : List Parcel → List Turn → Type 0
-EachCarries sent [] = Unit {0}
-EachCarries sent (t ∷ run) = Carries sent t.number t.step.event × EachCarries (sent ++ listed (parcel_in t.step.answer)) run
+abbrev pub EachTakesNumbered : List Parcel → List Turn → Type 0
+EachTakesNumbered sent [] = Unit {0}
+EachTakesNumbered sent (t ∷ run) = TakesNumbered sent t.number t.step.event × EachTakesNumbered (sent ++ listed (parcel_in t.step.answer)) run
 
 -- the recorded answer is what came of the event; a store evicted nothing itself
 abbrev pub IsToldBy : Trace → Answer → Type 0
@@ -189,7 +189,7 @@ Undue w site event = Unit {0}
 -- not hear the other to know
 pub record IsMade (w : Known) (all : Tables) (site to : ℕ) (parcel : Parcel) : Type 0 where
   pub tells : TellsOf w.sites w.at parcel (to, w.at site)
-  pub brings : brought_in parcel ≡ cut_at site to (all.at site)
+  pub brings : brought_in parcel ≡ brought_at site to (all.at site)
 
 abbrev pub Brings : Known → Tables → ℕ → Event → Answer → Type 0
 Brings w all site (Send to) (Sent parcel) = IsMade w all site to parcel
@@ -283,7 +283,7 @@ pub record Takes (histories : List History) (counts : List ℕ) (sites : List Si
   pub runs : IsRun (first_of histories) (none_of histories) sites parcels (events_in run) (traces_in run)
   pub told : All IsTold run
   pub fits : EachFits (first_of histories) (none_of histories) run
-  pub carries : EachCarries [] run
+  pub carries : EachTakesNumbered [] run
   pub own : All (IsOneOf histories) run
   pub many : length counts ≡ length histories
   pub within : (k : ℕ) (h : History) → slice_get histories k ≡ Some h → slice_index counts k ≤ length h.steps.items

@@ -14,7 +14,7 @@ use Rattle.geo_audit.specs.declared.verdict.Verdict.TheVariants.{Sound, Stuck, W
 use Rattle.geo_audit.specs.Openings.{OpensEmpty, IsFirstLater}
 use Rattle.geo_world.specs.Setups.{are_setups}
 use Rattle.geo_world.specs.Tables.{kept}
-use Rattle.geo_audit.specs.Runs.{Turn, setups_in, first_of, none_of, sent_in, events_in, traces_in, Carries, Takes, Interleaves}
+use Rattle.geo_audit.specs.Runs.{Turn, setups_in, first_of, none_of, sent_in, events_in, traces_in, TakesNumbered, Takes, Interleaves}
 use Rattle.geo_audit.specs.Misses.{Misses}
 
 -- the histories are those of sites 1, 2 and so on
@@ -70,7 +70,7 @@ pub record Fails (histories : List History) (site step : ℕ) : Type 0 where
   pub next : Step
   pub next_is : slice_get history.steps.items (slice_index counts place) ≡ Some next
   pub number : ℕ
-  pub carries : Carries (sent_in run) number next.event
+  pub carries : TakesNumbered (sent_in run) number next.event
   pub misses : Misses (known (first_of histories) (events_in run) (traces_in run))
       (kept (first_of histories) (none_of histories) (events_in run) (traces_in run)) (place + 1) number next
 

@@ -3,7 +3,7 @@ ghost use Rattle.std.specs.Prelude.{◌≡◌, ◌≢◌, ℕ, ◌+◌, ◌<◌,
 ghost use Rattle.geo_world.specs.There.{is_in_time, is_site};
 ghost use Rattle.geo_audit.specs.Runs.{event_of, lets_go, gone, setups_in, is_timely};
 ghost use Rattle.geo_audit.specs.Misses.{Unheld, MissesBy, Misses};
-ghost use Rattle.geo_audit.specs.Playing.{Always, Leads, Opens, Happens, StaysAt, FlushesAt, StaysFor, FlushesFor, EndsWith, Answers, Replays};
+ghost use Rattle.geo_audit.specs.Playing.{Always, Leads, Opens, Happens, StaysAt, FlushesAt, StaysFor, FlushesFor, EndsWith, ComesAsTold, Replays};
 
 use crate::replay::{is_plain, is_said, is_told, seen_at, tells};
 use geo_equal::Equal;
@@ -21,27 +21,13 @@ pub struct Play {
     pub(crate) events: Vec<Happening>,
 }
 
-/// An equal setup.
-fn copied(setup: &Setup) -> Setup
-    ensures { result ≡ setup.now }
-{
-    Setup {
-        site: setup.site,
-        sites: setup.sites,
-        pages: setup.pages,
-        max_records: setup.max_records,
-        reap_after: setup.reap_after,
-        hasher: setup.hasher,
-    }
-}
-
 /// What all sites were told at their start.
 fn setups_of(alloc: Global, histories: &[History]) -> Result<Vec<Setup>, AllocError>
     ensures { IfOk result (λ setups. setups.items ≡ setups_in histories.now) }
 {
     let mut setups = Vec::new(alloc);
     for history in histories {
-        setups.push(copied(&history.setup))?;
+        setups.push(history.setup.copied())?;
     }
     Ok(setups)
 }
@@ -204,7 +190,7 @@ impl Play {
         requires moment { is_in_time happening ≡ true }
         requires event { (number : ℕ) × (happening ≡ event_of (at + 1) number step.now.event) }
         ensures { IfOk result
-            (λ done. MatchBool done (Answers self.old self.new (at + 1) happening step.now)
+            (λ done. MatchBool done (ComesAsTold self.old self.new (at + 1) happening step.now)
             (Always self.old (λ w all. MissesBy w all (at + 1) happening step.now))) }
     {
         let seen = seen_at(&self.world.sites[at], &step.event);

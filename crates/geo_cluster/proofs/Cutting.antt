@@ -4,7 +4,7 @@ use Rattle.std.specs.Option.{option_map}
 use Rattle.std.specs.List.{position_or_len}
 use Rattle.std.proofs.lemmas.Bool.{cases_lt, cond-true, cond-false, lt-ltb, le-ltb}
 use Rattle.std.proofs.lemmas.Bool.Decides.{eqb_tells}
-use Rattle.geo_cluster.specs.Cuts.{is_byte, cut_at}
+use Rattle.geo_cluster.specs.Splits.{is_byte, split_at}
 use Rattle.geo_cluster.specs.Lines.{ended_in, left_in, last_line, lines_of}
 
 -- lines don't depend on how a text is cut
@@ -36,7 +36,7 @@ position_says p xs o e =
     ]
 
 -- where no such byte stands, the text isn't cut
-pub cut_none : (byte : ℕ) (text : List ℕ) → length text ≤ position_or_len (is_byte byte) text → cut_at byte text ≡ None
+pub cut_none : (byte : ℕ) (text : List ℕ) → length text ≤ position_or_len (is_byte byte) text → split_at byte text ≡ None
 cut_none byte [] h = refl
 cut_none byte (b ∷ bs) h = elim (eqb_tells b byte) [
   | inl e ↦ let zeroth : position_or_len (is_byte byte) (b ∷ bs) ≡ 0 = ap (λ t. cond (not t) (1 + position_or_len (is_byte byte) bs) 0) e.0 in absurd (omega arith)
@@ -46,7 +46,7 @@ cut_none byte (b ∷ bs) h = elim (eqb_tells b byte) [
 ]
 
 -- where the first one stands, it is cut
-pub cut_some : (byte : ℕ) (text : List ℕ) (n : ℕ) → n ≡ position_or_len (is_byte byte) text → n < length text → cut_at byte text ≡ Some (take n text, drop (n + 1) text)
+pub cut_some : (byte : ℕ) (text : List ℕ) (n : ℕ) → n ≡ position_or_len (is_byte byte) text → n < length text → split_at byte text ≡ Some (take n text, drop (n + 1) text)
 cut_some byte [] n e h = absurd (omega arith)
 cut_some byte (b ∷ bs) n e h = elim (eqb_tells b byte) [
   | inl y ↦
@@ -90,7 +90,7 @@ cut_further begun b bs (Some p) other h = record {
 }
 
 -- what a cut at the first line end says of the lines of a text
-pub cut_says : (text begun : List ℕ) → CutSays begun text (cut_at 10 text)
+pub cut_says : (text begun : List ℕ) → CutSays begun text (split_at 10 text)
 cut_says [] begun = record { ended = refl; left = sym (append-nil begun) }
 cut_says (b ∷ bs) begun = elim (eqb_tells b 10) [
   | inl e ↦ subst (λ o. CutSays begun (b ∷ bs) o) (sym (cond-true _ _ _ e.0)) (record {
@@ -98,13 +98,13 @@ cut_says (b ∷ bs) begun = elim (eqb_tells b 10) [
     left = cond-true _ _ _ e.0;
     shorter = omega arith;
   })
-  | inr e ↦ subst (λ o. CutSays begun (b ∷ bs) o) (sym (cond-false _ _ _ e.0)) (cut_further begun b bs (cut_at 10 bs) e.0 (cut_says bs (begun ++ b ∷ [])))
+  | inr e ↦ subst (λ o. CutSays begun (b ∷ bs) o) (sym (cond-false _ _ _ e.0)) (cut_further begun b bs (split_at 10 bs) e.0 (cut_says bs (begun ++ b ∷ [])))
 ]
 
-pub cut_some_says : (text begun front back : List ℕ) → cut_at 10 text ≡ Some (front, back) → IsCut begun text front back
+pub cut_some_says : (text begun front back : List ℕ) → split_at 10 text ≡ Some (front, back) → IsCut begun text front back
 cut_some_says text begun front back e = subst (λ o. CutSays begun text o) e (cut_says text begun)
 
-pub cut_none_says : (text begun : List ℕ) → cut_at 10 text ≡ None → IsUncut begun text
+pub cut_none_says : (text begun : List ℕ) → split_at 10 text ≡ None → IsUncut begun text
 cut_none_says text begun e = subst (λ o. CutSays begun text o) e (cut_says text begun)
 
 -- the lines of a text, from those of its beginning

@@ -6,9 +6,9 @@ use Rattle.std.specs.Char.{digit_value}
 use Rattle.std.proofs.lemmas.List.Elements.{All-head, All-tail}
 use Rattle.std.proofs.lemmas.Bool.{cases_eq, cond-true, cond-false, lt-ltb, ne_eqb}
 use Rattle.std.proofs.lemmas.Bool.Decides.{nat_tests}
-use Rattle.geo_cluster.specs.Escapes.{hex_digit, is_printable, escaped_byte, escaped, turn, unescaped_on, unescaped_from, unescaped}
+use Rattle.geo_cluster.specs.Escapes.{hex_digit, is_printable, escaped_byte, escaped, transition, unescaped_on, unescaped_from, unescaped}
 use Rattle.geo_cluster.specs.declared.script.escape.Spot.TheVariants.{Hex, HexDigit}
-use Rattle.geo_cluster.specs.declared.script.escape.Turn.TheVariants.{Gives, Leads, Fails}
+use Rattle.geo_cluster.specs.declared.script.escape.Transition.TheVariants.{Gives, Leads, Fails}
 
 -- what a text spells, behind bytes that were spelt before it
 abbrev pub behind : List ℕ → Option (List ℕ) → Option (List ℕ)
@@ -18,11 +18,11 @@ behind done more = option_map (λ bytes. done ++ bytes) more
 hex_read : (n : ℕ) → n < 16 → digit_value (hex_digit n) ≡ n
 hex_read n h = grind (arith, nat_tests)
 
-turn_hex : (n : ℕ) → n < 16 → turn Hex (hex_digit n) ≡ Leads (HexDigit n)
-turn_hex n h = ap (λ v. cond (ltb v 16) (Leads (HexDigit v)) Fails) (hex_read n h) ∙ cond-true _ _ _ (lt-ltb n 16 h)
+transition_hex : (n : ℕ) → n < 16 → transition Hex (hex_digit n) ≡ Leads (HexDigit n)
+transition_hex n h = ap (λ v. cond (ltb v 16) (Leads (HexDigit v)) Fails) (hex_read n h) ∙ cond-true _ _ _ (lt-ltb n 16 h)
 
-turn_hex_digit : (high n : ℕ) → n < 16 → turn (HexDigit high) (hex_digit n) ≡ Gives (16 * high + n)
-turn_hex_digit high n h = ap (λ v. cond (ltb v 16) (Gives (16 * high + v)) Fails) (hex_read n h) ∙ cond-true _ _ _ (lt-ltb n 16 h)
+transition_hex_digit : (high n : ℕ) → n < 16 → transition (HexDigit high) (hex_digit n) ≡ Gives (16 * high + n)
+transition_hex_digit high n h = ap (λ v. cond (ltb v 16) (Gives (16 * high + v)) Fails) (hex_read n h) ∙ cond-true _ _ _ (lt-ltb n 16 h)
 
 -- a byte that is printed by its two digits is read back
 hex_read_back : (b : ℕ) (rest : List ℕ) → b < 256 → unescaped (92 ∷ 120 ∷ hex_digit (b / 16) ∷ hex_digit (b % 16) ∷ rest) ≡ option_map (λ bytes. b ∷ bytes) (unescaped rest)
@@ -30,8 +30,8 @@ hex_read_back b rest h =
     let high : b / 16 < 16 = omega arith in
     let low : b % 16 < 16 = omega arith in
     let whole : 16 * (b / 16) + b % 16 ≡ b = omega arith in
-    ap (λ t. unescaped_on t (λ s. unescaped_from s (hex_digit (b % 16) ∷ rest))) (turn_hex (b / 16) high)
-    ∙ ap (λ t. unescaped_on t (λ s. unescaped_from s rest)) (turn_hex_digit (b / 16) (b % 16) low)
+    ap (λ t. unescaped_on t (λ s. unescaped_from s (hex_digit (b % 16) ∷ rest))) (transition_hex (b / 16) high)
+    ∙ ap (λ t. unescaped_on t (λ s. unescaped_from s rest)) (transition_hex_digit (b / 16) (b % 16) low)
     ∙ ap (λ v. option_map (λ bytes. v ∷ bytes) (unescaped rest)) whole
 
 printed_hex : (b : ℕ) → b ≢ 92 → b ≢ 13 → b ≢ 10 → is_printable b ≡ false → escaped_byte b ≡ 92 ∷ 120 ∷ hex_digit (b / 16) ∷ hex_digit (b % 16) ∷ []

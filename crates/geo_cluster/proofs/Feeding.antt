@@ -15,7 +15,7 @@ use Rattle.geo_world.specs.There.{is_site}
 use Rattle.geo_world.proofs.Running.{HasAllRun}
 use Rattle.geo_cluster.specs.Progress.{Progress, followed}
 use Rattle.geo_cluster.specs.Sayings.{SaysClient}
-use Rattle.geo_cluster.specs.Carries.{Answers, AnswersAll, connected}
+use Rattle.geo_cluster.specs.Effects.{AnswersItem, AnswersItems, connected}
 use Rattle.geo_cluster.specs.Connections.{Brings}
 use Rattle.geo_cluster.specs.Prints.{client_text}
 use Rattle.geo_cluster.specs.Standing.{Stands, Steps, AnswersBehind, AnswersFor, CarriesOut}
@@ -25,19 +25,19 @@ use Rattle.geo_world.specs.declared.world.World.{World}
 use Rattle.geo_cluster.proofs.Setting.{not_true}
 
 -- one item more
-AnswersAll-more : (items : List Item) (s : ℕ) (a b c : Progress) (item : Item) (t u : List ℕ) → AnswersAll a s items t b → AnswersAll b s (item ∷ []) u c → AnswersAll a s (items ++ item ∷ []) (t ++ u) c
-AnswersAll-more [] s a b c item t u h k = subst (λ (x : Progress). AnswersAll x s (item ∷ []) (t ++ u) c) h.1 (subst (λ (x : List ℕ). AnswersAll b s (item ∷ []) (x ++ u) c) (sym h.0) k)
-AnswersAll-more (i ∷ is) s a b c item t u h k = (h.0, h.1, h.2 ++ u, h.3, AnswersAll-more is s h.0 b c item h.2 u h.4 k, ap (λ (x : List ℕ). x ++ u) h.5 ∙ append_assoc h.1 h.2 u)
+AnswersItems-more : (items : List Item) (s : ℕ) (a b c : Progress) (item : Item) (t u : List ℕ) → AnswersItems a s items t b → AnswersItems b s (item ∷ []) u c → AnswersItems a s (items ++ item ∷ []) (t ++ u) c
+AnswersItems-more [] s a b c item t u h k = subst (λ (x : Progress). AnswersItems x s (item ∷ []) (t ++ u) c) h.1 (subst (λ (x : List ℕ). AnswersItems b s (item ∷ []) (x ++ u) c) (sym h.0) k)
+AnswersItems-more (i ∷ is) s a b c item t u h k = (h.0, h.1, h.2 ++ u, h.3, AnswersItems-more is s h.0 b c item h.2 u h.4 k, ap (λ (x : List ℕ). x ++ u) h.5 ∙ append_assoc h.1 h.2 u)
 
-pub answers_one : (p q : Progress) (s : ℕ) (item : Item) (text : List ℕ) → Answers p s item text q → AnswersAll p s (item ∷ []) text q
+pub answers_one : (p q : Progress) (s : ℕ) (item : Item) (text : List ℕ) → AnswersItem p s item text q → AnswersItems p s (item ∷ []) text q
 answers_one p q s item text h = (q, text, [], h, (refl, refl), sym (append-nil text))
 
 -- sites stay what they were told
-answer_setups : (p q : Progress) (s : ℕ) (item : Item) (text : List ℕ) → Answers p s item text q → q.setups ≡ p.setups
+answer_setups : (p q : Progress) (s : ℕ) (item : Item) (text : List ℕ) → AnswersItem p s item text q → q.setups ≡ p.setups
 answer_setups p q s (Request request) text h = ap (λ (x : Progress). x.setups) h.rest
 answer_setups p q s (Fault fault) text h = ap (λ (x : Progress). x.setups) h.1
 
-answers_setups : (items : List Item) (p q : Progress) (s : ℕ) (text : List ℕ) → AnswersAll p s items text q → q.setups ≡ p.setups
+answers_setups : (items : List Item) (p q : Progress) (s : ℕ) (text : List ℕ) → AnswersItems p s items text q → q.setups ≡ p.setups
 answers_setups [] p q s text h = ap (λ (x : Progress). x.setups) h.1
 answers_setups (i ∷ is) p q s text h = answers_setups is h.0 q s h.2 h.4 ∙ answer_setups p h.0 s i h.1 h.3
 
@@ -52,7 +52,7 @@ answers_more s items item there before mid after a b c first then is p st site =
       record {
         progress = k.progress;
         text = h.text ++ k.text;
-        answers = AnswersAll-more items s p h.progress k.progress item h.text k.text h.answers k.answers;
+        answers = AnswersItems-more items s p h.progress k.progress item h.text k.text h.answers k.answers;
         stands = k.stands;
         printed = k.printed ∙ ap (λ (x : List ℕ). x ++ k.text) h.printed ∙ append_assoc before h.text k.text;
       },

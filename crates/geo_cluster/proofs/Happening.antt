@@ -16,10 +16,10 @@ use Rattle.geo_world.specs.There.{is_there, EachThere}
 use Rattle.geo_world.proofs.Running.{HasRun, HasAllRun, run_more, all_run}
 use Rattle.geo_cluster.specs.Progress.{Progress, Runs, known_in, parcels_in, can_come}
 use Rattle.geo_cluster.specs.Reads.{said_by}
-use Rattle.geo_cluster.specs.declared.script.line.Line.{Line}
+use Rattle.geo_cluster.specs.declared.script.line.ScriptLine.{ScriptLine}
 use Rattle.geo_cluster.specs.Sayings.{Said}
-use Rattle.geo_cluster.specs.Carries.{can_carry, Carries, Happens}
-use Rattle.geo_cluster.specs.Standing.{Stands, Steps, MeetsEvent, CarriesOut, Meets}
+use Rattle.geo_cluster.specs.Effects.{can_carry, SaidDoes, Happens}
+use Rattle.geo_cluster.specs.Standing.{Stands, Steps, EventDoes, CarriesOut, LineDoes}
 use Rattle.geo_cluster.specs.declared.script.cluster.Cluster.{Cluster}
 
 last_is : (events : List Event) (event : Event) → event ≡ get_or (events ++ event ∷ []) (length events) event
@@ -82,11 +82,11 @@ steps_on old new event trace moment connections many does tabled p st = (
 -- a line that is an event
 pub record IsEventLine (p : Progress) (line : Said) (event : Event) : Type 0 where
   pub can : can_carry p line ≡ can_come p event
-  pub carries : (text : List ℕ) (q : Progress) → Happens p event text q → Carries p line text q
+  pub carries : (text : List ℕ) (q : Progress) → Happens p event text q → SaidDoes p line text q
 
 -- whatever comes of the event comes of the line
-pub line_is : {E : Type 0} (old new : Cluster) (line : Line) (said : Said) (event : Event) (result : Result (Option (Vec ℕ Global)) E) → said_by line ≡ said → ((p : Progress) → Stands p old → IsEventLine p said event)
-    → IfOk result (λ o. MeetsEvent old event o new) → IfOk result (λ o. Meets old (said_by line) o new)
+pub line_is : {E : Type 0} (old new : Cluster) (line : ScriptLine) (said : Said) (event : Event) (result : Result (Option (Vec ℕ Global)) E) → said_by line ≡ said → ((p : Progress) → Stands p old → IsEventLine p said event)
+    → IfOk result (λ o. EventDoes old event o new) → IfOk result (λ o. LineDoes old (said_by line) o new)
 line_is old new line said event (Err e) says is h = tt
 line_is old new line said event (Ok None) says is h = λ p st. ap (λ l. can_carry p l) says ∙ (is p st).can ∙ h p st
 line_is old new line said event (Ok (Some text)) says is h = λ p st.

@@ -4,7 +4,7 @@ use Rattle.std.proofs.lemmas.Bool.Decides.{nat_tests}
 use Rattle.geo_site.specs.declared.setup.Setup.{Setup}
 use Rattle.geo_world.specs.Setups.{is_setup, are_numbered, are_setups}
 use Rattle.geo_world.specs.There.{is_site}
-use Rattle.geo_cluster.specs.Carries.{IsTold, AreTold}
+use Rattle.geo_cluster.specs.Effects.{IsTold, AreTold}
 
 -- one more
 pub told_more : (n sites pages most reap : ℕ) (setups : List Setup) (setup : Setup) → AreTold n sites pages most reap setups → IsTold (n + length setups) sites pages most reap setup → AreTold n sites pages most reap (setups ++ setup ∷ [])

@@ -4,8 +4,8 @@ use Rattle.std.specs.Option.{option_map}
 use Rattle.std.specs.Char.{digit_value}
 use Rattle.geo_cluster.specs.declared.script.escape.Spot.{Spot}
 use Rattle.geo_cluster.specs.declared.script.escape.Spot.TheVariants.{Between, Backslash, Hex, HexDigit}
-use Rattle.geo_cluster.specs.declared.script.escape.Turn.{Turn}
-use Rattle.geo_cluster.specs.declared.script.escape.Turn.TheVariants.{Gives, Leads, Fails}
+use Rattle.geo_cluster.specs.declared.script.escape.Transition.{Transition}
+use Rattle.geo_cluster.specs.declared.script.escape.Transition.TheVariants.{Gives, Leads, Fails}
 
 -- what can stand for itself: a printable ASCII byte
 abbrev pub is_printable : ℕ → Bool
@@ -30,15 +30,15 @@ escaped [] = []
 escaped (b ∷ bs) = escaped_byte b ++ escaped bs
 
 -- what a byte does behind a backslash, and at each spot of a text
-abbrev pub turn_escape : ℕ → Turn
-turn_escape b = if b == 92 then Gives 92
+abbrev pub transition_escape : ℕ → Transition
+transition_escape b = if b == 92 then Gives 92
     else (if b == 114 then Gives 13 else (if b == 110 then Gives 10 else (if b == 120 then Leads Hex else Fails)))
 
-abbrev pub turn : Spot → ℕ → Turn
-turn Between b = if b == 92 then Leads Backslash else Gives b
-turn Backslash b = turn_escape b
-turn Hex b = if nat_lt (digit_value b) 16 then Leads (HexDigit (digit_value b)) else Fails
-turn (HexDigit high) b = if nat_lt (digit_value b) 16 then Gives (16 * high + digit_value b) else Fails
+abbrev pub transition : Spot → ℕ → Transition
+transition Between b = if b == 92 then Leads Backslash else Gives b
+transition Backslash b = transition_escape b
+transition Hex b = if nat_lt (digit_value b) 16 then Leads (HexDigit (digit_value b)) else Fails
+transition (HexDigit high) b = if nat_lt (digit_value b) 16 then Gives (16 * high + digit_value b) else Fails
 
 -- the bytes that a text spells from a spot on: none where an escape is none of the four, or not whole
 abbrev pub ends_at : Spot → Option (List ℕ)
@@ -54,20 +54,20 @@ IsSmall Between = Unit {0}
 IsSmall Backslash = Unit {0}
 IsSmall Hex = Unit {0}
 
-abbrev pub LeadsToSmall : Turn → Type 0
+abbrev pub LeadsToSmall : Transition → Type 0
 LeadsToSmall (Leads spot) = IsSmall spot
 LeadsToSmall (Gives byte) = Unit {0}
 LeadsToSmall Fails = Unit {0}
 
--- what a turn gives, with what the rest of the text spells from each spot
-abbrev pub unescaped_on : Turn → (Spot → Option (List ℕ)) → Option (List ℕ)
+-- what a transition gives, with what the rest of the text spells from each spot
+abbrev pub unescaped_on : Transition → (Spot → Option (List ℕ)) → Option (List ℕ)
 unescaped_on (Gives byte) rest = option_map (λ bytes. byte ∷ bytes) (rest Between)
 unescaped_on (Leads spot) rest = rest spot
 unescaped_on Fails rest = None
 
 abbrev pub unescaped_from : Spot → List ℕ → Option (List ℕ)
 unescaped_from spot [] = ends_at spot
-unescaped_from spot (b ∷ bs) = unescaped_on (turn spot b) (λ s. unescaped_from s bs)
+unescaped_from spot (b ∷ bs) = unescaped_on (transition spot b) (λ s. unescaped_from s bs)
 
 -- the bytes that a text spells
 abbrev pub unescaped : List ℕ → Option (List ℕ)

@@ -1,12 +1,12 @@
 pub mod Numbers
 pub mod Escapes
-pub mod Cuts
+pub mod Splits
 pub mod Sayings
 pub mod Reads
 pub mod Lines
 pub mod Prints
 pub mod Connections
 pub mod Progress
-pub mod Carries
+pub mod Effects
 pub mod Standing
 pub mod Runs

@@ -1,11 +1,11 @@
 -- The Rust type of a line as what it stands for, without where it lies in memory.
 use Rattle.std.specs.Prelude.{◌≢◌, ◌≤◌, ◌^◌}
 use Rattle.geo_cluster.specs.Sayings.{Said, SaysSites, SaysAt, SaysClient, SaysSend, SaysTake, SaysTick, SaysRemove, SaysReap, SaysEvict, SaysVersions}
-use Rattle.geo_cluster.specs.declared.script.line.Line.{Line}
-use Rattle.geo_cluster.specs.declared.script.line.Line.TheVariants.{Sites, At, Client, Send, Take, Tick, Remove, Reap, Evict, Versions}
+use Rattle.geo_cluster.specs.declared.script.line.ScriptLine.{ScriptLine}
+use Rattle.geo_cluster.specs.declared.script.line.ScriptLine.TheVariants.{Sites, At, Client, Send, Take, Tick, Remove, Reap, Evict, Versions}
 
 -- what a line says
-abbrev pub said_by : Line → Said
+abbrev pub said_by : ScriptLine → Said
 said_by (Sites count pages max reap) = SaysSites count pages max reap
 said_by (At moment) = SaysAt moment
 said_by (Client site text) = SaysClient site text.items
@@ -19,7 +19,7 @@ said_by (Versions site) = SaysVersions site
 
 -- the numbers of sites are 1 to 16, pages 15 to 65,536, records at most 1 to 1,000,000, seconds of keeping at most 2^31 - 1, and
 -- moments 1 to 2^40
-abbrev pub IsInRange : Line → Type 0
+abbrev pub IsInRange : ScriptLine → Type 0
 IsInRange (Sites count pages max reap) = (1 ≤ count) × (count ≤ 16) × (15 ≤ pages) × (pages ≤ 65536) × (1 ≤ max) × (max ≤ 1000000)
     × (reap ≤ 2147483647)
 IsInRange (At moment) = (1 ≤ moment) × (moment ≤ 2 ^ 40)

@@ -4,7 +4,7 @@ use Rattle.std.specs.Bool.{MatchBool}
 use Rattle.std.specs.Io.KnownBytes.{Appends}
 use Rattle.geo_cluster.specs.Sayings.{said, skips}
 use Rattle.geo_cluster.specs.Progress.{Progress, opening, Runs}
-use Rattle.geo_cluster.specs.Carries.{can_carry, Carries}
+use Rattle.geo_cluster.specs.Effects.{can_carry, SaidDoes}
 use Rattle.geo_cluster.specs.Standing.{Stands}
 use Rattle.geo_cluster.specs.declared.script.fault.ScriptFault.{ScriptFault}
 use Rattle.geo_cluster.specs.declared.script.fault.ScriptFault.TheVariants.{BadLine, Memory, Read, Write}
@@ -14,7 +14,7 @@ use Rattle.geo_cluster.specs.declared.script.run.Run.{Run}
 -- what a line prints and leaves: a skipped one prints and changes nothing, another does what it says
 abbrev pub PlaysLine : Progress → List ℕ → List ℕ → Progress → Type 0
 PlaysLine old line text new =
-    MatchBool (skips line) ((text ≡ []) × (new ≡ old)) (MatchOption (said line) ⊥ (λ s. (can_carry old s ≡ true) × Carries old s text new))
+    MatchBool (skips line) ((text ≡ []) × (new ≡ old)) (MatchOption (said line) ⊥ (λ s. (can_carry old s ≡ true) × SaidDoes old s text new))
 
 -- a line that is neither skipped nor carried out
 abbrev pub IsBadLine : Progress → List ℕ → Type 0

@@ -6,7 +6,7 @@ use Rattle.geo_grammar.specs.Words.{number_of}
 use Rattle.geo_versions.specs.Keys.{is_key}
 use Rattle.geo_cluster.specs.Numbers.{ranged_of}
 use Rattle.geo_cluster.specs.Escapes.{unescaped}
-use Rattle.geo_cluster.specs.Cuts.{cut_at}
+use Rattle.geo_cluster.specs.Splits.{split_at}
 
 pub data Said : Type 0 where
   SaysSites : (count pages most reap : ℕ) → Said
@@ -21,8 +21,8 @@ pub data Said : Type 0 where
   SaysVersions : (site : ℕ) → Said
 
 -- what stands before the first space, and what stands behind it
-abbrev pub cut_of : List ℕ → Option (List ℕ × List ℕ)
-cut_of line = cut_at 32 line
+abbrev pub split_of : List ℕ → Option (List ℕ × List ℕ)
+split_of line = split_at 32 line
 
 -- the numbers of sites are 1 to 16, moments 1 to 2^40, and parcels count from 0
 abbrev pub site_of : List ℕ → Option ℕ
@@ -38,22 +38,22 @@ parcel_of word = number_of 18446744073709551615 word
 abbrev pub FrontNumber : Type 0
 FrontNumber = ℕ × Option (List ℕ)
 
-abbrev pub front_cut : ℕ → ℕ → List ℕ → Option (List ℕ × List ℕ) → Option FrontNumber
-front_cut least most text None = option_map (λ n. (n, None)) (ranged_of least most text)
-front_cut least most text (Some cut) = option_map (λ n. (n, Some cut.1)) (ranged_of least most cut.0)
+abbrev pub front_split : ℕ → ℕ → List ℕ → Option (List ℕ × List ℕ) → Option FrontNumber
+front_split least most text None = option_map (λ n. (n, None)) (ranged_of least most text)
+front_split least most text (Some parts) = option_map (λ n. (n, Some parts.1)) (ranged_of least most parts.0)
 
 abbrev pub front_number : ℕ → ℕ → List ℕ → Option FrontNumber
-front_number least most text = front_cut least most text (cut_of text)
+front_number least most text = front_split least most text (split_of text)
 
 -- an option that may stand at the front of a text: its number, or this one where the option isn't there
-abbrev pub option_cut : List ℕ → ℕ → ℕ → ℕ → List ℕ → Option (List ℕ × List ℕ) → Option FrontNumber
-option_cut name least most otherwise text None = Some (otherwise, Some text)
-option_cut name least most otherwise text (Some cut) = if bytes_eq cut.0 name then front_number least most cut.1
+abbrev pub option_split : List ℕ → ℕ → ℕ → ℕ → List ℕ → Option (List ℕ × List ℕ) → Option FrontNumber
+option_split name least most otherwise text None = Some (otherwise, Some text)
+option_split name least most otherwise text (Some parts) = if bytes_eq parts.0 name then front_number least most parts.1
     else Some (otherwise, Some text)
 
 abbrev pub option_number : List ℕ → ℕ → ℕ → ℕ → Option (List ℕ) → Option FrontNumber
 option_number name least most otherwise None = Some (otherwise, None)
-option_number name least most otherwise (Some text) = option_cut name least most otherwise text (cut_of text)
+option_number name least most otherwise (Some text) = option_split name least most otherwise text (split_of text)
 
 -- how many pages a site has for values, 15 to 65,536, how many records it may keep, 1 to 1,000,000, and for how many seconds it
 -- keeps a write that has ended, 0 to 2^31 - 1
@@ -105,11 +105,11 @@ key_of text = option_and_then as_key (unescaped text)
 abbrev pub SiteKey : Type 0
 SiteKey = ℕ × List ℕ
 
-abbrev pub site_key_cut : List ℕ × List ℕ → Option SiteKey
-site_key_cut args = option_and_then (λ s. option_map (λ k. (s, k)) (key_of args.1)) (site_of args.0)
+abbrev pub site_key_split : List ℕ × List ℕ → Option SiteKey
+site_key_split args = option_and_then (λ s. option_map (λ k. (s, k)) (key_of args.1)) (site_of args.0)
 
 abbrev pub site_key_of : List ℕ → Option SiteKey
-site_key_of args = option_and_then site_key_cut (cut_of args)
+site_key_of args = option_and_then site_key_split (split_of args)
 
 abbrev pub said_to_reap : List ℕ → Option Said
 said_to_reap args = option_map (λ (p : SiteKey). SaysReap p.0 p.1) (site_key_of args)
@@ -119,9 +119,9 @@ said_to_evict args = option_map (λ (p : SiteKey). SaysEvict p.0 p.1) (site_key_
 
 abbrev pub said_by_name : List ℕ → List ℕ → Option Said
 said_by_name name args =
-    if bytes_eq name (codes "client") then option_and_then client_said (cut_of args)
-    else (if bytes_eq name (codes "send") then option_and_then send_said (cut_of args)
-    else (if bytes_eq name (codes "take") then option_and_then take_said (cut_of args)
+    if bytes_eq name (codes "client") then option_and_then client_said (split_of args)
+    else (if bytes_eq name (codes "send") then option_and_then send_said (split_of args)
+    else (if bytes_eq name (codes "take") then option_and_then take_said (split_of args)
     else (if bytes_eq name (codes "tick") then option_map (λ s. SaysTick s) (site_of args)
     else (if bytes_eq name (codes "remove") then option_map (λ s. SaysRemove s) (site_of args)
     else (if bytes_eq name (codes "reap") then said_to_reap args
@@ -133,7 +133,7 @@ said_by_name name args =
 
 -- what a line says, if it says something
 abbrev pub said : List ℕ → Option Said
-said line = option_and_then (λ p. said_by_name p.0 p.1) (cut_of line)
+said line = option_and_then (λ p. said_by_name p.0 p.1) (split_of line)
 
 -- a line that is skipped: an empty one, and one that begins with #
 abbrev pub skips : List ℕ → Bool

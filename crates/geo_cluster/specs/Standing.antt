@@ -11,7 +11,7 @@ use Rattle.geo_world.specs.Tables.{empty_tables}
 use Rattle.geo_world.proofs.Running.{HasAllRun}
 use Rattle.geo_cluster.specs.Sayings.{Said}
 use Rattle.geo_cluster.specs.Progress.{Progress, known_in, can_come, followed}
-use Rattle.geo_cluster.specs.Carries.{can_carry, Carries, Happens, AnswersAll}
+use Rattle.geo_cluster.specs.Effects.{can_carry, SaidDoes, Happens, AnswersItems}
 use Rattle.geo_cluster.specs.declared.script.cluster.Cluster.{Cluster}
 
 -- its world has run the events
@@ -36,15 +36,15 @@ pub record PrintsEvent (p : Progress) (event : Event) (text : List ℕ) (new : C
   pub happens : Happens p event text progress
   pub stands : Stands progress new
 
-abbrev pub MeetsEvent : Cluster → Event → Option (Vec ℕ Global) → Cluster → Type 0
-MeetsEvent old event outcome new = (p : Progress) → Stands p old
+abbrev pub EventDoes : Cluster → Event → Option (Vec ℕ Global) → Cluster → Type 0
+EventDoes old event outcome new = (p : Progress) → Stands p old
     → MatchOption outcome (can_come p event ≡ false) (λ text. PrintsEvent p event text.items new)
 
 -- items that are answered, behind what was answered before
 pub record AnswersBehind (p : Progress) (s : ℕ) (items : List Item) (before after : List ℕ) (new : Cluster) : Type 0 where
   pub progress : Progress
   pub text : List ℕ
-  pub answers : AnswersAll p s items text progress
+  pub answers : AnswersItems p s items text progress
   pub stands : Stands progress new
   pub printed : after ≡ before ++ text
 
@@ -57,9 +57,9 @@ AnswersFor old s items before there after new = (p : Progress) → Stands p old 
 pub record CarriesOut (p : Progress) (line : Said) (text : List ℕ) (new : Cluster) : Type 0 where
   pub progress : Progress
   pub can : can_carry p line ≡ true
-  pub carries : Carries p line text progress
+  pub carries : SaidDoes p line text progress
   pub stands : Stands progress new
 
-abbrev pub Meets : Cluster → Said → Option (Vec ℕ Global) → Cluster → Type 0
-Meets old line outcome new = (p : Progress) → Stands p old
+abbrev pub LineDoes : Cluster → Said → Option (Vec ℕ Global) → Cluster → Type 0
+LineDoes old line outcome new = (p : Progress) → Stands p old
     → MatchOption outcome (can_carry p line ≡ false) (λ text. CarriesOut p line text.items new)

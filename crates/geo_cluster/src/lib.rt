@@ -10,6 +10,6 @@ mod script;
 
 pub use script::escape::{escape, unescape};
 pub use script::fault::ScriptFault;
-pub use script::line::Line;
+pub use script::line::ScriptLine;
 pub use script::parse::{is_skipped, parse_line};
 pub use script::run::run_script;

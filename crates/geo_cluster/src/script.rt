@@ -2,7 +2,6 @@
 pub mod client;
 pub mod cluster;
 pub mod connection;
-pub mod cut;
 pub mod escape;
 pub mod fault;
 pub mod happen;
@@ -11,4 +10,5 @@ pub mod listing;
 pub mod parse;
 pub mod run;
 pub mod setups;
+pub mod split;
 pub mod texts;

@@ -13,23 +13,23 @@ use Rattle.geo_session.specs.Exchanges.{Exchange, items_in, text_of, Runs}
 use Rattle.geo_session.specs.Sessions.{Sends}
 use Rattle.geo_session.proofs.Pieces.{no_items, none_stays}
 use Rattle.geo_session.proofs.Talks.{items_in-append, text_of-append, until_quit-none}
-use Rattle.geo_crowd.specs.Carrying.{Carriage, Carries, Brings, Turns, Comes, Reads, Writes}
+use Rattle.geo_crowd.specs.Carrying.{Carriage, IsCarried, Brings, Turns, Comes, Reads, Writes}
 use Rattle.geo_crowd.specs.declared.carried.Came.{Came}
 use Rattle.geo_crowd.specs.declared.carried.Came.TheVariants as came
 
 -- ---- a new connection
 
-pub carries_none : (written : Option (List ℕ)) (c : Connection) → c ≡ new_connection → Carries written c
+pub carries_none : (written : Option (List ℕ)) (c : Connection) → c ≡ new_connection → IsCarried written c
 carries_none written c new =
-    let at_new : Carries written new_connection = record {
+    let at_new : IsCarried written new_connection = record {
       serves = record { all = []; took = []; done = []; lost = []; rest = []; acted = ap until_quit no_items; said = refl; start = written; wrote = Appends-nil written };
       going = λ _. record { read = refl; stays = none_stays; none_lost = refl; none_left = refl };
     } in
-    subst (λ (x : Connection). Carries written x) (sym new) at_new
+    subst (λ (x : Connection). IsCarried written x) (sym new) at_new
 
 -- ---- writing
 
-pub carries_sent : (v w : Option (List ℕ)) (c d : Connection) → Carries v c → Sends c d v w → Carries w d
+pub carries_sent : (v w : Option (List ℕ)) (c d : Connection) → IsCarried v c → Sends c d v w → IsCarried w d
 carries_sent v w c d k h =
     record {
       serves = record {
@@ -54,7 +54,7 @@ sends_none c v = record { part = []; front = refl; written = Appends-nil v; stay
 -- ---- reading
 
 -- while a session goes on the items that came are those of all that was said
-items_going : (v : Option (List ℕ)) (c : Connection) (k : Carries v c) → c.goes_on ≡ true → items_of k.serves.all ≡ items_in k.serves.done
+items_going : (v : Option (List ℕ)) (c : Connection) (k : IsCarried v c) → c.goes_on ≡ true → items_of k.serves.all ≡ items_in k.serves.done
 items_going v c k goes =
     let o = k.going goes in
     let whole : items_in (k.serves.done ++ k.serves.lost) ++ k.serves.rest ≡ items_in k.serves.done =
@@ -63,7 +63,7 @@ items_going v c k goes =
     sym (until_quit-none (items_of k.serves.all) o.stays.quits) ∙ k.serves.acted ∙ whole
 
 -- what is acted on behind it
-acted_more : (v : Option (List ℕ)) (piece : List ℕ) (c : Connection) (k : Carries v c) (goes : c.goes_on ≡ true) (done lost : List Exchange) (rest : List Item)
+acted_more : (v : Option (List ℕ)) (piece : List ℕ) (c : Connection) (k : IsCarried v c) (goes : c.goes_on ≡ true) (done lost : List Exchange) (rest : List Item)
     → until_quit (items_of (c.read ++ piece)) ≡ items_of c.read ++ (items_in (done ++ lost) ++ rest)
     → until_quit (items_of (k.serves.all ++ piece)) ≡ items_in ((k.serves.done ++ done) ++ lost) ++ rest
 acted_more v piece c k goes done lost rest h =
@@ -75,13 +75,13 @@ acted_more v piece c k goes done lost rest h =
     ∙ sym (append_assoc (items_in k.serves.done) (items_in (done ++ lost)) rest) ∙ ap (λ (t : List Item). t ++ rest) joined
 
 -- what is said behind it
-said_more : (v : Option (List ℕ)) (c d : Connection) (k : Carries v c) (done : List Exchange) → d.owed ≡ c.owed ++ text_of done → k.serves.took ++ d.owed ≡ text_of (k.serves.done ++ done)
+said_more : (v : Option (List ℕ)) (c d : Connection) (k : IsCarried v c) (done : List Exchange) → d.owed ≡ c.owed ++ text_of done → k.serves.took ++ d.owed ≡ text_of (k.serves.done ++ done)
 said_more v c d k done h =
     ap (λ (t : List ℕ). k.serves.took ++ t) h ∙ sym (append_assoc k.serves.took c.owed (text_of done)) ∙ ap (λ (t : List ℕ). t ++ text_of done) k.serves.said
     ∙ sym (text_of-append k.serves.done done)
 
-module _ {S : Type 0} (answers : S → Request → Reply → S → Type 0) (refuses : S → Request → S → Type 0) (v : Option (List ℕ)) (c d : Connection) (before after : S) (k : Carries v c) (goes : c.goes_on ≡ true) where
-  carries_piece : (result : Came) (piece : List ℕ) → Comes answers refuses result piece c d before after → Carries v d
+module _ {S : Type 0} (answers : S → Request → Reply → S → Type 0) (refuses : S → Request → S → Type 0) (v : Option (List ℕ)) (c d : Connection) (before after : S) (k : IsCarried v c) (goes : c.goes_on ≡ true) where
+  carries_piece : (result : Came) (piece : List ℕ) → Comes answers refuses result piece c d before after → IsCarried v d
   carries_piece (came.Answered end full) piece h =
       let a = h.0 in
       let acted : until_quit (items_of (c.read ++ piece)) ≡ items_of c.read ++ (items_in (a.exchanges ++ []) ++ []) =
@@ -116,11 +116,11 @@ module _ {S : Type 0} (answers : S → Request → Reply → S → Type 0) (refu
         };
         going = λ on. let none : false ≡ true = sym h.closed ∙ on in cc;
       }
-  carries_piece came.Later piece h = subst (λ (x : Connection). Carries v x) (sym h.1) k
-  carries_piece came.End piece h = subst (λ (x : Connection). Carries v x) (sym h.1) k
-  carries_piece came.Failed piece h = subst (λ (x : Connection). Carries v x) (sym h.1) k
+  carries_piece came.Later piece h = subst (λ (x : Connection). IsCarried v x) (sym h.1) k
+  carries_piece came.End piece h = subst (λ (x : Connection). IsCarried v x) (sym h.1) k
+  carries_piece came.Failed piece h = subst (λ (x : Connection). IsCarried v x) (sym h.1) k
 
-  pub carries_read : (result : Came) (had has : Option (List ℕ)) → Reads answers refuses result had has c d before after → Carries v d
+  pub carries_read : (result : Came) (had has : Option (List ℕ)) → Reads answers refuses result had has c d before after → IsCarried v d
   carries_read result had has h = carries_piece result h.piece h.comes
 
 module _ {S : Type 0} (answers : S → Request → Reply → S → Type 0) (refuses : S → Request → S → Type 0) (old new : Carriage) (before after : S) (wrote : new.written ≡ old.written) where

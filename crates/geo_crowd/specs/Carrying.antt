@@ -44,7 +44,7 @@ pub record IsOpen (c : Connection) (all : List ℕ) (lost : List Exchange) (rest
   pub none_left : rest ≡ []
 
 -- what a carried connection keeps
-pub record Carries (written : Option (List ℕ)) (c : Connection) : Type 0 where
+pub record IsCarried (written : Option (List ℕ)) (c : Connection) : Type 0 where
   pub serves : Serves written c.owed
   pub going : c.goes_on ≡ true → IsOpen c serves.all serves.lost serves.rest
 

@@ -100,19 +100,19 @@ pub struct Carried<S: Stream> {
 }
 
 impl<S: Stream> Model for Carried<S> {
-    ghost use Rattle.geo_crowd.specs.Carrying.{Carriage, Carries};
+    ghost use Rattle.geo_crowd.specs.Carrying.{Carriage, IsCarried};
 
     ghost Value = { Carriage };
 
     ghost view = { λ s. record { left = S.remaining s.stream; written = S.contents s.stream; session = s.session } };
 
-    ghost invariant = { λ s. Carries (S.contents s.stream) s.session };
+    ghost invariant = { λ s. IsCarried (S.contents s.stream) s.session };
 }
 
 impl<S: Stream> Carried<S> {
     ghost use Rattle.std.specs.Prelude.{◌≡◌};
     ghost use Rattle.geo_session.specs.Connections.{new_connection};
-    ghost use Rattle.geo_crowd.specs.Carrying.{Carries, IsOver, Turns, Writes};
+    ghost use Rattle.geo_crowd.specs.Carrying.{IsCarried, IsOver, Turns, Writes};
 
     /// A connection on which nothing came and nothing was written, and of which it is not known whether it is ready.
     pub fn new(alloc: Global, stream: S) -> Carried<S>
@@ -208,7 +208,7 @@ impl<S: Stream> Carried<S> {
 
     /// How it stands.
     fn standing(&self) -> Standing
-        ensures carries { Carries self.now.written self.now.session }
+        ensures carries { IsCarried self.now.written self.now.session }
         ensures over { IsOver result self.now.session.owed }
     {
         let owes = !self.session.owed().is_empty();
@@ -230,7 +230,7 @@ impl<S: Stream> Carried<S> {
         buffer: &mut [u8],
     ) -> Standing
         ensures turns { Turns B.answers B.refuses self.old self.new backend.old backend.new }
-        ensures carries { Carries self.new.written self.new.session }
+        ensures carries { IsCarried self.new.written self.new.session }
         ensures over { IsOver result self.new.session.owed }
     {
         self.write();

@@ -12,16 +12,16 @@ use Rattle.geo_grammar.specs.declared.fault.BlockFault.TheVariants as block_why
 use Rattle.geo_grammar.specs.declared.line.Line.{Line}
 use Rattle.geo_grammar.specs.declared.line.Line.TheVariants.{Whole, Storage, Huge, Bad}
 use Rattle.geo_grammar.specs.declared.item.Item.{Item}
-use Rattle.geo_grammar.specs.Places.{Place, InLine, InData, AtReturn, Skips, Ended, Turn, turn, said_turn, seen_turn, skip_turn, items_from, place_after, is_ended}
+use Rattle.geo_grammar.specs.Places.{Place, InLine, InData, AtReturn, Skips, Ended, Transition, transition, said_transition, seen_transition, skip_transition, items_from, place_after, is_ended}
 use Rattle.geo_grammar.specs.Protocol.{items_of}
-use Rattle.geo_grammar.proofs.Turns.{at_end}
+use Rattle.geo_grammar.proofs.Transitions.{at_end}
 use Rattle.geo_grammar.proofs.Whole.{items_is}
 
 abbrev pub IsLong : List Item → Bool
 IsLong items = list_any says_too_long items
 
--- a turn that does not start at the end says so exactly where it comes there
-abbrev Says : Turn → Type 0
+-- a transition that does not start at the end says so exactly where it comes there
+abbrev Says : Transition → Type 0
 Says t = is_ended t.next ≡ IsLong t.gives
 
 line_short : (why : LineFault) → is_long_fault (line_fault why) ≡ false
@@ -33,24 +33,24 @@ block_short : (why : BlockFault) → is_long_fault (block_fault why) ≡ false
 block_short block_why.BadData = refl
 block_short block_why.TooLarge = refl
 
-said_says : (s : Line) → Says (said_turn s)
+said_says : (s : Line) → Says (said_transition s)
 said_says (Whole request) = refl
 said_says (Storage head) = refl
 said_says (Huge size) = refl
 said_says (Bad why) = sym (ap (λ b. b || false) (line_short why))
 
-skip_says : (why : BlockFault) (b : ℕ) → Says (skip_turn why b)
+skip_says : (why : BlockFault) (b : ℕ) → Says (skip_transition why b)
 skip_says why b = cond_both (eqb b 10) _ _ Says (λ _. sym (ap (λ b. b || false) (block_short why))) (λ _. refl)
 
-seen_says : (seen : List ℕ) (b : ℕ) → Says (seen_turn seen b)
+seen_says : (seen : List ℕ) (b : ℕ) → Says (seen_transition seen b)
 seen_says seen b = cond_both (ltb (length seen) longest_line) _ _ Says (λ _. refl) (λ _. refl)
 
-turn_says : (p : Place) (b : ℕ) → is_ended p ≡ false → Says (turn p b)
-turn_says (InLine seen) b h = cond_both (eqb b 10) _ _ Says (λ _. said_says (line_says seen)) (λ _. seen_says seen b)
-turn_says (InData head got) b h = cond_both (ltb (length got) head.size) _ _ Says (λ _. refl) (λ _. cond_both (eqb b 13) _ _ Says (λ _. refl) (λ _. skip_says block_why.BadData b))
-turn_says (AtReturn head got) b h = cond_both (eqb b 10) _ _ Says (λ _. refl) (λ _. refl)
-turn_says (Skips left why) b h = cond_both (ltb 0 left) _ _ Says (λ _. refl) (λ _. skip_says why b)
-turn_says Ended b h = absurd cc
+transition_says : (p : Place) (b : ℕ) → is_ended p ≡ false → Says (transition p b)
+transition_says (InLine seen) b h = cond_both (eqb b 10) _ _ Says (λ _. said_says (line_says seen)) (λ _. seen_says seen b)
+transition_says (InData head got) b h = cond_both (ltb (length got) head.size) _ _ Says (λ _. refl) (λ _. cond_both (eqb b 13) _ _ Says (λ _. refl) (λ _. skip_says block_why.BadData b))
+transition_says (AtReturn head got) b h = cond_both (eqb b 10) _ _ Says (λ _. refl) (λ _. refl)
+transition_says (Skips left why) b h = cond_both (ltb 0 left) _ _ Says (λ _. refl) (λ _. skip_says why b)
+transition_says Ended b h = absurd cc
 
 or_assoc : (a b d : Bool) → (a || (b || d)) ≡ ((a || b) || d)
 or_assoc true b d = refl
@@ -67,18 +67,18 @@ or_false : (b : Bool) → b ≡ (b || false)
 or_false true = refl
 or_false false = refl
 
-ends_more : (p : Place) (b : ℕ) (bytes : List ℕ) → is_ended p ≡ false → EndsSo (turn p b).next bytes → EndsSo p (b ∷ bytes)
+ends_more : (p : Place) (b : ℕ) (bytes : List ℕ) → is_ended p ≡ false → EndsSo (transition p b).next bytes → EndsSo p (b ∷ bytes)
 ends_more p b bytes h e =
-    let t = turn p b in
-    e ∙ ap (λ x. x || IsLong (items_from t.next bytes)) (turn_says p b h) ∙ sym (any_append t.gives (items_from t.next bytes)) ∙ sym (ap (λ x. x || IsLong (items_from p (b ∷ bytes))) h)
+    let t = transition p b in
+    e ∙ ap (λ x. x || IsLong (items_from t.next bytes)) (transition_says p b h) ∙ sym (any_append t.gives (items_from t.next bytes)) ∙ sym (ap (λ x. x || IsLong (items_from p (b ∷ bytes))) h)
 
 -- from any place on
 pub ended_from : (p : Place) (bytes : List ℕ) → EndsSo p bytes
 ended_from p [] = or_false (is_ended p)
-ended_from (InLine seen) (b ∷ bytes) = ends_more (InLine seen) b bytes refl (ended_from (turn (InLine seen) b).next bytes)
-ended_from (InData head got) (b ∷ bytes) = ends_more (InData head got) b bytes refl (ended_from (turn (InData head got) b).next bytes)
-ended_from (AtReturn head got) (b ∷ bytes) = ends_more (AtReturn head got) b bytes refl (ended_from (turn (AtReturn head got) b).next bytes)
-ended_from (Skips left why) (b ∷ bytes) = ends_more (Skips left why) b bytes refl (ended_from (turn (Skips left why) b).next bytes)
+ended_from (InLine seen) (b ∷ bytes) = ends_more (InLine seen) b bytes refl (ended_from (transition (InLine seen) b).next bytes)
+ended_from (InData head got) (b ∷ bytes) = ends_more (InData head got) b bytes refl (ended_from (transition (InData head got) b).next bytes)
+ended_from (AtReturn head got) (b ∷ bytes) = ends_more (AtReturn head got) b bytes refl (ended_from (transition (AtReturn head got) b).next bytes)
+ended_from (Skips left why) (b ∷ bytes) = ends_more (Skips left why) b bytes refl (ended_from (transition (Skips left why) b).next bytes)
 ended_from Ended (b ∷ bytes) = ap is_ended (at_end bytes).ends
 
 -- over a whole text

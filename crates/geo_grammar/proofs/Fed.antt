@@ -10,7 +10,7 @@ use Rattle.geo_grammar.specs.Faults.{says_too_long}
 use Rattle.geo_grammar.specs.Places.{Place, InLine, InData, AtReturn, Skips, Ended, start_place, items_from, place_after, is_ended}
 use Rattle.geo_grammar.specs.Protocol.{items_of}
 use Rattle.geo_grammar.specs.States.{place_of}
-use Rattle.geo_grammar.proofs.Turns.{items_from-append, place_after-append, at_end}
+use Rattle.geo_grammar.proofs.Transitions.{items_from-append, place_after-append, at_end}
 use Rattle.geo_grammar.proofs.Whole.{items_is}
 use Rattle.geo_grammar.proofs.Ends.{ended_text}
 

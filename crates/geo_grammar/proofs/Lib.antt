@@ -1,5 +1,5 @@
 pub mod Splitting
-pub mod Turns
+pub mod Transitions
 pub mod Whole
 pub mod Ends
 pub mod Fed

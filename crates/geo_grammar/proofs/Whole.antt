@@ -13,25 +13,25 @@ use Rattle.geo_grammar.specs.declared.line.Line.TheVariants.{Whole, Storage, Hug
 use Rattle.geo_grammar.specs.declared.item.Item.{Item}
 use Rattle.geo_grammar.specs.declared.item.Item.TheVariants as item
 use Rattle.geo_grammar.specs.Commands.{stored, line_says}
-use Rattle.geo_grammar.specs.Places.{Place, InLine, InData, Skips, Turn, items_from, said_turn, NoEnd}
-use Rattle.geo_grammar.specs.Protocol.{Cut, Open, Ends, cut_line, onto, items_in, items_of, line_items, said_items, block_items, skip_items, is_return}
-use Rattle.geo_grammar.proofs.Turns.{Does, leads, in_line, line_end, long_line, step_skip, step_skip_open, step_skip_end, skips_line, skips_end, in_data, turn_full, turn_after, turn_rest, full_bad}
+use Rattle.geo_grammar.specs.Places.{Place, InLine, InData, Skips, Transition, items_from, said_transition, NoEnd}
+use Rattle.geo_grammar.specs.Protocol.{Split, Open, Ends, split_line, onto, items_in, items_of, line_items, said_items, block_items, skip_items, is_return}
+use Rattle.geo_grammar.proofs.Transitions.{Does, leads, in_line, line_end, long_line, step_skip, step_skip_open, step_skip_end, skips_line, skips_end, in_data, transition_full, transition_after, transition_rest, full_bad}
 
--- ---- what a cut says
+-- ---- what a split says
 
-abbrev pub IsCut : List ℕ → Cut → Type 0
-IsCut text Open = NoEnd text
-IsCut text (Ends line rest) = NoEnd line × (text ≡ line ++ 10 ∷ rest)
+abbrev pub IsSplit : List ℕ → Split → Type 0
+IsSplit text Open = NoEnd text
+IsSplit text (Ends line rest) = NoEnd line × (text ≡ line ++ 10 ∷ rest)
 
-onto_cut : (b : ℕ) (bs : List ℕ) (c : Cut) → (b ≡ 10 → ⊥) → IsCut bs c → IsCut (b ∷ bs) (onto b c)
-onto_cut b bs Open h i = (h, i)
-onto_cut b bs (Ends line rest) h i = ((h, i.0), ap (λ (t : List ℕ). b ∷ t) i.1)
+onto_split : (b : ℕ) (bs : List ℕ) (c : Split) → (b ≡ 10 → ⊥) → IsSplit bs c → IsSplit (b ∷ bs) (onto b c)
+onto_split b bs Open h i = (h, i)
+onto_split b bs (Ends line rest) h i = ((h, i.0), ap (λ (t : List ℕ). b ∷ t) i.1)
 
-pub cut_line_is : (text : List ℕ) → IsCut text (cut_line text)
-cut_line_is [] = tt
-cut_line_is (b ∷ bs) = cond_both (eqb b 10) (Ends [] bs) (onto b (cut_line bs)) (IsCut (b ∷ bs))
+pub split_line_is : (text : List ℕ) → IsSplit text (split_line text)
+split_line_is [] = tt
+split_line_is (b ∷ bs) = cond_both (eqb b 10) (Ends [] bs) (onto b (split_line bs)) (IsSplit (b ∷ bs))
     (λ e. (tt, ap (λ k. k ∷ bs) (eqb-true b 10 e)))
-    (λ e. onto_cut b bs (cut_line bs) (eqb-false b 10 e) (cut_line_is bs))
+    (λ e. onto_split b bs (split_line bs) (eqb-false b 10 e) (split_line_is bs))
 
 -- ---- what follows a fault, a block or a line
 
@@ -50,18 +50,18 @@ over_line p g text line rest d e = ap (items_from p) (e ∙ sym (append_assoc li
 -- what a text says behind full data: the bytes to the line's end, which are a return alone or not
 tail_return : (head : Head) (got line rest : List ℕ) → head.size ≤ length got → line ≡ 13 ∷ [] → items_from (InData head got) (line ++ 10 ∷ rest) ≡ item.Request (stored head got) ∷ items_from (InLine []) rest
 tail_return head got line rest le e =
-    ap (λ (l : List ℕ). items_from (InData head got) (l ++ 10 ∷ rest)) e ∙ ap (λ (t : Turn). t.gives ++ items_from t.next (10 ∷ rest)) (turn_full head got le)
+    ap (λ (l : List ℕ). items_from (InData head got) (l ++ 10 ∷ rest)) e ∙ ap (λ (t : Transition). t.gives ++ items_from t.next (10 ∷ rest)) (transition_full head got le)
 
 full_open : (head : Head) (got tail : List ℕ) → head.size ≤ length got → NoEnd tail → items_from (InData head got) tail ≡ []
 full_open head got [] le h = refl
 full_open head got (b ∷ []) le h =
     elim (cases_eq b 13) [
-      | inl e ↦ ap (λ k. items_from (InData head got) (k ∷ [])) e ∙ ap (λ (t : Turn). t.gives ++ items_from t.next []) (turn_full head got le)
+      | inl e ↦ ap (λ k. items_from (InData head got) (k ∷ [])) e ∙ ap (λ (t : Transition). t.gives ++ items_from t.next []) (transition_full head got le)
       | inr ne ↦ (full_bad head got (b ∷ []) le (omega arith) ne).0 ∙ (skips_line BadData (b ∷ []) h).gives
     ]
 full_open head got (b ∷ d ∷ tail) le h =
     elim (cases_eq b 13) [
-      | inl e ↦ ap (λ k. items_from (InData head got) (k ∷ d ∷ tail)) e ∙ ap (λ (t : Turn). t.gives ++ items_from t.next (d ∷ tail)) (turn_full head got le) ∙ ap (λ (t : Turn). t.gives ++ items_from t.next tail) (turn_after head got d h.1.0) ∙ (skips_line BadData tail h.1.1).gives
+      | inl e ↦ ap (λ k. items_from (InData head got) (k ∷ d ∷ tail)) e ∙ ap (λ (t : Transition). t.gives ++ items_from t.next (d ∷ tail)) (transition_full head got le) ∙ ap (λ (t : Transition). t.gives ++ items_from t.next tail) (transition_after head got d h.1.0) ∙ (skips_line BadData tail h.1.1).gives
       | inr ne ↦ (full_bad head got (b ∷ d ∷ tail) le (omega arith) ne).0 ∙ (skips_line BadData (b ∷ d ∷ tail) h).gives
     ]
 
@@ -71,12 +71,12 @@ full_skips head got [] rest le h ne = (full_bad head got (10 ∷ rest) le (omega
 full_skips head got (b ∷ []) rest le h ne = (full_bad head got (b ∷ 10 ∷ rest) le (omega arith) (λ e. ne (ap (λ k. k ∷ []) e))).0
 full_skips head got (b ∷ d ∷ line) rest le h ne =
     elim (cases_eq b 13) [
-      | inl e ↦ ap (λ k. items_from (InData head got) (k ∷ d ∷ (line ++ 10 ∷ rest))) e ∙ ap (λ (t : Turn). t.gives ++ items_from t.next (d ∷ (line ++ 10 ∷ rest))) (turn_full head got le) ∙ ap (λ (t : Turn). t.gives ++ items_from t.next (line ++ 10 ∷ rest)) (turn_after head got d h.1.0)
-          ∙ sym (ap (λ (t : Turn). t.gives ++ items_from t.next (line ++ 10 ∷ rest)) (turn_rest d BadData h.1.0)) ∙ sym (ap (λ (t : Turn). t.gives ++ items_from t.next (d ∷ (line ++ 10 ∷ rest))) (turn_rest b BadData h.0))
+      | inl e ↦ ap (λ k. items_from (InData head got) (k ∷ d ∷ (line ++ 10 ∷ rest))) e ∙ ap (λ (t : Transition). t.gives ++ items_from t.next (d ∷ (line ++ 10 ∷ rest))) (transition_full head got le) ∙ ap (λ (t : Transition). t.gives ++ items_from t.next (line ++ 10 ∷ rest)) (transition_after head got d h.1.0)
+          ∙ sym (ap (λ (t : Transition). t.gives ++ items_from t.next (line ++ 10 ∷ rest)) (transition_rest d BadData h.1.0)) ∙ sym (ap (λ (t : Transition). t.gives ++ items_from t.next (d ∷ (line ++ 10 ∷ rest))) (transition_rest b BadData h.0))
       | inr n ↦ (full_bad head got (b ∷ d ∷ (line ++ 10 ∷ rest)) le (omega arith) n).0
     ]
 
-block_is : (n : ℕ) (more : List ℕ → List Item) (head : Head) (got text : List ℕ) (c : Cut) → Known n more → length text ≤ n → head.size ≤ length got → IsCut text c → block_items more head got c ≡ items_from (InData head got) text
+block_is : (n : ℕ) (more : List ℕ → List Item) (head : Head) (got text : List ℕ) (c : Split) → Known n more → length text ≤ n → head.size ≤ length got → IsSplit text c → block_items more head got c ≡ items_from (InData head got) text
 block_is n more head got text Open k le full i = sym (full_open head got text full i)
 block_is n more head got text (Ends line rest) k le full i =
     let known : more rest ≡ items_from (InLine []) rest = k rest (omega (arith, line_shorter text line rest i.1)) in
@@ -94,37 +94,37 @@ block_is n more head got text (Ends line rest) k le full i =
 short_data : (head : Head) (text : List ℕ) → length text ≤ head.size → items_from (InData head []) text ≡ []
 short_data head text le = (in_data head [] text (omega arith)).gives
 
-store_block : (n : ℕ) (more : List ℕ → List Item) (head : Head) (text : List ℕ) → Known n more → length text ≤ n → block_items more head (take head.size text) (cut_line (drop head.size text)) ≡ items_from (InData head []) text
+store_block : (n : ℕ) (more : List ℕ → List Item) (head : Head) (text : List ℕ) → Known n more → length text ≤ n → block_items more head (take head.size text) (split_line (drop head.size text)) ≡ items_from (InData head []) text
 store_block n more head text k le =
     elim (cases_lt (length text) head.size) [
-      | inl lt ↦ ap (λ (t : List ℕ). block_items more head (take head.size text) (cut_line t)) (drop_all head.size text (omega arith)) ∙ sym (short_data head text (omega arith))
+      | inl lt ↦ ap (λ (t : List ℕ). block_items more head (take head.size text) (split_line t)) (drop_all head.size text (omega arith)) ∙ sym (short_data head text (omega arith))
       | inr high ↦
           let got = take head.size text in
           let tail = drop head.size text in
           let d = in_data head [] got (omega (arith, length-take head.size text)) in
-          block_is n more head got tail (cut_line tail) k (omega (arith, length-drop head.size text)) (omega (arith, length-take head.size text)) (cut_line_is tail)
+          block_is n more head got tail (split_line tail) k (omega (arith, length-drop head.size text)) (omega (arith, length-take head.size text)) (split_line_is tail)
           ∙ sym (ap (items_from (InData head [])) (sym (take-append-drop head.size text)) ∙ (leads (InData head []) (InData head got) got tail [] d).gives)
     ]
 
 -- ---- data that is too large
 
-skip_is : (n : ℕ) (more : List ℕ → List Item) (size : ℕ) (text : List ℕ) (c : Cut) → Known n more → length text ≤ n → size < length text → IsCut (drop size text) c → skip_items more c ≡ items_from (Skips size TooLarge) text
+skip_is : (n : ℕ) (more : List ℕ → List Item) (size : ℕ) (text : List ℕ) (c : Split) → Known n more → length text ≤ n → size < length text → IsSplit (drop size text) c → skip_items more c ≡ items_from (Skips size TooLarge) text
 skip_is n more size text Open k le lt i = sym (step_skip_open size TooLarge text lt i).gives
 skip_is n more size text (Ends line rest) k le lt i =
     let shorter = line_shorter (drop size text) line rest i.1 in
     ap (λ (t : List Item). item.Fault (block_fault TooLarge) ∷ t) (k rest (omega (arith, length-drop size text)))
     ∙ sym (step_skip_end size TooLarge text line rest [] (block_fault TooLarge) lt i.0 i.1 refl refl).gives
 
-huge_is : (n : ℕ) (more : List ℕ → List Item) (size : ℕ) (text : List ℕ) → Known n more → length text ≤ n → skip_items more (cut_line (drop size text)) ≡ items_from (Skips size TooLarge) text
+huge_is : (n : ℕ) (more : List ℕ → List Item) (size : ℕ) (text : List ℕ) → Known n more → length text ≤ n → skip_items more (split_line (drop size text)) ≡ items_from (Skips size TooLarge) text
 huge_is n more size text k le =
     elim (cases_lt size (length text)) [
-      | inl lt ↦ skip_is n more size text (cut_line (drop size text)) k le lt (cut_line_is (drop size text))
-      | inr low ↦ ap (λ (t : List ℕ). skip_items more (cut_line t)) (drop_all size text low) ∙ sym (step_skip size TooLarge text low).gives
+      | inl lt ↦ skip_is n more size text (split_line (drop size text)) k le lt (split_line_is (drop size text))
+      | inr low ↦ ap (λ (t : List ℕ). skip_items more (split_line t)) (drop_all size text low) ∙ sym (step_skip size TooLarge text low).gives
     ]
 
 -- ---- lines
 
-said_is : (n : ℕ) (more : List ℕ → List Item) (rest : List ℕ) (s : line.Line) → Known n more → length rest ≤ n → said_items more rest s ≡ (said_turn s).gives ++ items_from (said_turn s).next rest
+said_is : (n : ℕ) (more : List ℕ → List Item) (rest : List ℕ) (s : line.Line) → Known n more → length rest ≤ n → said_items more rest s ≡ (said_transition s).gives ++ items_from (said_transition s).next rest
 said_is n more rest (Whole request) k le = ap (λ (t : List Item). item.Request request ∷ t) (k rest le)
 said_is n more rest (Bad why) k le = ap (λ (t : List Item). item.Fault (line_fault why) ∷ t) (k rest le)
 said_is n more rest (Storage head) k le = store_block n more head rest k le
@@ -134,7 +134,7 @@ said_is n more rest (Huge size) k le = huge_is n more size rest k le
 too_long : (text a b : List ℕ) → NoEnd a → longest_line < length a → text ≡ a ++ b → items_from (InLine []) text ≡ item.Fault LineTooLong ∷ []
 too_long text a b h lt e = ap (items_from (InLine [])) e ∙ (long_line [] a b h (omega arith) (omega arith)).gives
 
-line_is : (n : ℕ) (more : List ℕ → List Item) (text : List ℕ) (c : Cut) → Known n more → length text ≤ suc n → IsCut text c → line_items more text c ≡ items_from (InLine []) text
+line_is : (n : ℕ) (more : List ℕ → List Item) (text : List ℕ) (c : Split) → Known n more → length text ≤ suc n → IsSplit text c → line_items more text c ≡ items_from (InLine []) text
 line_is n more text Open k le i =
     elim (cases_lt longest_line (length text)) [
       | inl lt ↦ cond-true _ _ _ (lt-ltb longest_line (length text) lt) ∙ sym (too_long text text [] i lt (sym (append-nil text)))
@@ -153,7 +153,7 @@ in_is : (n : ℕ) → Known n (items_in n)
 unfolding items_in
 in_is zero [] le = refl
 in_is zero (b ∷ bs) le = absurd (omega arith)
-in_is (suc n) text le = line_is n (items_in n) text (cut_line text) (in_is n) le (cut_line_is text)
+in_is (suc n) text le = line_is n (items_in n) text (split_line text) (in_is n) le (split_line_is text)
 
 -- the items of a text, line by line and block by block, are those that its bytes give one by one
 pub items_is : (text : List ℕ) → items_of text ≡ items_from (InLine []) text

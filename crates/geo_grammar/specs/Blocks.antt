@@ -5,8 +5,8 @@ use Rattle.geo_grammar.specs.Places.{Place, InLine, InData, AtReturn, Skips, Lea
 use Rattle.geo_grammar.specs.declared.fault.BlockFault.TheVariants.{BadData}
 use Rattle.geo_grammar.specs.declared.head.Head.{Head}
 use Rattle.geo_grammar.specs.declared.item.Item.TheVariants as item
-use Rattle.geo_grammar.specs.declared.block.BlockCut.{BlockCut}
-use Rattle.geo_grammar.specs.declared.block.BlockCut.TheVariants.{Open, Good, Bad}
+use Rattle.geo_grammar.specs.declared.block.BlockSplit.{BlockSplit}
+use Rattle.geo_grammar.specs.declared.block.BlockSplit.TheVariants.{Open, Good, Bad}
 
 -- in a data block, or behind it and its return
 abbrev pub block_place : Head → List ℕ → Bool → Place
@@ -14,7 +14,7 @@ block_place head got false = InData head got
 block_place head got true = AtReturn head got
 
 -- what the piece does from that place on
-abbrev pub BlockLeads : Place → Head → List ℕ → List ℕ → BlockCut → Type 0
+abbrev pub BlockLeads : Place → Head → List ℕ → List ℕ → BlockSplit → Type 0
 BlockLeads place head got piece (Open front returned) = Leads place piece [] (block_place head (got ++ front.now) returned) []
     × IsPlace (block_place head (got ++ front.now) returned)
 BlockLeads place head got piece (Good front rest) =
@@ -22,7 +22,7 @@ BlockLeads place head got piece (Good front rest) =
 BlockLeads place head got piece (Bad rest) = Leads place piece [] (Skips 0 BadData) rest.now × (0 < length rest.now)
 
 -- at most that much of the piece is left to be read, one more where the block is good
-abbrev pub rest_length : BlockCut → ℕ
+abbrev pub rest_length : BlockSplit → ℕ
 rest_length (Open front returned) = 0
 rest_length (Good front rest) = suc (length rest.now)
 rest_length (Bad rest) = length rest.now

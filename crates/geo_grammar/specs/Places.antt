@@ -29,52 +29,52 @@ abbrev pub start_place : Place
 start_place = InLine []
 
 -- what a byte gives, and where it leads
-pub record Turn : Type 0 where
+pub record Transition : Type 0 where
   pub gives : List Item
   pub next : Place
 
-abbrev pub gives_one : Item → Turn
+abbrev pub gives_one : Item → Transition
 gives_one item = record { gives = item ∷ []; next = InLine [] }
 
-abbrev pub goes_to : Place → Turn
+abbrev pub goes_to : Place → Transition
 goes_to place = record { gives = []; next = place }
 
 -- behind a line that says that
-abbrev pub said_turn : Line → Turn
-said_turn (Whole request) = gives_one (item.Request request)
-said_turn (Bad why) = gives_one (item.Fault (line_fault why))
-said_turn (Storage head) = goes_to (InData head [])
-said_turn (Huge size) = goes_to (Skips size TooLarge)
+abbrev pub said_transition : Line → Transition
+said_transition (Whole request) = gives_one (item.Request request)
+said_transition (Bad why) = gives_one (item.Fault (line_fault why))
+said_transition (Storage head) = goes_to (InData head [])
+said_transition (Huge size) = goes_to (Skips size TooLarge)
 
-abbrev pub line_turn : List ℕ → Turn
-line_turn line = said_turn (line_says line)
+abbrev pub line_transition : List ℕ → Transition
+line_transition line = said_transition (line_says line)
 
 -- in a line, at a byte that is none of its end
-abbrev pub seen_turn : List ℕ → ℕ → Turn
-seen_turn seen b = if nat_lt (length seen) longest_line then goes_to (InLine (seen ++ b ∷ []))
+abbrev pub seen_transition : List ℕ → ℕ → Transition
+seen_transition seen b = if nat_lt (length seen) longest_line then goes_to (InLine (seen ++ b ∷ []))
     else record { gives = item.Fault fault.LineTooLong ∷ []; next = Ended }
 
 -- behind what is skipped
-abbrev pub skip_turn : BlockFault → ℕ → Turn
-skip_turn why b = if b == 10 then gives_one (item.Fault (block_fault why)) else goes_to (Skips 0 why)
+abbrev pub skip_transition : BlockFault → ℕ → Transition
+skip_transition why b = if b == 10 then gives_one (item.Fault (block_fault why)) else goes_to (Skips 0 why)
 
-abbrev pub turn : Place → ℕ → Turn
-turn (InLine seen) b = if b == 10 then line_turn seen else seen_turn seen b
-turn (InData head got) b = if nat_lt (length got) head.size then goes_to (InData head (got ++ b ∷ []))
-    else (if b == 13 then goes_to (AtReturn head got) else skip_turn BadData b)
-turn (AtReturn head got) b = if b == 10 then gives_one (item.Request (stored head got)) else goes_to (Skips 0 BadData)
-turn (Skips left why) b = if nat_lt 0 left then goes_to (Skips (left - 1) why) else skip_turn why b
-turn Ended b = goes_to Ended
+abbrev pub transition : Place → ℕ → Transition
+transition (InLine seen) b = if b == 10 then line_transition seen else seen_transition seen b
+transition (InData head got) b = if nat_lt (length got) head.size then goes_to (InData head (got ++ b ∷ []))
+    else (if b == 13 then goes_to (AtReturn head got) else skip_transition BadData b)
+transition (AtReturn head got) b = if b == 10 then gives_one (item.Request (stored head got)) else goes_to (Skips 0 BadData)
+transition (Skips left why) b = if nat_lt 0 left then goes_to (Skips (left - 1) why) else skip_transition why b
+transition Ended b = goes_to Ended
 
 -- the items that bytes give from a place on
 abbrev pub items_from : Place → List ℕ → List Item
 items_from place [] = []
-items_from place (b ∷ bs) = (turn place b).gives ++ items_from (turn place b).next bs
+items_from place (b ∷ bs) = (transition place b).gives ++ items_from (transition place b).next bs
 
 -- the place behind them
 abbrev pub place_after : Place → List ℕ → Place
 place_after place [] = place
-place_after place (b ∷ bs) = place_after (turn place b).next bs
+place_after place (b ∷ bs) = place_after (transition place b).next bs
 
 -- no line ends in these bytes
 abbrev pub NoEnd : List ℕ → Type 0

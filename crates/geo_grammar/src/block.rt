@@ -7,7 +7,7 @@ use crate::head::Head;
 
 /// What a piece brings of a data block and of the `\r\n` behind it.
 #[derive(Clone, Copy)]
-pub enum BlockCut<'a> {
+pub enum BlockSplit<'a> {
     /// It brings data, and not yet the newline behind it. `returned`: the data is whole, and its return was there.
     Open { front: &'a [u8], returned: bool },
     /// It brings the last data and the newline, and then the rest.
@@ -16,61 +16,61 @@ pub enum BlockCut<'a> {
     Bad { rest: &'a [u8] },
 }
 
-/// Cuts a piece of a data block of which `got` came so far.
-fn cut_data<'a>(head: &Head, got: &[u8], piece: &'a [u8]) -> BlockCut<'a>
+/// Splits a piece of a data block of which `got` came so far.
+fn split_data<'a>(head: &Head, got: &[u8], piece: &'a [u8]) -> BlockSplit<'a>
     requires { length got.now ≤ head.now.size }
     ensures leads { BlockLeads (InData head.now got.now) head.now got.now piece.now result }
     ensures shorter { rest_length result ≤ length piece.now }
 {
     let room = head.size - got.len();
     if piece.len() <= room {
-        return BlockCut::Open {
+        return BlockSplit::Open {
             front: piece,
             returned: false,
         };
     }
     let (front, tail) = piece.split_at(room);
     if tail[0] != b'\r' {
-        return BlockCut::Bad { rest: tail };
+        return BlockSplit::Bad { rest: tail };
     }
     if tail.len() == 1 {
-        return BlockCut::Open {
+        return BlockSplit::Open {
             front,
             returned: true,
         };
     }
     if tail[1] != b'\n' {
-        return BlockCut::Bad { rest: tail };
+        return BlockSplit::Bad { rest: tail };
     }
     let (_, rest) = tail.split_at(2);
-    BlockCut::Good { front, rest }
+    BlockSplit::Good { front, rest }
 }
 
-/// Cuts a piece behind a whole data block and its return.
-fn cut_returned<'a>(head: &Head, got: &[u8], piece: &'a [u8]) -> BlockCut<'a>
+/// Splits a piece behind a whole data block and its return.
+fn split_returned<'a>(head: &Head, got: &[u8], piece: &'a [u8]) -> BlockSplit<'a>
     requires { length got.now ≡ head.now.size }
     ensures leads { BlockLeads (AtReturn head.now got.now) head.now got.now piece.now result }
     ensures shorter { rest_length result ≤ length piece.now }
 {
     match piece {
-        [] => BlockCut::Open {
+        [] => BlockSplit::Open {
             front: &[],
             returned: true,
         },
-        [b'\n', rest @ ..] => BlockCut::Good { front: &[], rest },
-        _ => BlockCut::Bad { rest: piece },
+        [b'\n', rest @ ..] => BlockSplit::Good { front: &[], rest },
+        _ => BlockSplit::Bad { rest: piece },
     }
 }
 
-/// Cuts a piece of a data block of which `got` came so far, and then its return where `returned`.
-pub fn cut_block<'a>(head: &Head, got: &[u8], returned: bool, piece: &'a [u8]) -> BlockCut<'a>
+/// Splits a piece of a data block of which `got` came so far, and then its return where `returned`.
+pub fn split_block<'a>(head: &Head, got: &[u8], returned: bool, piece: &'a [u8]) -> BlockSplit<'a>
     requires { IsPlace (block_place head.now got.now returned) }
     ensures leads { BlockLeads (block_place head.now got.now returned) head.now got.now piece.now result }
     ensures shorter { rest_length result ≤ length piece.now }
 {
     if returned {
-        cut_returned(head, got, piece)
+        split_returned(head, got, piece)
     } else {
-        cut_data(head, got, piece)
+        split_data(head, got, piece)
     }
 }

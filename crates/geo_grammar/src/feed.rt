@@ -4,12 +4,12 @@ ghost use Rattle.std.specs.Option.{option_to_list};
 ghost use Rattle.geo_grammar.specs.Places.{IsPlace, start_place, items_from, place_after, is_ended};
 ghost use Rattle.geo_grammar.specs.States.{IsBlock, place_of, finished};
 
-use crate::block::{BlockCut, cut_block};
-use crate::cut::{LineCut, cut_seen};
+use crate::block::{BlockSplit, split_block};
 use crate::fault::{BlockFault, Fault};
 use crate::item::Item;
+use crate::split::{LineSplit, split_seen};
 use crate::state::State;
-use crate::step::{Turn, line_end, run};
+use crate::step::{Transition, line_end, run};
 use std::alloc::{AllocError, Global};
 use std::mem;
 
@@ -83,8 +83,8 @@ fn feed_block(alloc: Global, state: &mut State, piece: &[u8]) -> Result<Vec<Item
     else {
         unreachable!()
     };
-    match cut_block(head, got.as_slice(), *returned, piece) {
-        BlockCut::Open {
+    match split_block(head, got.as_slice(), *returned, piece) {
+        BlockSplit::Open {
             front,
             returned: now,
         } => {
@@ -92,8 +92,8 @@ fn feed_block(alloc: Global, state: &mut State, piece: &[u8]) -> Result<Vec<Item
             *returned = now;
             Ok(Vec::new(alloc))
         }
-        BlockCut::Good { front, rest } => feed_last(alloc, state, front, rest),
-        BlockCut::Bad { rest } => {
+        BlockSplit::Good { front, rest } => feed_last(alloc, state, front, rest),
+        BlockSplit::Bad { rest } => {
             let skip = State::skip(0, BlockFault::BadData);
             feed_from(alloc, state, None, skip, rest)
         }
@@ -114,20 +114,20 @@ pub fn feed_state(alloc: Global, state: &mut State, piece: &[u8]) -> Result<Vec<
         return Ok(Vec::new(alloc));
     }
     match state {
-        State::Line(seen) => match cut_seen(seen.as_slice(), piece) {
-            LineCut::Open => {
+        State::Line(seen) => match split_seen(seen.as_slice(), piece) {
+            LineSplit::Open => {
                 seen.extend_from_slice(piece)?;
                 Ok(Vec::new(alloc))
             }
-            LineCut::Ends { front, rest } => {
-                let Turn {
+            LineSplit::Ends { front, rest } => {
+                let Transition {
                     item,
                     state: from,
                     rest,
                 } = line_end(alloc, seen.as_slice(), front, rest)?;
                 feed_from(alloc, state, item, from, rest)
             }
-            LineCut::TooLong => {
+            LineSplit::TooLong => {
                 let fault = Some(Item::Fault(Fault::LineTooLong));
                 feed_from(alloc, state, fault, State::Ended, &[])
             }

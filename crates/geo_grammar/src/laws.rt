@@ -19,7 +19,7 @@ pub fn silent_behind_long_line()
     ensures { (text more : List ℕ) → list_any says_too_long (items_of text) ≡ true → items_of (text ++ more) ≡ items_of text }
 {}
 
-/// All items of a text that comes in these pieces: those of the pieces joined, wherever they are cut.
+/// All items of a text that comes in these pieces: those of the pieces joined, wherever they are split.
 pub fn read_all(alloc: Global, pieces: &[Vec<u8>]) -> Result<Vec<Item>, AllocError>
     ensures { IfOk result (λ out. out.items ≡ items_of (flat_map (λ piece. piece.items) pieces.now)) }
 {

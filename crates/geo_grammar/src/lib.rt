@@ -9,7 +9,6 @@
 
 mod block;
 mod command;
-mod cut;
 mod device;
 mod fault;
 mod feed;
@@ -23,6 +22,7 @@ mod reader;
 mod reply;
 mod request;
 mod shared;
+mod split;
 mod state;
 mod stats;
 mod step;

@@ -1,31 +1,35 @@
 //! One step of a reader: what a part of a piece does.
 ghost use Rattle.std.specs.Prelude.{◌≡◌, ◌++◌, ◌+◌, ◌<◌, ◌≤◌, ◌∷◌, [], length, MatchOption, IfSome, IfOk, OnOk};
 ghost use Rattle.std.specs.Option.{option_to_list};
-ghost use Rattle.geo_grammar.specs.Places.{InLine, Skips, Leads, IsPlace, line_turn, items_from, place_after};
+ghost use Rattle.geo_grammar.specs.Places.{InLine, Skips, Leads, IsPlace, line_transition, items_from, place_after};
 ghost use Rattle.geo_grammar.specs.Blocks.{block_place};
 ghost use Rattle.geo_grammar.specs.States.{place_of};
 
-use crate::block::{BlockCut, cut_block};
-use crate::cut::{LineCut, cut_line, cut_seen};
+use crate::block::{BlockSplit, split_block};
 use crate::fault::{BlockFault, Fault};
 use crate::head::Head;
 use crate::item::Item;
 use crate::line::{Line, read_line};
+use crate::split::{LineSplit, split_line, split_seen};
 use crate::state::State;
 use std::alloc::{AllocError, Global};
 
 /// What a part of a piece does: an item or none, the state behind it, and the rest of the piece.
 #[derive(Drop)]
-pub struct Turn<'a> {
+pub struct Transition<'a> {
     pub item: Option<Item>,
     pub state: State,
     pub rest: &'a [u8],
 }
 
 /// What a line does.
-fn line_turn<'a>(alloc: Global, line: &[u8], rest: &'a [u8]) -> Result<Turn<'a>, AllocError>
-    ensures gives { IfOk result (λ t. option_to_list t.item ≡ (line_turn line.now).gives) }
-    ensures next { IfOk result (λ t. place_of t.state ≡ (line_turn line.now).next) }
+fn line_transition<'a>(
+    alloc: Global,
+    line: &[u8],
+    rest: &'a [u8],
+) -> Result<Transition<'a>, AllocError>
+    ensures gives { IfOk result (λ t. option_to_list t.item ≡ (line_transition line.now).gives) }
+    ensures next { IfOk result (λ t. place_of t.state ≡ (line_transition line.now).next) }
     ensures place { IfOk result (λ t. IsPlace (place_of t.state)) }
     ensures rest { IfOk result (λ t. t.rest.now ≡ rest.now) }
 {
@@ -54,7 +58,7 @@ fn line_turn<'a>(alloc: Global, line: &[u8], rest: &'a [u8]) -> Result<Turn<'a>,
             },
         ),
     };
-    Ok(Turn { item, state, rest })
+    Ok(Transition { item, state, rest })
 }
 
 /// What a line does of which `seen` came before.
@@ -63,38 +67,42 @@ pub fn line_end<'a>(
     seen: &[u8],
     front: &[u8],
     rest: &'a [u8],
-) -> Result<Turn<'a>, AllocError>
-    ensures gives { IfOk result (λ t. option_to_list t.item ≡ (line_turn (seen.now ++ front.now)).gives) }
-    ensures next { IfOk result (λ t. place_of t.state ≡ (line_turn (seen.now ++ front.now)).next) }
+) -> Result<Transition<'a>, AllocError>
+    ensures gives { IfOk result (λ t. option_to_list t.item ≡ (line_transition (seen.now ++ front.now)).gives) }
+    ensures next { IfOk result (λ t. place_of t.state ≡ (line_transition (seen.now ++ front.now)).next) }
     ensures place { IfOk result (λ t. IsPlace (place_of t.state)) }
     ensures rest { IfOk result (λ t. t.rest.now ≡ rest.now) }
 {
     if seen.is_empty() {
-        return line_turn(alloc, front, rest);
+        return line_transition(alloc, front, rest);
     }
     let mut line = Vec::from_slice(alloc, seen)?;
     line.extend_from_slice(front)?;
-    line_turn(alloc, line.as_slice(), rest)
+    line_transition(alloc, line.as_slice(), rest)
 }
 
-fn line_step<'a>(alloc: Global, mut seen: Vec<u8>, piece: &'a [u8]) -> Result<Turn<'a>, AllocError>
+fn line_step<'a>(
+    alloc: Global,
+    mut seen: Vec<u8>,
+    piece: &'a [u8],
+) -> Result<Transition<'a>, AllocError>
     requires place { IsPlace (InLine seen.items) }
     requires some { 0 < length piece.now }
     ensures leads { IfOk result (λ t. Leads (InLine seen.items) piece.now (option_to_list t.item) (place_of t.state) t.rest.now) }
     ensures place { IfOk result (λ t. IsPlace (place_of t.state)) }
     ensures shorter { IfOk result (λ t. length t.rest.now < length piece.now) }
 {
-    match cut_seen(seen.as_slice(), piece) {
-        LineCut::Open => {
+    match split_seen(seen.as_slice(), piece) {
+        LineSplit::Open => {
             seen.extend_from_slice(piece)?;
-            Ok(Turn {
+            Ok(Transition {
                 item: None,
                 state: State::Line(seen),
                 rest: &[],
             })
         }
-        LineCut::Ends { front, rest } => line_end(alloc, seen.as_slice(), front, rest),
-        LineCut::TooLong => Ok(Turn {
+        LineSplit::Ends { front, rest } => line_end(alloc, seen.as_slice(), front, rest),
+        LineSplit::TooLong => Ok(Transition {
             item: Some(Item::Fault(Fault::LineTooLong)),
             state: State::Ended,
             rest: &[],
@@ -102,14 +110,14 @@ fn line_step<'a>(alloc: Global, mut seen: Vec<u8>, piece: &'a [u8]) -> Result<Tu
     }
 }
 
-fn skip_step<'a>(alloc: Global, left: usize, fault: BlockFault, piece: &'a [u8]) -> Turn<'a>
+fn skip_step<'a>(alloc: Global, left: usize, fault: BlockFault, piece: &'a [u8]) -> Transition<'a>
     requires { 0 < length piece.now }
     ensures leads { Leads (Skips left fault) piece.now (option_to_list result.item) (place_of result.state) result.rest.now }
     ensures place { IsPlace (place_of result.state) }
     ensures shorter { length result.rest.now < length piece.now }
 {
     if piece.len() <= left {
-        return Turn {
+        return Transition {
             item: None,
             state: State::Skip {
                 left: left - piece.len(),
@@ -119,14 +127,14 @@ fn skip_step<'a>(alloc: Global, left: usize, fault: BlockFault, piece: &'a [u8])
         };
     }
     let (_, tail) = piece.split_at(left);
-    let Some((_, rest)) = cut_line(tail) else {
-        return Turn {
+    let Some((_, rest)) = split_line(tail) else {
+        return Transition {
             item: None,
             state: State::Skip { left: 0, fault },
             rest: &[],
         };
     };
-    Turn {
+    Transition {
         item: Some(Item::Fault(fault.fault())),
         state: State::Line(Vec::new(alloc)),
         rest,
@@ -139,7 +147,7 @@ fn block_step<'a>(
     mut got: Vec<u8>,
     returned: bool,
     piece: &'a [u8],
-) -> Result<Turn<'a>, AllocError>
+) -> Result<Transition<'a>, AllocError>
     requires place { IsPlace (block_place head got.items returned) }
     requires some { 0 < length piece.now }
     ensures leads { IfOk result
@@ -147,33 +155,33 @@ fn block_step<'a>(
     ensures place { IfOk result (λ t. IsPlace (place_of t.state)) }
     ensures shorter { IfOk result (λ t. length t.rest.now < length piece.now) }
 {
-    match cut_block(&head, got.as_slice(), returned, piece) {
-        BlockCut::Open { front, returned } => {
+    match split_block(&head, got.as_slice(), returned, piece) {
+        BlockSplit::Open { front, returned } => {
             got.extend_from_slice(front)?;
             let state = State::Data {
                 head,
                 got,
                 returned,
             };
-            Ok(Turn {
+            Ok(Transition {
                 item: None,
                 state,
                 rest: &[],
             })
         }
-        BlockCut::Good { front, rest } => {
+        BlockSplit::Good { front, rest } => {
             got.extend_from_slice(front)?;
-            Ok(Turn {
+            Ok(Transition {
                 item: Some(Item::Request(head.request(got))),
                 state: State::Line(Vec::new(alloc)),
                 rest,
             })
         }
-        BlockCut::Bad { rest } => Ok(skip_step(alloc, 0, BlockFault::BadData, rest)),
+        BlockSplit::Bad { rest } => Ok(skip_step(alloc, 0, BlockFault::BadData, rest)),
     }
 }
 
-fn step<'a>(alloc: Global, state: State, piece: &'a [u8]) -> Result<Turn<'a>, AllocError>
+fn step<'a>(alloc: Global, state: State, piece: &'a [u8]) -> Result<Transition<'a>, AllocError>
     requires place { IsPlace (place_of state) }
     requires some { 0 < length piece.now }
     ensures leads { IfOk result (λ t. Leads (place_of state) piece.now (option_to_list t.item) (place_of t.state) t.rest.now) }
@@ -188,7 +196,7 @@ fn step<'a>(alloc: Global, state: State, piece: &'a [u8]) -> Result<Turn<'a>, Al
             returned,
         } => block_step(alloc, head, got, returned, piece),
         State::Skip { left, fault } => Ok(skip_step(alloc, left, fault, piece)),
-        State::Ended => Ok(Turn {
+        State::Ended => Ok(Transition {
             item: None,
             state: State::Ended,
             rest: &[],
@@ -211,7 +219,7 @@ pub fn run(
     let mut state = state;
     let mut rest = piece;
     while !rest.is_empty() {
-        let Turn {
+        let Transition {
             item,
             state: next,
             rest: after,

@@ -27,7 +27,7 @@ use Rattle.geo_history.specs.declared.step.Event.TheVariants.{Command, Evict, Se
 use Rattle.geo_history.specs.declared.step.Answer.TheVariants.{Replied, Evicted, Sent, SendRefused, Taken as Took, TakeRefused, Removed, Ticked, Reaped, ReapRefused}
 use Rattle.geo_history.specs.Standings.{Who, who_in, Standing, standing_in, clock_at, visible_at, basis_at, issued_at, issue_all, lets_go, waits, counts_as, flushed, carries_out, evicts, reaped_at}
 use Rattle.geo_history.specs.Standings as standings
-use Rattle.geo_history.specs.Replays.{Requested, Stuck, Commanded, Undue, Takes, RefusesFor, IsSent, SendRefuses, Tells, Drops, Leads, StepsTo}
+use Rattle.geo_history.specs.Replays.{Requested, Stuck, Commanded, Undue, Takes, RefusesFor, IsSent, SendRefuses, TellsTake, Drops, Leads, StepsTo}
 use Rattle.geo_history.proofs.Issuing.{standing_at, stands_same, quiet_stands, goes_stands, accessed_stands, beside, flush_stands, none_due, stuck_same, take_stands}
 
 -- ---- a flush that is due

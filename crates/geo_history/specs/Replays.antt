@@ -67,7 +67,7 @@ RefusesFor who st parcel takes.Gap = (parcel.to ≡ who.number) × (is_sound (le
 RefusesFor who st parcel takes.Memory = ⊥
 
 -- what it tells of a take: whether the vector rose, and how many values it holds no longer
-pub record Tells (old new : Standing) (parcel : Parcel) (told : Taken) : Type 0 where
+pub record TellsTake (old new : Standing) (parcel : Parcel) (told : Taken) : Type 0 where
   pub rose : IsTrue told.rose ↔ (vector_joined old.vector parcel.upto ≢ old.vector)
   pub before : ℕ
   pub after : ℕ
@@ -111,7 +111,7 @@ abbrev pub Leads : Who → Standing → Event → Answer → Standing → Type 0
 Leads who old (Evict key) (Evicted done) new = (done ≡ is_some (old.held key)) × (new ≡ cond done (evicts key old) old)
 Leads who old (Send to) (Sent parcel) new = IsOther who old to × IsSent who old to parcel × (new ≡ old)
 Leads who old (Send to) (SendRefused why) new = SendRefuses who old to why × (new ≡ old)
-Leads who old (Take parcel) (Took told) new = Takes who old parcel × Tells old new parcel told × (new ≡ taken who parcel old)
+Leads who old (Take parcel) (Took told) new = Takes who old parcel × TellsTake old new parcel told × (new ≡ taken who parcel old)
 Leads who old (Take parcel) (TakeRefused why) new = RefusesFor who old parcel why × (new ≡ old)
 Leads who old Remove (Removed count) new = Drops old new count × (new ≡ removes who old)
 Leads who old (Tick now) (Ticked done) new = (done ≡ true) × (flushes_due old.waiting (clock_at old) now ≡ true)

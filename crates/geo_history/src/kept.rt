@@ -27,20 +27,6 @@ pub struct Kept {
     ghost who: { who_in parts.site ≡ who_of parts.setup },
 }
 
-/// An equal setup.
-pub(crate) fn copied(setup: &Setup) -> Setup
-    ensures { result ≡ setup.now }
-{
-    Setup {
-        site: setup.site,
-        sites: setup.sites,
-        pages: setup.pages,
-        max_records: setup.max_records,
-        reap_after: setup.reap_after,
-        hasher: setup.hasher,
-    }
-}
-
 /// No steps of any seat.
 fn no_steps(alloc: Global) -> Result<Vec<u64>, AllocError>
     ensures { IfOk result (λ counts. counts.items ≡ replicate 256 0) }
@@ -57,7 +43,7 @@ impl Kept {
     pub fn new(alloc: Global, setup: Setup) -> Result<Kept, SetupError>
         ensures { KeptOpens setup result }
     {
-        let own = copied(&setup);
+        let own = setup.copied();
         let site = Site::new(alloc, setup)?;
         let Ok(counts) = no_steps(alloc) else {
             return Err(SetupError::Memory);

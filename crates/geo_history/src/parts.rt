@@ -6,7 +6,6 @@ ghost use Rattle.geo_history.specs.Keeping.{most_steps, most_seats, made_in, IsC
 
 use crate::boxed::BoxedParcel;
 use crate::history::{History, Opening};
-use crate::kept::copied;
 use crate::step::{Answer, Event, Step};
 use geo_chunks::Chunks;
 use geo_delta::Parcel;
@@ -308,7 +307,7 @@ impl Parts {
         let state = self.site.state(alloc)?;
         let opening = Opening { era, state, counts };
         Ok(Some(History {
-            setup: copied(&self.setup),
+            setup: self.setup.copied(),
             opening: mem::replace(&mut self.opening, opening),
             steps: mem::replace(&mut self.steps, steps),
         }))

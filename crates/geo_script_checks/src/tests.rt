@@ -1,5 +1,5 @@
 //! What is spelled, what a line says, and how a run ends where a device fails.
-use geo_cluster::{Line, ScriptFault, escape, is_skipped, parse_line, run_script, unescape};
+use geo_cluster::{ScriptFault, ScriptLine, escape, is_skipped, parse_line, run_script, unescape};
 use geo_grammar::Device;
 use std::hash::RandomState;
 use std::io::{Error, ErrorKind, Read, Result as IoResult, Write};
@@ -19,18 +19,18 @@ fn reads_a_line(rt: HostRuntime) -> Result<(), Fail> {
     assert!(rt; is_skipped(b"# take 2 13"));
     assert!(rt; !is_skipped(b"take 2 13"));
     match parse_line(rt.alloc(), b"take 2 13")? {
-        Some(Line::Take { site, parcel }) => assert_eq!(rt; (site, parcel), (2, 13)),
+        Some(ScriptLine::Take { site, parcel }) => assert_eq!(rt; (site, parcel), (2, 13)),
         _ => panic!(rt; "another line was read"),
     }
     match parse_line(rt.alloc(), b"evict 4 \\x62")? {
-        Some(Line::Evict { site, key }) => {
+        Some(ScriptLine::Evict { site, key }) => {
             assert_eq!(rt; site, 4);
             assert_eq!(rt; key.bytes(), b"b".as_slice());
         }
         _ => panic!(rt; "another line was read"),
     }
     match parse_line(rt.alloc(), b"reap 3 \\x61\xff")? {
-        Some(Line::Reap { site, key }) => {
+        Some(ScriptLine::Reap { site, key }) => {
             assert_eq!(rt; site, 3);
             assert_eq!(rt; key.bytes(), b"a\xff".as_slice());
         }
@@ -50,7 +50,7 @@ fn reads_the_options(rt: HostRuntime) -> Result<(), Fail> {
     for (text, wanted) in rows {
         match parse_line(rt.alloc(), text.as_bytes())? {
             Some(
-                Line::Sites {
+                ScriptLine::Sites {
                     count,
                     pages,
                     max,

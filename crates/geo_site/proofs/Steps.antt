@@ -21,7 +21,7 @@ use Rattle.geo_site.specs.Entries.{Held, named_by}
 use Rattle.geo_site.proofs.Stocking.{settled_held, act_held_is}
 use Rattle.geo_site.specs.Machine.{act_stock, is_victim, without, victim_by, SiteState, Delta, fresh, clock_of, next_operation, map_after, issue, act_held, map_with, take, sifted_delta, removed, Same}
 use Rattle.geo_site.specs.Schedule.{still_held}
-use Rattle.geo_site.specs.Agreement.{Kept, Old, Holds, UpTo, Tells, StateOf, DeltaOf, has_value}
+use Rattle.geo_site.specs.Agreement.{Kept, Old, Holds, UpTo, Spans, StateOf, DeltaOf, has_value}
 use Rattle.geo_site.proofs.Entries.{Within, entry_joined, length_joined, greatest_joined, entry_at_most, greatest_raised, length_raised, entry_raised, entry_rises}
 use Rattle.geo_site.proofs.Registers.{Incoming, Missing, found}
 use Rattle.geo_site.proofs.Records.{B, X, Comes, holds_take, holds_more, holds_version, above_is}
@@ -311,7 +311,7 @@ state_fresh n s pages = record {
 pub state_same : (n s h : ℕ) (st new : SiteState) (ops : List Operation) (held : Held) → StateOf n s h st ops held → Same st new → StateOf n s h new ops held
 state_same n s h st new ops held ok same = record {
   many = ap length same.vector ∙ ok.many;
-  tells = subst₂ (λ (v : List ℕ) (f : Option Moment). Tells s v f ops) (sym same.vector) (sym same.floor) ok.tells;
+  tells = subst₂ (λ (v : List ℕ) (f : Option Moment). Spans s v f ops) (sym same.vector) (sym same.floor) ok.tells;
   behind = ok.behind;
   holds = λ key. subst (λ (m : Record). Holds (UpTo h) m ops key) (sym (same.map key)) (ok.holds key);
   same_held = λ key. same.stock.held key ∙ ok.same_held key;

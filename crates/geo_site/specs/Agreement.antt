@@ -36,7 +36,7 @@ abbrev pub UpTo : ℕ → ℕ → Type 0
 UpTo horizon t = t ≤ horizon
 
 -- a vector and a floor are those of the operations, of which a site with this number knows or told all
-pub record Tells (number : ℕ) (vector : List ℕ) (floor : Option Moment) (ops : List Operation) : Type 0 where
+pub record Spans (number : ℕ) (vector : List ℕ) (floor : Option Moment) (ops : List Operation) : Type 0 where
   pub clock : greatest_of vector ≡ latest ops
   pub own : entry_of vector number ≡ latest ops
   pub covers : (op : Operation) → Among ops op → Knows vector op.stamp
@@ -46,7 +46,7 @@ pub record Tells (number : ℕ) (vector : List ℕ) (floor : Option Moment) (ops
 -- a site's state is what it knows and holds, but for what it dropped up to a horizon
 pub record StateOf (sites number horizon : ℕ) (st : SiteState) (ops : List Operation) (held : Held) : Type 0 where
   pub many : length st.vector ≡ sites
-  pub tells : Tells number st.vector st.floor ops
+  pub tells : Spans number st.vector st.floor ops
   pub behind : horizon ≤ latest ops
   pub holds : (key : List ℕ) → Holds (UpTo horizon) (st.map key) ops key
   pub same_held : (key : List ℕ) → st.stock.held key ≡ held key
@@ -54,7 +54,7 @@ pub record StateOf (sites number horizon : ℕ) (st : SiteState) (ops : List Ope
 -- what a parcel brings is what its sender kept, but for what the base knows; what its sender dropped has a time of which P holds
 pub record DeltaOf (sites sender : ℕ) (P : ℕ → Type 0) (base : List ℕ) (d : Delta) (ops : List Operation) : Type 0 where
   pub many : length d.upto ≡ sites
-  pub tells : Tells sender d.upto d.floor ops
+  pub tells : Spans sender d.upto d.floor ops
   pub kept : List ℕ → Record
   pub holds : (key : List ℕ) → Holds P (kept key) ops key
   pub lacking : (key : List ℕ) → d.map key ≡ since base (kept key)

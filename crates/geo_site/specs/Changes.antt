@@ -19,7 +19,7 @@ use Rattle.geo_site.specs.declared.refusal.WriteError.{WriteError}
 use Rattle.geo_site.specs.declared.refusal.WriteError.TheVariants.{MapFull, ClockEnded, Memory}
 use Rattle.geo_site.specs.Entries.{evicted_on, acts_of, made_of, is_some_act, is_growth}
 use Rattle.geo_site.specs.Machine.{Same, clock_of}
-use Rattle.geo_site.specs.Sites.{state_in, most_records, record_count, counts_in, victim_in, FirstVictimFits, HasIssuedAfter, Tells}
+use Rattle.geo_site.specs.Sites.{state_in, most_records, record_count, counts_in, victim_in, FirstVictimFits, HasIssuedAfter, TellsBeside}
 
 -- what asks for more than a look
 abbrev pub is_change : Ask → Bool
@@ -123,4 +123,4 @@ ChangeDoes old new key bytes decision said =
 
 -- and what is told of the change beside the reply
 abbrev pub TellsChange : Site → ℕ → List ℕ → List ℕ → Decision → Acted → Type 0
-TellsChange old wanted key bytes decision acted = Tells old wanted (acts_of key bytes decision.effect) (made_of decision.effect) acted
+TellsChange old wanted key bytes decision acted = TellsBeside old wanted (acts_of key bytes decision.effect) (made_of decision.effect) acted

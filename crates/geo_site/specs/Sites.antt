@@ -227,7 +227,7 @@ reply_in (Ok acted) = acted.reply
 reply_in (Err refused) = OutOfMemory
 
 -- what is told beside a reply: so many copies of it, whose bytes went for what was stored, and what was made of older bytes
-pub record Tells (site : Site) (wanted : ℕ) (acts : List Act) (bytes : Option (List ℕ × ℕ)) (acted : Acted) : Type 0 where
+pub record TellsBeside (site : Site) (wanted : ℕ) (acts : List Act) (bytes : Option (List ℕ × ℕ)) (acted : Acted) : Type 0 where
   pub said : acted.reply ≡ OutOfMemory → ⊥
   pub copies : acted.copies.items ≡ replicate wanted acted.reply
   pub victim : acted.victim ≡ cond (is_done acted.reply) (victim_in site acts) None
@@ -243,7 +243,7 @@ pub record TellsPlain (wanted : ℕ) (acted : Acted) : Type 0 where
 -- what a command does and tells, with so many copies of its reply
 pub record ActTells (old new : Site) (now : ℕ) (request : Request) (wanted : ℕ) (acted : Acted) : Type 0 where
   pub does : ActDoes old new now request acted.reply
-  pub told : Tells does.mid wanted (issued_in does.mid now request) (made_on now (visible_in (state_in does.mid) now) request) acted
+  pub told : TellsBeside does.mid wanted (issued_in does.mid now request) (made_on now (visible_in (state_in does.mid) now) request) acted
 
 -- by its result: where memory is wanted for what it does, the command is answered so; where it is wanted for the copies alone,
 -- nothing changes

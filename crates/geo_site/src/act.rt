@@ -5,7 +5,7 @@ ghost use Rattle.geo_memcache.specs.Entries.{entry_of};
 ghost use Rattle.geo_memcache.specs.Decisions.{decided, is_made};
 ghost use Rattle.geo_site.specs.Entries.{Answers, accesses, evicted_on, counted, waits_after, is_done, made_on};
 ghost use Rattle.geo_site.specs.Machine.{Same, visible_in};
-ghost use Rattle.geo_site.specs.Sites.{state_in, basis_in, issued_in, counts_in, waiting_in, stats_in, victim_in, FirstVictimFits, HasIssuedAfter, Rests, Stays, ActDoes, ActFullDoes, Tells, TellsPlain, reply_in};
+ghost use Rattle.geo_site.specs.Sites.{state_in, basis_in, issued_in, counts_in, waiting_in, stats_in, victim_in, FirstVictimFits, HasIssuedAfter, Rests, Stays, ActDoes, ActFullDoes, TellsBeside, TellsPlain, reply_in};
 ghost use Rattle.geo_site.specs.Changes.{is_change, bytes_in, refusal_reply, ChangeDoes, TellsChange};
 
 use crate::acted::{Acted, Copies};
@@ -84,7 +84,7 @@ impl Site {
             ≡ cond (is_done (reply_in result)) (evicted_on (victim_in self.old (issued_in self.old now request.now)) (counted
             (visible_in (state_in self.old) now) request.now (counts_in self.old))) (counts_in self.old) }
         ensures victim { is_done (reply_in result) ≡ true → FirstVictimFits self.old (issued_in self.old now request.now) }
-        ensures told { IfOk result (Tells self.old copies.wanted (issued_in self.old now request.now) (made_on now
+        ensures told { IfOk result (TellsBeside self.old copies.wanted (issued_in self.old now request.now) (made_on now
             (visible_in (state_in self.old) now) request.now)) }
         ensures waiting { waiting_in self.new
             ≡ cond (is_done (reply_in result)) (waits_after now request.now (waiting_in self.old)) (waiting_in self.old) }

@@ -1,4 +1,6 @@
 //! What a site is made of.
+ghost use Rattle.std.specs.Prelude.{◌≡◌};
+
 use std::hash::RandomState;
 
 /// The most records that a site may be told to keep at most.
@@ -19,6 +21,22 @@ pub struct Setup {
     pub reap_after: u32,
     /// How its maps hash their keys, which strangers choose.
     pub hasher: RandomState,
+}
+
+impl Setup {
+    /// An equal setup. It takes no memory.
+    pub fn copied(&self) -> Setup
+        ensures { result ≡ self.now }
+    {
+        Setup {
+            site: self.site,
+            sites: self.sites,
+            pages: self.pages,
+            max_records: self.max_records,
+            reap_after: self.reap_after,
+            hasher: self.hasher,
+        }
+    }
 }
 
 /// What a site goes by, as it was told at its start.

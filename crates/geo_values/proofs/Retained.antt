@@ -8,7 +8,7 @@ use Rattle.std.specs.Map.{lookup}
 use Rattle.sha2.specs.Sha256.{sha256}
 use Rattle.geo_versions.specs.Keys.{same_key}
 use Rattle.geo_slabs.specs.Storage.{held_in}
-use Rattle.geo_values.specs.Stock.{Same, Answers, dropped, staying, kept_where, IsRetained}
+use Rattle.geo_values.specs.Stock.{Same, TestAnswers, dropped, staying, kept_where, IsRetained}
 use Rattle.geo_values.specs.Links.{Links, Kept, IsLinked, links_of, stock_of, bytes_of}
 use Rattle.geo_values.specs.Steps.{SameLinks, MayAnswer, CanGo, taken_out}
 use Rattle.geo_values.specs.declared.parts.Item.{Item}
@@ -19,7 +19,7 @@ use Rattle.geo_values.proofs.Staying.{all_but, staying-all, staying-twice}
 -- a call at an item's key, digest and length
 pub answers-item : {F : Type 0} (calls : Shared F (Bor (List ℕ) × (Bor (List ℕ) × (ℕ × Unit {0}))) Bool) (test : F) (l : Links) → IsLinked l → (key : List ℕ) (item : Item) → l.item key ≡ Some item
     → (held : List ℕ) → held_in l.storage item.chunk ≡ Some held → (k d : Bor (List ℕ)) → k.now ≡ key → d.now ≡ item.digest → (answer : Bool) → calls.post test (k, (d, (length held, tt))) answer
-    → MayAnswer (Answers calls test) l key answer
+    → MayAnswer (TestAnswers calls test) l key answer
 answers-item calls test l h key item is held holds k d keyed digested answer met = λ bytes at.
     let s = h.sound key item is in
     let here : held_in l.storage item.chunk ≡ Some bytes = sym (ap (bytes_of l.storage) is) ∙ at in

@@ -139,7 +139,7 @@ with_digest digest None = None
 with_digest digest (Some bytes) = cond (bytes_eq (sha256 bytes) digest) (Some bytes) None
 
 -- a call of a test at a key, the SHA-256 of its bytes and their length may answer so
-pub record Answers {F : Type 0} (calls : Shared F (Bor (List ℕ) × (Bor (List ℕ) × (ℕ × Unit {0}))) Bool) (test : F) (key bytes : List ℕ)
+pub record TestAnswers {F : Type 0} (calls : Shared F (Bor (List ℕ) × (Bor (List ℕ) × (ℕ × Unit {0}))) Bool) (test : F) (key bytes : List ℕ)
     (answer : Bool) : Type 0 where
   pub key_at : Bor (List ℕ)
   pub digest_at : Bor (List ℕ)

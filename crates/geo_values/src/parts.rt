@@ -76,7 +76,7 @@ impl Parts {
     ghost use Rattle.geo_versions.specs.Maps.{Rising};
     ghost use Rattle.geo_slabs.specs.Storage.{IsFull, IsClassOf};
     ghost use Rattle.geo_values.specs.Held.{digest_of, by_key, digest_at};
-    ghost use Rattle.geo_values.specs.Stock.{Answers, IsRetained};
+    ghost use Rattle.geo_values.specs.Stock.{TestAnswers, IsRetained};
     ghost use Rattle.geo_values.specs.Links.{IsLinked, links_in, stock_of};
     ghost use Rattle.geo_values.specs.Steps.{SameLinks, MayAnswer, Hits, RenewsIf, IsNotHot, moved_in, taken_out, CanGo, CanGoIfAny, CanEvictIfAny, HasVictim, Evicts, TakesOut, admitted, with_item, PutsWithRoom};
 
@@ -122,7 +122,7 @@ impl Parts {
         requires within { index < length self.now.items.entries }
         ensures found { IfSome (slice_get self.now.items.entries index) (λ e. (links_in self.now).item e.0 ≡ Some e.1) }
         ensures told { IfSome (slice_get self.now.items.entries index)
-            (λ e. MayAnswer (Answers F.Fn keep.now) (links_in self.now) e.0 result) }
+            (λ e. MayAnswer (TestAnswers F.Fn keep.now) (links_in self.now) e.0 result) }
     {
         let Some((key, item)) = self.items.get_index(index) else {
             unreachable!();
@@ -154,7 +154,7 @@ impl Parts {
         requires callable { F.IsAlwaysCallable keep }
         requires linked { IsLinked (links_in self.old) }
         requires classes { length self.old.classes.items ≡ class_count }
-        ensures retained { IsRetained (Answers F.Fn keep) (stock_of (links_in self.old)) (stock_of (links_in self.new)) }
+        ensures retained { IsRetained (TestAnswers F.Fn keep) (stock_of (links_in self.old)) (stock_of (links_in self.new)) }
         ensures no_more { length self.new.items.entries ≤ length self.old.items.entries }
         ensures linked { IsLinked (links_in self.new) }
         ensures classes { length self.new.classes.items ≡ class_count }

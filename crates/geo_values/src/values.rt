@@ -52,7 +52,7 @@ impl Values {
     ghost use Rattle.geo_versions.specs.Maps.{Rising};
     ghost use Rattle.geo_lru.specs.Rules.{victim_of, juggled_by, leaves_list};
     ghost use Rattle.geo_slabs.specs.Chunks.{page_bytes};
-    ghost use Rattle.geo_values.specs.Stock.{first_stock, Same, IsHeldIn, IsListed, IsNotInHot, IsStored, IsRetained, Answers, dropped, hit_at, evicted_from, juggled_in, with_digest};
+    ghost use Rattle.geo_values.specs.Stock.{first_stock, Same, IsHeldIn, IsListed, IsNotInHot, IsStored, IsRetained, TestAnswers, dropped, hit_at, evicted_from, juggled_in, with_digest};
     ghost use Rattle.geo_slabs.specs.Storage.{IsUnused, IsClassOf};
     ghost use Rattle.geo_values.specs.Held.{stock_in, keys_in, count_in, digest_of, by_key, digest_at};
 
@@ -130,7 +130,7 @@ impl Values {
     /// and their length. It takes no memory.
     pub fn retain<F: Fn(&Key, &Digest, usize) -> bool>(&mut self, keep: F)
         requires { F.IsAlwaysCallable keep }
-        ensures retained { IsRetained (Answers F.Fn keep) (stock_in self.old) (stock_in self.new) }
+        ensures retained { IsRetained (TestAnswers F.Fn keep) (stock_in self.old) (stock_in self.new) }
         ensures no_more { count_in self.new ≤ count_in self.old }
     {
         self.parts.retain(keep)

@@ -14,7 +14,7 @@ use Rattle.geo_site.specs.Machine.{SiteState, Same, issue, issue_all, accessed, 
 use Rattle.geo_site.specs.Sites.{state_in, heard_in, counts_in, waiting_in, clock_in, HasIssued, HasIssuedAfter, Stays, Rests, FlushDoes, EvictDoes}
 use Rattle.geo_site.specs.Schedule.{Known, StableAt, still_held, settles, new_operation, issues, counts_keys, lets_go, waits, flushed}
 use Rattle.geo_stamp.specs.Stamps.{Moment}
-use Rattle.geo_site.specs.Agreement.{Holds, UpTo, Tells, StateOf}
+use Rattle.geo_site.specs.Agreement.{Holds, UpTo, Spans, StateOf}
 use Rattle.geo_site.proofs.Sound.{here, there, held_here, held_there}
 use Rattle.geo_site.proofs.Steps.{state_issues, state_same}
 use Rattle.geo_site.proofs.Records.{holds_more}
@@ -283,7 +283,7 @@ module _ (sites : List Site) (parcels : List Parcel) (w : Known) (agrees : Agree
         let left = does.left in
         record {
           many = ap length left.vector ∙ st.state.many;
-          tells = subst₂ (λ (v : List ℕ) (f : Option Moment). Tells s v f (w.at s)) (sym left.vector) (sym left.floor) st.state.tells;
+          tells = subst₂ (λ (v : List ℕ) (f : Option Moment). Spans s v f (w.at s)) (sym left.vector) (sym left.floor) st.state.tells;
           behind = st.state.behind;
           holds = λ q. subst (λ (m : Record). Holds (UpTo st.horizon) m (w.at s) q) (sym (left.map q)) (st.state.holds q);
           same_held = λ q. left.stock.held q ∙ ap (λ (o : Option (List ℕ)). cond (same_key q key) None o) (st.state.same_held q);

@@ -24,7 +24,7 @@ use Rattle.geo_site.specs.Entries.{Held}
 use Rattle.geo_site.specs.Machine.{Same, take, sifted_delta, knows_record, knows_floor}
 use Rattle.geo_site.specs.Sites.{Remains, heard_in, horizon_in, state_in, delta_of, knows_all, is_sound, Rests, Takes, RefusesFor, IsSent, SendRefuses}
 use Rattle.geo_site.specs.Schedule.{Known, StableAt, settles, still_held, carried, addressee, happens, Lawful, TakeRefusedFor, SendRefusedFor}
-use Rattle.geo_site.specs.Agreement.{UpTo, Tells, StateOf}
+use Rattle.geo_site.specs.Agreement.{UpTo, Spans, StateOf}
 use Rattle.geo_versions.proofs.InOrder.{each_listed}
 use Rattle.geo_site.proofs.Sound.{here, there, held_here}
 use Rattle.geo_site.proofs.Steps.{state_takes, state_same, state_later}
@@ -70,7 +70,7 @@ carries_sent n s to at site parcel known_of st stable lo hi to_first to_last ne 
       records_known = rising_known parcel.upto parcel.records sent.rising known;
       delta = record {
         many = ap length sent.upto ∙ many;
-        tells = subst (λ k. Tells k parcel.upto parcel.floor ops) (sym from) (subst₂ (λ (v : List ℕ) (f : Option Moment). Tells s v f ops) (sym sent.upto) (sym sent.floor) st.state.tells);
+        tells = subst (λ k. Spans k parcel.upto parcel.floor ops) (sym from) (subst₂ (λ (v : List ℕ) (f : Option Moment). Spans s v f ops) (sym sent.upto) (sym sent.floor) st.state.tells);
         kept = (state_in site).map;
         holds = λ key. holds_more (UpTo st.horizon) (StableAt n at) (λ time le. stable_below n at st.horizon time le stable) ((state_in site).map key) ops key (st.state.holds key);
         lacking = λ key. sent.records key ∙ ap (λ base. since base ((state_in site).map key)) (sym sent.base);

@@ -19,7 +19,7 @@ use Rattle.geo_site.specs.Sites.{state_in, heard_in, horizon_in, delta_of, clock
 use Rattle.geo_site.specs.Schedule.{Known, issues_on, reaps_on, flushed}
 use Rattle.geo_stamp.specs.Acks.{heard, none_heard}
 use Rattle.geo_world.specs.Agreement.{Agrees}
-use Rattle.geo_world.specs.Tables.{Table, Tables, brings_nothing, empty_tables, issue_all_at, take_at, remove_at, cut_at, horizon_at, keeps, issued_at, flushed_at, kept_after, table_in, brought_in, Keep, OwesOver, OwesBy, CountsDropped}
+use Rattle.geo_world.specs.Tables.{Table, Tables, brings_nothing, empty_tables, issue_all_at, take_at, remove_at, brought_at, horizon_at, keeps, issued_at, flushed_at, kept_after, table_in, brought_in, Keep, OwesOver, OwesBy, CountsDropped}
 use Rattle.geo_world.proofs.Worlds.{some_none, get_appended}
 use Rattle.geo_world.proofs.Opening.{Silent}
 use Rattle.geo_world.proofs.Changing.{get_written, put_here, put_there}
@@ -111,13 +111,13 @@ module _ (sites : List Site) (parcels : List Parcel) (all : Tables) (keep : Keep
 
 -- ---- a send
 pub keep_sent : (sites : List Site) (parcels : List Parcel) (all : Tables) (k s to : ℕ) (site : Site) (parcel : Parcel) → Keep sites parcels all → s ≡ k + 1 → slice_get sites k ≡ Some site → site.number ≡ s → IsSent site to parcel
-    → Keep sites (parcels ++ parcel ∷ []) (record { at = all.at; sent = all.sent ++ cut_at s to (all.at s) ∷ [] })
+    → Keep sites (parcels ++ parcel ∷ []) (record { at = all.at; sent = all.sent ++ brought_at s to (all.at s) ∷ [] })
 keep_sent sites parcels all k s to site parcel keep at_number got own sent =
-    let b = cut_at s to (all.at s) in
+    let b = brought_at s to (all.at s) in
     let d = brings_nothing in
     let here = keep.each k s site at_number got in
-    let cut : brought_in parcel ≡ cut_at site.number to (table_in site) = (λ i. record { from = sent.sender i; delta = record { upto = sent.upto i; floor = sent.floor i; map = λ key. sent.records key i } }) in
-    let is : brought_in parcel ≡ b = cut ∙ (λ i. cut_at (own i) to (here i)) in
+    let cut : brought_in parcel ≡ brought_at site.number to (table_in site) = (λ i. record { from = sent.sender i; delta = record { upto = sent.upto i; floor = sent.floor i; map = λ key. sent.records key i } }) in
+    let is : brought_in parcel ≡ b = cut ∙ (λ i. brought_at (own i) to (here i)) in
     record {
       each = keep.each;
       as_many = let h = keep.as_many in let x = length-append all.sent (b ∷ []) in let y = length-append parcels (parcel ∷ []) in omega (arith, h, x, y);

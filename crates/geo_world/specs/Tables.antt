@@ -92,8 +92,8 @@ remove_at number t = record {
 }
 
 -- what it cuts for another: the records that it did not hear the other to know
-abbrev pub cut_at : ℕ → ℕ → Table → Brought
-cut_at number to t = record {
+abbrev pub brought_at : ℕ → ℕ → Table → Brought
+brought_at number to t = record {
   from = number;
   delta = record { upto = t.vector; floor = t.floor; map = λ key. since (row_of t.rows to) (t.kept key) };
 }
@@ -115,7 +115,7 @@ abbrev pub kept_after : Known → Tables → Event → Trace → Tables
 kept_after w all (Command site now request) (Replied reply victim) =
     let mid = flushed_at w all site now in
     cond (is_done reply) (issued_at mid site (issues_on (flushed w site now) site now request)) mid
-kept_after w all (Send site to) Sent = record { at = all.at; sent = all.sent ++ cut_at site to (all.at site) ∷ [] }
+kept_after w all (Send site to) Sent = record { at = all.at; sent = all.sent ++ brought_at site to (all.at site) ∷ [] }
 kept_after w all (Take site parcel) Taken = keeps all site (take_at site (slice_index_or all.sent parcel brings_nothing) (all.at site))
 kept_after w all (Remove site) (Removed horizon count) = keeps all site (remove_at site (all.at site))
 kept_after w all (Tick site now) (Ticked done) = flushed_at w all site now

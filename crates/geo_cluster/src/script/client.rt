@@ -4,7 +4,7 @@ ghost use Rattle.geo_grammar.specs.Replies.{answer_bytes};
 ghost use Rattle.geo_grammar.specs.declared.reply.Reply.TheVariants.{OutOfMemory};
 ghost use Rattle.geo_grammar.specs.declared.item.Item.TheVariants as item;
 ghost use Rattle.geo_cluster.specs.Sayings.{SaysClient};
-ghost use Rattle.geo_cluster.specs.Standing.{AnswersFor, Meets};
+ghost use Rattle.geo_cluster.specs.Standing.{AnswersFor, LineDoes};
 
 use crate::script::cluster::Cluster;
 use crate::script::texts::answer_line;
@@ -94,7 +94,7 @@ impl Cluster {
         bytes: &[u8],
     ) -> Result<Option<Vec<u8>>, AllocError>
         requires { 1 ≤ site }
-        ensures { IfOk result (λ o. Meets self.old (SaysClient site bytes.now) o self.new) }
+        ensures { IfOk result (λ o. LineDoes self.old (SaysClient site bytes.now) o self.new) }
     {
         let at = site as usize - 1;
         if at >= self.connections.len() {

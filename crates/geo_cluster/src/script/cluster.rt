@@ -2,10 +2,10 @@
 ghost use Rattle.std.specs.Prelude.{◌≤◌, ◌^◌, IfOk};
 ghost use Rattle.geo_cluster.specs.Reads.{said_by, IsInRange};
 ghost use Rattle.geo_cluster.specs.Sayings.{SaysSites, SaysAt, SaysVersions};
-ghost use Rattle.geo_cluster.specs.declared.script.line.Line.TheVariants.{Sites};
+ghost use Rattle.geo_cluster.specs.declared.script.line.ScriptLine.TheVariants.{Sites};
 
 use crate::script::connection::Connection;
-use crate::script::line::Line;
+use crate::script::line::ScriptLine;
 use crate::script::listing::versions_lines;
 use crate::script::setups::{connections, opened, told};
 use geo_site::Event;
@@ -26,7 +26,7 @@ pub struct Cluster {
 
 impl Cluster {
     ghost use Rattle.geo_cluster.specs.Progress.{opening};
-    ghost use Rattle.geo_cluster.specs.Standing.{Stands, Meets};
+    ghost use Rattle.geo_cluster.specs.Standing.{Stands, LineDoes};
 
     /// No sites yet, and the moment 1.
     pub fn new(alloc: Global, hasher: RandomState) -> Cluster
@@ -46,30 +46,34 @@ impl Cluster {
 
     /// Carries out a line, and answers what it prints. None where it can't be carried out: a bad line. Want of memory may leave the
     /// line half done.
-    pub fn carry_out(&mut self, alloc: Global, line: Line) -> Result<Option<Vec<u8>>, AllocError>
+    pub fn carry_out(
+        &mut self,
+        alloc: Global,
+        line: ScriptLine,
+    ) -> Result<Option<Vec<u8>>, AllocError>
         requires { IsInRange line }
-        ensures { IfOk result (λ o. Meets self.old (said_by line) o self.new) }
+        ensures { IfOk result (λ o. LineDoes self.old (said_by line) o self.new) }
     {
         let now = self.moment;
         match line {
-            Line::Sites {
+            ScriptLine::Sites {
                 count,
                 pages,
                 max,
                 reap,
             } => self.set_up(alloc, count, pages, max, reap),
-            Line::At(moment) => Ok(self.set_moment(alloc, moment)),
-            Line::Client { site, text } => self.feed(alloc, site, text.as_slice()),
-            Line::Send { from, to } => self.happen(alloc, Event::Send { site: from, to }),
-            Line::Take { site, parcel } => {
+            ScriptLine::At(moment) => Ok(self.set_moment(alloc, moment)),
+            ScriptLine::Client { site, text } => self.feed(alloc, site, text.as_slice()),
+            ScriptLine::Send { from, to } => self.happen(alloc, Event::Send { site: from, to }),
+            ScriptLine::Take { site, parcel } => {
                 let parcel = parcel as usize;
                 self.happen(alloc, Event::Take { site, parcel })
             }
-            Line::Tick { site } => self.happen(alloc, Event::Tick { site, now }),
-            Line::Remove { site } => self.happen(alloc, Event::Remove { site }),
-            Line::Reap { site, key } => self.happen(alloc, Event::Reap { site, now, key }),
-            Line::Evict { site, key } => self.happen(alloc, Event::Evict { site, key }),
-            Line::Versions { site } => self.versions(alloc, site),
+            ScriptLine::Tick { site } => self.happen(alloc, Event::Tick { site, now }),
+            ScriptLine::Remove { site } => self.happen(alloc, Event::Remove { site }),
+            ScriptLine::Reap { site, key } => self.happen(alloc, Event::Reap { site, now, key }),
+            ScriptLine::Evict { site, key } => self.happen(alloc, Event::Evict { site, key }),
+            ScriptLine::Versions { site } => self.versions(alloc, site),
         }
     }
 
@@ -82,7 +86,7 @@ impl Cluster {
         reap: u32,
     ) -> Result<Option<Vec<u8>>, AllocError>
         requires { IsInRange (Sites count pages max reap) }
-        ensures { IfOk result (λ o. Meets self.old (SaysSites count pages max reap) o self.new) }
+        ensures { IfOk result (λ o. LineDoes self.old (SaysSites count pages max reap) o self.new) }
     {
         if !self.world.sites.is_empty() {
             return Ok(None);
@@ -95,7 +99,7 @@ impl Cluster {
 
     fn set_moment(&mut self, alloc: Global, moment: u64) -> Option<Vec<u8>>
         requires { moment ≤ 2 ^ 40 }
-        ensures { Meets self.old (SaysAt moment) result self.new }
+        ensures { LineDoes self.old (SaysAt moment) result self.new }
     {
         if self.world.sites.is_empty() {
             return None;
@@ -107,7 +111,7 @@ impl Cluster {
     /// What a site knows, as it is printed. None where there is no such site.
     fn versions(&self, alloc: Global, site: u8) -> Result<Option<Vec<u8>>, AllocError>
         requires { 1 ≤ site }
-        ensures { IfOk result (λ o. Meets self.now (SaysVersions site) o self.now) }
+        ensures { IfOk result (λ o. LineDoes self.now (SaysVersions site) o self.now) }
     {
         let at = site as usize - 1;
         if at >= self.world.sites.len() {

@@ -14,7 +14,7 @@ fn first_quit(items: &[Item]) -> Option<usize>
 }
 
 /// Drops what stands behind the first quit: it isn't acted on.
-fn cut_behind_quit(items: &mut Vec<Item>)
+fn drop_behind_quit(items: &mut Vec<Item>)
     ensures { items.new.items ≡ until_quit items.old.items }
 {
     match first_quit(items.as_slice()) {
@@ -57,7 +57,7 @@ impl Connection {
         }
         let mut items = self.reader.feed(bytes)?;
         self.ended = ends_by_quit(items.as_slice()) || self.reader.ended();
-        cut_behind_quit(&mut items);
+        drop_behind_quit(&mut items);
         Ok(items)
     }
 }

@@ -2,7 +2,7 @@
 ghost use Rattle.std.specs.Prelude.{◌≡◌, ◌<◌, ◌≤◌, ◌++◌, IfOk, OnOk, MatchOption};
 ghost use Rattle.std.specs.Option.{option_map};
 ghost use Rattle.std.specs.Char.{digit_value};
-ghost use Rattle.geo_cluster.specs.Escapes.{escaped, escaped_byte, unescaped, hex_digit, turn, IsSmall, LeadsToSmall};
+ghost use Rattle.geo_cluster.specs.Escapes.{escaped, escaped_byte, unescaped, hex_digit, transition, IsSmall, LeadsToSmall};
 
 use std::alloc::{AllocError, Global};
 
@@ -16,7 +16,7 @@ enum Spot {
 }
 
 /// What a byte does at a spot: it ends the spelling of a byte, leads on, or can't stand there.
-enum Turn {
+enum Transition {
     Gives(u8),
     Leads(Spot),
     Fails,
@@ -70,33 +70,33 @@ fn hex_value(byte: u8) -> Option<u8>
     Some(value as u8)
 }
 
-fn turn_of(spot: Spot, byte: u8) -> Turn
+fn transition_of(spot: Spot, byte: u8) -> Transition
     requires { IsSmall spot }
-    ensures turn { result ≡ turn spot byte }
+    ensures transition { result ≡ transition spot byte }
     ensures small { LeadsToSmall result }
 {
     match spot {
         Spot::Between => {
             if byte == b'\\' {
-                Turn::Leads(Spot::Backslash)
+                Transition::Leads(Spot::Backslash)
             } else {
-                Turn::Gives(byte)
+                Transition::Gives(byte)
             }
         }
         Spot::Backslash => match byte {
-            b'\\' => Turn::Gives(b'\\'),
-            b'r' => Turn::Gives(b'\r'),
-            b'n' => Turn::Gives(b'\n'),
-            b'x' => Turn::Leads(Spot::Hex),
-            _ => Turn::Fails,
+            b'\\' => Transition::Gives(b'\\'),
+            b'r' => Transition::Gives(b'\r'),
+            b'n' => Transition::Gives(b'\n'),
+            b'x' => Transition::Leads(Spot::Hex),
+            _ => Transition::Fails,
         },
         Spot::Hex => match hex_value(byte) {
-            Some(high) => Turn::Leads(Spot::HexDigit(high)),
-            None => Turn::Fails,
+            Some(high) => Transition::Leads(Spot::HexDigit(high)),
+            None => Transition::Fails,
         },
         Spot::HexDigit(high) => match hex_value(byte) {
-            Some(low) => Turn::Gives(16 * high + low),
-            None => Turn::Fails,
+            Some(low) => Transition::Gives(16 * high + low),
+            None => Transition::Fails,
         },
     }
 }
@@ -109,13 +109,13 @@ pub fn unescape(alloc: Global, text: &[u8]) -> Result<Option<Vec<u8>>, AllocErro
     let mut bytes = Vec::new(alloc);
     let mut spot = Spot::Between;
     for byte in text {
-        match turn_of(spot, *byte) {
-            Turn::Gives(given) => {
+        match transition_of(spot, *byte) {
+            Transition::Gives(given) => {
                 bytes.push(given)?;
                 spot = Spot::Between;
             }
-            Turn::Leads(next) => spot = next,
-            Turn::Fails => return Ok(None),
+            Transition::Leads(next) => spot = next,
+            Transition::Fails => return Ok(None),
         }
     }
     match spot {

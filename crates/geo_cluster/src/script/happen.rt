@@ -1,7 +1,7 @@
 //! One event of a script.
 ghost use Rattle.std.specs.Prelude.{◌≡◌, true, IfOk};
 ghost use Rattle.geo_world.specs.There.{is_in_time};
-ghost use Rattle.geo_cluster.specs.Standing.{Steps, MeetsEvent};
+ghost use Rattle.geo_cluster.specs.Standing.{Steps, EventDoes};
 
 use crate::script::cluster::Cluster;
 use crate::script::texts::trace_line;
@@ -26,7 +26,7 @@ impl Cluster {
     /// Lets an event happen, and answers what its line prints. None where it names a site or a parcel that isn't there.
     pub fn happen(&mut self, alloc: Global, event: Event) -> Result<Option<Vec<u8>>, AllocError>
         requires { is_in_time event ≡ true }
-        ensures { IfOk result (λ o. MeetsEvent self.old event o self.new) }
+        ensures { IfOk result (λ o. EventDoes self.old event o self.new) }
     {
         let parcels = self.world.parcels.len();
         let Some(trace) = self.step(alloc, &event)? else {

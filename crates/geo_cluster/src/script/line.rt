@@ -3,7 +3,7 @@ use geo_versions::Key;
 
 /// What a line of a script asks for.
 #[derive(Drop)]
-pub enum Line {
+pub enum ScriptLine {
     /// So many sites are to be set up, 1 to 16. Each has `pages` pages for values, 15 to 65,536, may keep `max` records, 1 to
     /// 1,000,000, and keeps its own writes for `reap` seconds behind their end, 0 to 2^31 - 1.
     Sites {

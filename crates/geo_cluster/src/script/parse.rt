@@ -2,12 +2,12 @@
 ghost use Rattle.std.specs.Prelude.{◌≡◌, ◌≤◌, None, Some, MatchOption, IfOk, IfSome, option_copied};
 ghost use Rattle.std.specs.Option.{option_map, option_and_then};
 ghost use Rattle.geo_cluster.specs.Numbers.{ranged_of};
-ghost use Rattle.geo_cluster.specs.Sayings.{cut_of, site_of, moment_of, parcel_of, key_of, front_number, option_number, client_said, send_said, sites_said, take_said, site_key_of, said_to_reap, said_to_evict, said, skips, SaysAt, SaysTick, SaysRemove, SaysVersions};
+ghost use Rattle.geo_cluster.specs.Sayings.{split_of, site_of, moment_of, parcel_of, key_of, front_number, option_number, client_said, send_said, sites_said, take_said, site_key_of, said_to_reap, said_to_evict, said, skips, SaysAt, SaysTick, SaysRemove, SaysVersions};
 ghost use Rattle.geo_cluster.specs.Reads.{said_by, IsInRange};
 
-use crate::script::cut::cut_at;
 use crate::script::escape::unescape;
-use crate::script::line::Line;
+use crate::script::line::ScriptLine;
+use crate::script::split::split_at;
 use geo_grammar::number;
 use geo_site::LAST_MOMENT;
 use geo_stamp::MOST_SITES;
@@ -54,11 +54,11 @@ fn site_number(word: &[u8]) -> Option<u8>
     Some(n as u8)
 }
 
-fn client_line(alloc: Global, args: &[u8]) -> Result<Option<Line>, AllocError>
-    ensures said { IfOk result (λ o. option_map said_by o ≡ option_and_then client_said (cut_of args.now)) }
+fn client_line(alloc: Global, args: &[u8]) -> Result<Option<ScriptLine>, AllocError>
+    ensures said { IfOk result (λ o. option_map said_by o ≡ option_and_then client_said (split_of args.now)) }
     ensures range { IfOk result (λ o. IfSome o (λ l. IsInRange l)) }
 {
-    let Some((site, text)) = cut_at(b' ', args) else {
+    let Some((site, text)) = split_at(b' ', args) else {
         return Ok(None);
     };
     let Some(site) = site_number(site) else {
@@ -67,62 +67,62 @@ fn client_line(alloc: Global, args: &[u8]) -> Result<Option<Line>, AllocError>
     let Some(text) = unescape(alloc, text)? else {
         return Ok(None);
     };
-    Ok(Some(Line::Client { site, text }))
+    Ok(Some(ScriptLine::Client { site, text }))
 }
 
-fn send_line(args: &[u8]) -> Option<Line>
-    ensures said { option_map said_by result ≡ option_and_then send_said (cut_of args.now) }
+fn send_line(args: &[u8]) -> Option<ScriptLine>
+    ensures said { option_map said_by result ≡ option_and_then send_said (split_of args.now) }
     ensures range { IfSome result (λ l. IsInRange l) }
 {
-    let (from, to) = cut_at(b' ', args)?;
+    let (from, to) = split_at(b' ', args)?;
     let from = site_number(from)?;
     let to = site_number(to)?;
     if from == to {
         return None;
     }
-    Some(Line::Send { from, to })
+    Some(ScriptLine::Send { from, to })
 }
 
-fn take_line(args: &[u8]) -> Option<Line>
-    ensures said { option_map said_by result ≡ option_and_then take_said (cut_of args.now) }
+fn take_line(args: &[u8]) -> Option<ScriptLine>
+    ensures said { option_map said_by result ≡ option_and_then take_said (split_of args.now) }
     ensures range { IfSome result (λ l. IsInRange l) }
 {
-    let (site, parcel) = cut_at(b' ', args)?;
+    let (site, parcel) = split_at(b' ', args)?;
     let site = site_number(site)?;
     let parcel = number(parcel, u64::MAX)?;
-    Some(Line::Take { site, parcel })
+    Some(ScriptLine::Take { site, parcel })
 }
 
-fn at_line(args: &[u8]) -> Option<Line>
+fn at_line(args: &[u8]) -> Option<ScriptLine>
     ensures said { option_map said_by result ≡ option_map (λ n. SaysAt n) (moment_of args.now) }
     ensures range { IfSome result (λ l. IsInRange l) }
 {
     let moment = ranged(args, 1, LAST_MOMENT)?;
-    Some(Line::At(moment))
+    Some(ScriptLine::At(moment))
 }
 
-fn tick_line(args: &[u8]) -> Option<Line>
+fn tick_line(args: &[u8]) -> Option<ScriptLine>
     ensures said { option_map said_by result ≡ option_map (λ s. SaysTick s) (site_of args.now) }
     ensures range { IfSome result (λ l. IsInRange l) }
 {
     let site = site_number(args)?;
-    Some(Line::Tick { site })
+    Some(ScriptLine::Tick { site })
 }
 
-fn remove_line(args: &[u8]) -> Option<Line>
+fn remove_line(args: &[u8]) -> Option<ScriptLine>
     ensures said { option_map said_by result ≡ option_map (λ s. SaysRemove s) (site_of args.now) }
     ensures range { IfSome result (λ l. IsInRange l) }
 {
     let site = site_number(args)?;
-    Some(Line::Remove { site })
+    Some(ScriptLine::Remove { site })
 }
 
-fn versions_line(args: &[u8]) -> Option<Line>
+fn versions_line(args: &[u8]) -> Option<ScriptLine>
     ensures said { option_map said_by result ≡ option_map (λ s. SaysVersions s) (site_of args.now) }
     ensures range { IfSome result (λ l. IsInRange l) }
 {
     let site = site_number(args)?;
-    Some(Line::Versions { site })
+    Some(ScriptLine::Versions { site })
 }
 
 /// The key that a text spells, None where it spells none.
@@ -140,7 +140,7 @@ fn site_and_key(alloc: Global, args: &[u8]) -> Result<Option<(u8, Key)>, AllocEr
     ensures named { IfOk result (λ o. o ≡ site_key_of args.now) }
     ensures range { IfOk result (λ o. IfSome o (λ p. (1 ≤ p.0) × (p.0 ≤ 16))) }
 {
-    let Some((site, key)) = cut_at(b' ', args) else {
+    let Some((site, key)) = split_at(b' ', args) else {
         return Ok(None);
     };
     let Some(site) = site_number(site) else {
@@ -152,24 +152,24 @@ fn site_and_key(alloc: Global, args: &[u8]) -> Result<Option<(u8, Key)>, AllocEr
     Ok(Some((site, key)))
 }
 
-fn reap_line(alloc: Global, args: &[u8]) -> Result<Option<Line>, AllocError>
+fn reap_line(alloc: Global, args: &[u8]) -> Result<Option<ScriptLine>, AllocError>
     ensures said { IfOk result (λ o. option_map said_by o ≡ said_to_reap args.now) }
     ensures range { IfOk result (λ o. IfSome o (λ l. IsInRange l)) }
 {
     let Some((site, key)) = site_and_key(alloc, args)? else {
         return Ok(None);
     };
-    Ok(Some(Line::Reap { site, key }))
+    Ok(Some(ScriptLine::Reap { site, key }))
 }
 
-fn evict_line(alloc: Global, args: &[u8]) -> Result<Option<Line>, AllocError>
+fn evict_line(alloc: Global, args: &[u8]) -> Result<Option<ScriptLine>, AllocError>
     ensures said { IfOk result (λ o. option_map said_by o ≡ said_to_evict args.now) }
     ensures range { IfOk result (λ o. IfSome o (λ l. IsInRange l)) }
 {
     let Some((site, key)) = site_and_key(alloc, args)? else {
         return Ok(None);
     };
-    Ok(Some(Line::Evict { site, key }))
+    Ok(Some(ScriptLine::Evict { site, key }))
 }
 
 /// A number at the front of a text, and what stands behind it.
@@ -178,7 +178,7 @@ fn front_number(text: &[u8], least: u64, most: u64) -> Option<(u64, Option<&[u8]
         (λ p. front_number least most text.now ≡ Some (p.0, option_copied p.1)) }
     ensures range { IfSome result (λ p. (least ≤ p.0) × (p.0 ≤ most)) }
 {
-    match cut_at(b' ', text) {
+    match split_at(b' ', text) {
         None => Some((ranged(text, least, most)?, None)),
         Some((word, rest)) => Some((ranged(word, least, most)?, Some(rest))),
     }
@@ -201,13 +201,13 @@ fn option_number<'a>(
     let Some(text) = text else {
         return Some((otherwise, None));
     };
-    match cut_at(b' ', text) {
+    match split_at(b' ', text) {
         Some((word, rest)) if word == name => front_number(rest, least, most),
         _ => Some((otherwise, Some(text))),
     }
 }
 
-fn sites_line(args: &[u8]) -> Option<Line>
+fn sites_line(args: &[u8]) -> Option<ScriptLine>
     ensures said { option_map said_by result ≡ sites_said args.now }
     ensures range { IfSome result (λ l. IsInRange l) }
 {
@@ -218,7 +218,7 @@ fn sites_line(args: &[u8]) -> Option<Line>
     if options.is_some() {
         return None;
     }
-    Some(Line::Sites {
+    Some(ScriptLine::Sites {
         count: count as u8,
         pages: pages as u32,
         max: max as u32,
@@ -228,11 +228,11 @@ fn sites_line(args: &[u8]) -> Option<Line>
 
 /// What a line says, without its line end: None where it is a bad line, whatever sites and parcels there are. Words are
 /// separated by exactly one space; a client's text is the rest of its line, and begins behind one.
-pub fn parse_line(alloc: Global, line: &[u8]) -> Result<Option<Line>, AllocError>
+pub fn parse_line(alloc: Global, line: &[u8]) -> Result<Option<ScriptLine>, AllocError>
     ensures said { IfOk result (λ o. option_map said_by o ≡ said line.now) }
     ensures range { IfOk result (λ o. IfSome o (λ l. IsInRange l)) }
 {
-    let Some((name, args)) = cut_at(b' ', line) else {
+    let Some((name, args)) = split_at(b' ', line) else {
         return Ok(None);
     };
     if name == b"client".as_slice() {

@@ -5,9 +5,9 @@ ghost use Rattle.geo_cluster.specs.Lines.{ended_in, left_in, lines_of};
 ghost use Rattle.geo_cluster.specs.Runs.{Performs, Ends, IsOfDevices};
 
 use crate::script::cluster::Cluster;
-use crate::script::cut::cut_at;
 use crate::script::fault::ScriptFault;
 use crate::script::parse::{is_skipped, parse_line};
+use crate::script::split::split_at;
 use geo_grammar::Device;
 use std::alloc::{AllocError, Global};
 use std::hash::RandomState;
@@ -139,7 +139,7 @@ impl Run {
         ensures few { OnOk result (self.new.lines ≤ self.old.lines + length piece.now) }
     {
         let mut rest = piece;
-        while let Some((front, back)) = cut_at(b'\n', rest) {
+        while let Some((front, back)) = split_at(b'\n', rest) {
             self.end_line(alloc, writer, front)?;
             rest = back;
         }

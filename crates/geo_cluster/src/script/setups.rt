@@ -4,7 +4,7 @@ ghost use Rattle.std.specs.List.{All};
 ghost use Rattle.geo_world.specs.Setups.{are_setups, start};
 ghost use Rattle.geo_world.specs.Agreement.{Agrees};
 ghost use Rattle.geo_world.specs.Tables.{empty_tables, Keep};
-ghost use Rattle.geo_cluster.specs.Carries.{AreTold};
+ghost use Rattle.geo_cluster.specs.Effects.{AreTold};
 ghost use Rattle.geo_cluster.specs.Connections.{IsNew};
 
 use crate::script::connection::Connection;

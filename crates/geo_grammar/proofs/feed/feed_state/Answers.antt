@@ -1,5 +1,5 @@
 use Rattle.std.proofs.Common.{sym, ◌∙◌}
-use Rattle.geo_grammar.proofs.Turns.{at_end}
+use Rattle.geo_grammar.proofs.Transitions.{at_end}
 use Rattle.geo_grammar.proofs.feed.feed_state.Goals as goal
 
 pub returns-in-Ended-clause-items : goal.returns-in-Ended-clause-items

@@ -1,5 +1,5 @@
 use Rattle.std.proofs.Common.{sym, ◌∙◌}
-use Rattle.geo_grammar.proofs.Turns.{step_skip, step_skip_open, step_skip_end}
+use Rattle.geo_grammar.proofs.Transitions.{step_skip, step_skip_open, step_skip_end}
 use Rattle.geo_grammar.proofs.step.skip_step.Goals as goal
 
 pub returns-then-piece-left-clause-leads : goal.returns-then-piece-left-clause-leads

@@ -1,6 +1,6 @@
 use Rattle.std.proofs.Common.{inl, sym, subst₂}
 use Rattle.geo_audit.specs.Misses.{MissesBy}
-use Rattle.geo_audit.specs.Playing.{Always, Answers}
+use Rattle.geo_audit.specs.Playing.{Always, ComesAsTold}
 use Rattle.geo_audit.proofs.Playing.{match_bool, match_true, if_ok}
 use Rattle.geo_audit.proofs.Telling.{replays_for, misses_for}
 use Rattle.geo_audit.proofs.play.Play.replays.Goals as goal
@@ -20,6 +20,6 @@ returns c =
     let lets = match_true _ c.in_ok-lets_go.field-0 c.if-not-branch-2.false c.in_ok-lets_go.ensures in
     if_ok c.answers.result c.answers.ensures (λ done x. match_bool done x
     (λ y. replays_for old a site c.args.number step stays b lets new c.if-not-is_plain.ensures
-    (subst₂ (λ s e. Answers b new s e step) (sym c.requires.site) c.in_ok-happening.ensures y))
+    (subst₂ (λ s e. ComesAsTold b new s e step) (sym c.requires.site) c.in_ok-happening.ensures y))
     (λ y. misses_for old a site c.args.number step stays b lets
     (subst₂ (λ s e. Always b (λ w all. MissesBy w all s e step)) (sym c.requires.site) c.in_ok-happening.ensures y)))

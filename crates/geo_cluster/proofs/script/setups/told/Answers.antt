@@ -1,6 +1,6 @@
 use Rattle.std.proofs.Common.{arith, refl, sym, ap, subst, ◌∙◌, ◌+◌, List, length, length-append}
 use Rattle.geo_site.specs.declared.setup.Setup.{Setup}
-use Rattle.geo_cluster.specs.Carries.{AreTold}
+use Rattle.geo_cluster.specs.Effects.{AreTold}
 use Rattle.geo_cluster.proofs.Setting.{told_more}
 use Rattle.geo_cluster.proofs.script.setups.told.Goals as goal
 

@@ -1,5 +1,5 @@
 use Rattle.std.proofs.Common.{◌≡◌, length}
-use Rattle.geo_cluster.specs.Carries.{AreTold}
+use Rattle.geo_cluster.specs.Effects.{AreTold}
 use Rattle.geo_cluster.proofs.script.setups.told.Given as goal
 
 abbrev pub invariant-loop-index : goal.invariant-loop-index

@@ -1,6 +1,6 @@
 use Rattle.std.proofs.Common.{◌≡◌, true, sym, ap, subst, ◌∙◌}
 use Rattle.geo_session.specs.Connections.{Connection}
-use Rattle.geo_crowd.specs.Carrying.{Carriage, Carries, Turns}
+use Rattle.geo_crowd.specs.Carrying.{Carriage, IsCarried, Turns}
 use Rattle.geo_crowd.proofs.Moves.{carries_read, turns_read, turns_still}
 use Rattle.geo_crowd.proofs.carried.Carried.read.Goals as goal
 
@@ -12,42 +12,42 @@ invariant_of-self g c =
     let goes : c.self.inside.session.goes_on ≡ true = ap (λ (x : Connection). x.goes_on) (ap (λ (v : Carriage). v.session) c.self.view_is) ∙ c.may_read.ensures c.if-not-may_read.false in
     let kept = carries_read g.B.Backend.answers g.B.Backend.refuses (g.S.Stream.contents c.self.inside.stream) c.self.inside.session c.take.new.session c.args.backend.now c.take.new.backend c.self.invariant goes c.take.result
     (g.S.Stream.remaining c.self.inside.stream) (g.S.Stream.remaining c.take.new.stream) c.take.ensures.reads in
-    subst (λ v. Carries v c.take.new.session) (sym c.take.ensures.stays) kept
+    subst (λ v. IsCarried v c.take.new.session) (sym c.take.ensures.stays) kept
 
 pub invariant_of-self-in-Answered-Some-default : goal.invariant_of-self-in-Answered-Some-default
 invariant_of-self-in-Answered-Some-default g c =
     let goes : c.self.inside.session.goes_on ≡ true = ap (λ (x : Connection). x.goes_on) (ap (λ (v : Carriage). v.session) c.self.view_is) ∙ c.may_read.ensures c.if-not-may_read.false in
     let kept = carries_read g.B.Backend.answers g.B.Backend.refuses (g.S.Stream.contents c.self.inside.stream) c.self.inside.session c.take.new.session c.args.backend.now c.take.new.backend c.self.invariant goes c.take.result
     (g.S.Stream.remaining c.self.inside.stream) (g.S.Stream.remaining c.take.new.stream) c.take.ensures.reads in
-    subst (λ v. Carries v c.take.new.session) (sym c.take.ensures.stays) kept
+    subst (λ v. IsCarried v c.take.new.session) (sym c.take.ensures.stays) kept
 
 pub invariant_of-self-in-Broken : goal.invariant_of-self-in-Broken
 invariant_of-self-in-Broken g c =
     let goes : c.self.inside.session.goes_on ≡ true = ap (λ (x : Connection). x.goes_on) (ap (λ (v : Carriage). v.session) c.self.view_is) ∙ c.may_read.ensures c.if-not-may_read.false in
     let kept = carries_read g.B.Backend.answers g.B.Backend.refuses (g.S.Stream.contents c.self.inside.stream) c.self.inside.session c.take.new.session c.args.backend.now c.take.new.backend c.self.invariant goes c.take.result
     (g.S.Stream.remaining c.self.inside.stream) (g.S.Stream.remaining c.take.new.stream) c.take.ensures.reads in
-    subst (λ v. Carries v c.take.new.session) (sym c.take.ensures.stays) kept
+    subst (λ v. IsCarried v c.take.new.session) (sym c.take.ensures.stays) kept
 
 pub invariant_of-self-in-Later : goal.invariant_of-self-in-Later
 invariant_of-self-in-Later g c =
     let goes : c.self.inside.session.goes_on ≡ true = ap (λ (x : Connection). x.goes_on) (ap (λ (v : Carriage). v.session) c.self.view_is) ∙ c.may_read.ensures c.if-not-may_read.false in
     let kept = carries_read g.B.Backend.answers g.B.Backend.refuses (g.S.Stream.contents c.self.inside.stream) c.self.inside.session c.take.new.session c.args.backend.now c.take.new.backend c.self.invariant goes c.take.result
     (g.S.Stream.remaining c.self.inside.stream) (g.S.Stream.remaining c.take.new.stream) c.take.ensures.reads in
-    subst (λ v. Carries v c.take.new.session) (sym c.take.ensures.stays) kept
+    subst (λ v. IsCarried v c.take.new.session) (sym c.take.ensures.stays) kept
 
 pub invariant_of-self-in-End : goal.invariant_of-self-in-End
 invariant_of-self-in-End g c =
     let goes : c.self.inside.session.goes_on ≡ true = ap (λ (x : Connection). x.goes_on) (ap (λ (v : Carriage). v.session) c.self.view_is) ∙ c.may_read.ensures c.if-not-may_read.false in
     let kept = carries_read g.B.Backend.answers g.B.Backend.refuses (g.S.Stream.contents c.self.inside.stream) c.self.inside.session c.take.new.session c.args.backend.now c.take.new.backend c.self.invariant goes c.take.result
     (g.S.Stream.remaining c.self.inside.stream) (g.S.Stream.remaining c.take.new.stream) c.take.ensures.reads in
-    subst (λ v. Carries v c.take.new.session) (sym c.take.ensures.stays) kept
+    subst (λ v. IsCarried v c.take.new.session) (sym c.take.ensures.stays) kept
 
 pub invariant_of-self-in-Failed : goal.invariant_of-self-in-Failed
 invariant_of-self-in-Failed g c =
     let goes : c.self.inside.session.goes_on ≡ true = ap (λ (x : Connection). x.goes_on) (ap (λ (v : Carriage). v.session) c.self.view_is) ∙ c.may_read.ensures c.if-not-may_read.false in
     let kept = carries_read g.B.Backend.answers g.B.Backend.refuses (g.S.Stream.contents c.self.inside.stream) c.self.inside.session c.take.new.session c.args.backend.now c.take.new.backend c.self.invariant goes c.take.result
     (g.S.Stream.remaining c.self.inside.stream) (g.S.Stream.remaining c.take.new.stream) c.take.ensures.reads in
-    subst (λ v. Carries v c.take.new.session) (sym c.take.ensures.stays) kept
+    subst (λ v. IsCarried v c.take.new.session) (sym c.take.ensures.stays) kept
 
 pub returns-in-Answered-None-default : goal.returns-in-Answered-None-default
 returns-in-Answered-None-default g c =

@@ -2,7 +2,7 @@ use Rattle.std.proofs.Common.{◌≡◌, true, false, refl, sym, ap, ◌∙◌, 
 use Rattle.std.specs.Prelude.{IfOk}
 use Rattle.geo_site.specs.Entries.{is_due, is_stuck, made_on}
 use Rattle.geo_site.specs.Machine.{IsRecordCount, IsHeldCount, visible_in}
-use Rattle.geo_site.specs.Sites.{state_in, clock_in, waiting_in, issued_in, reply_in, RequestDoesBy, ActDoes, Tells, TellsPlain}
+use Rattle.geo_site.specs.Sites.{state_in, clock_in, waiting_in, issued_in, reply_in, RequestDoesBy, ActDoes, TellsBeside, TellsPlain}
 use Rattle.geo_site.proofs.Acting.{unchanged}
 use Rattle.geo_site.proofs.Due.{due_after}
 use Rattle.geo_site.proofs.Telling.{full_does, stuck_told}
@@ -48,5 +48,5 @@ returns c =
         stays = c.answer.ensures.stays;
       });
     } in
-    let told = subst (λ wanted. IfOk c.answer.result (Tells mid wanted (issued_in mid now request) (made_on now (visible_in (state_in mid) now) request))) c.in_ok-copies.ensures.room c.answer.ensures.told in
+    let told = subst (λ wanted. IfOk c.answer.result (TellsBeside mid wanted (issued_in mid now request) (made_on now (visible_in (state_in mid) now) request))) c.in_ok-copies.ensures.room c.answer.ensures.told in
     record { does = full_does old new now request c.args.copies c.answer.result does told }

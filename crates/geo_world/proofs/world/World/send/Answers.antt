@@ -1,7 +1,7 @@
 use Rattle.std.proofs.Common.{◌-◌, List, [], ◌∷◌, ◌++◌, length, arith, sym, ◌∙◌, subst}
 use Rattle.geo_delta.specs.declared.parcel.Parcel.{Parcel}
 use Rattle.geo_world.specs.Agreement.{Agrees, about}
-use Rattle.geo_world.specs.Tables.{cut_at, Keep}
+use Rattle.geo_world.specs.Tables.{brought_at, Keep}
 use Rattle.geo_world.proofs.Worlds.{there_is, read_is}
 use Rattle.geo_world.proofs.Changing.{reached_stable}
 use Rattle.geo_world.proofs.Exchanging.{carries_sent, agrees_sent, send_refused}
@@ -52,6 +52,6 @@ returns-in_ok-push-in-Ok-clause-tables c = λ w all agrees keep.
     let got = read_is c.args.self.now.sites.items (c.args.site - 1) c.index-at.result.now (omega arith) c.index-at.ensures in
     let own = (agrees.each (c.args.site - 1) c.args.site c.index-at.result.now (omega arith) got).own in (
       tt,
-      subst (λ (ps : List Parcel). Keep c.args.self.now.sites.items ps (record { at = all.at; sent = all.sent ++ cut_at c.args.site c.args.to (all.at c.args.site) ∷ [] })) (sym c.in_ok-push-in-Ok.ensures.items)
+      subst (λ (ps : List Parcel). Keep c.args.self.now.sites.items ps (record { at = all.at; sent = all.sent ++ brought_at c.args.site c.args.to (all.at c.args.site) ∷ [] })) (sym c.in_ok-push-in-Ok.ensures.items)
           (keep_sent _ _ all (c.args.site - 1) c.args.site c.args.to c.index-at.result.now c.in-Ok.parcel keep (omega arith) got own c.in-Ok.ensures.1),
     )

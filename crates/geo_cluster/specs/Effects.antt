@@ -75,15 +75,15 @@ pub record Replies (old : Progress) (s : ℕ) (request : asked.Request) (text : 
   pub prints : text ≡ answer_bytes request reply
   pub rest : new ≡ followed old (Command s old.moment request) (Replied reply victim)
 
-abbrev pub Answers : Progress → ℕ → Item → List ℕ → Progress → Type 0
-Answers old s (Request request) text new = Replies old s request text new
-Answers old s (Fault fault) text new = (text ≡ fault_bytes fault) × (new ≡ old)
+abbrev pub AnswersItem : Progress → ℕ → Item → List ℕ → Progress → Type 0
+AnswersItem old s (Request request) text new = Replies old s request text new
+AnswersItem old s (Fault fault) text new = (text ≡ fault_bytes fault) × (new ≡ old)
 
 -- one after the other
-abbrev pub AnswersAll : Progress → ℕ → List Item → List ℕ → Progress → Type 0
-AnswersAll old s [] text new = (text ≡ []) × (new ≡ old)
-AnswersAll old s (item ∷ items) text new = (mid : Progress) × (first : List ℕ) × (more : List ℕ) × Answers old s item first mid
-    × AnswersAll mid s items more new × (text ≡ first ++ more)
+abbrev pub AnswersItems : Progress → ℕ → List Item → List ℕ → Progress → Type 0
+AnswersItems old s [] text new = (text ≡ []) × (new ≡ old)
+AnswersItems old s (item ∷ items) text new = (mid : Progress) × (first : List ℕ) × (more : List ℕ) × AnswersItem old s item first mid
+    × AnswersItems mid s items more new × (text ≡ first ++ more)
 
 -- bytes come on the connection of a site's client, and the items that they bring are answered, on one line
 abbrev pub connected : Progress → ℕ → Connection → Progress
@@ -102,7 +102,7 @@ pub record Feeds (old : Progress) (s : ℕ) (bytes text : List ℕ) (new : Progr
   pub answer : List ℕ
   pub connection : slice_get old.connections (s - 1) ≡ Some was
   pub brings : Brings was bytes items is
-  pub answers : AnswersAll (connected old s is) s items answer new
+  pub answers : AnswersItems (connected old s is) s items answer new
   pub prints : text ≡ client_text s answer
 
 -- the floor and the versions that operations name are listed by rising key
@@ -113,15 +113,15 @@ pub record Lists (ops : List Operation) (text : List ℕ) : Type 0 where
   pub prints : text ≡ versions_text (floor_of ops) all
 
 -- what a line that can be carried out prints, and what it leaves
-abbrev pub Carries : Progress → Said → List ℕ → Progress → Type 0
-Carries old (SaysSites n pages most reap) text new = SetsUp old n pages most reap text new
-Carries old (SaysAt m) text new =
+abbrev pub SaidDoes : Progress → Said → List ℕ → Progress → Type 0
+SaidDoes old (SaysSites n pages most reap) text new = SetsUp old n pages most reap text new
+SaidDoes old (SaysAt m) text new =
     (text ≡ []) × (new ≡ record { moment = m; setups = old.setups; events = old.events; traces = old.traces; connections = old.connections })
-Carries old (SaysClient s bytes) text new = Feeds old s bytes text new
-Carries old (SaysSend s t) text new = Happens old (Send s t) text new
-Carries old (SaysTake s k) text new = Happens old (Take s k) text new
-Carries old (SaysTick s) text new = Happens old (Tick s old.moment) text new
-Carries old (SaysRemove s) text new = Happens old (Remove s) text new
-Carries old (SaysReap s key) text new = Happens old (Reap s old.moment key) text new
-Carries old (SaysEvict s key) text new = Happens old (Evict s key) text new
-Carries old (SaysVersions s) text new = Lists ((known_in old).at s) text × (new ≡ old)
+SaidDoes old (SaysClient s bytes) text new = Feeds old s bytes text new
+SaidDoes old (SaysSend s t) text new = Happens old (Send s t) text new
+SaidDoes old (SaysTake s k) text new = Happens old (Take s k) text new
+SaidDoes old (SaysTick s) text new = Happens old (Tick s old.moment) text new
+SaidDoes old (SaysRemove s) text new = Happens old (Remove s) text new
+SaidDoes old (SaysReap s key) text new = Happens old (Reap s old.moment key) text new
+SaidDoes old (SaysEvict s key) text new = Happens old (Evict s key) text new
+SaidDoes old (SaysVersions s) text new = Lists ((known_in old).at s) text × (new ≡ old)

@@ -4,7 +4,7 @@ use Rattle.geo_grammar.specs.declared.item.Item.{Item}
 use Rattle.geo_grammar.specs.Quitting.{is_quit}
 use Rattle.geo_cluster.proofs.Cutting.{position_says}
 use Rattle.geo_cluster.proofs.Quitting.{until_first, until_none}
-use Rattle.geo_cluster.proofs.script.connection.cut_behind_quit.Goals as goal
+use Rattle.geo_cluster.proofs.script.connection.drop_behind_quit.Goals as goal
 
 pub returns-in-Some : goal.returns-in-Some
 returns-in-Some c =

@@ -1,6 +1,6 @@
-//! A text cut in two at a byte.
+//! A text split in two at a byte.
 ghost use Rattle.std.specs.Prelude.{◌≡◌, position, MatchOption, None, Some};
-ghost use Rattle.geo_cluster.specs.Cuts.{is_byte, cut_at};
+ghost use Rattle.geo_cluster.specs.Splits.{is_byte, split_at};
 
 /// Where the first such byte stands.
 fn first_place(byte: u8, text: &[u8]) -> Option<usize>
@@ -10,8 +10,8 @@ fn first_place(byte: u8, text: &[u8]) -> Option<usize>
 }
 
 /// What stands before the first such byte, and what stands behind it. None exactly where there is no such byte.
-pub fn cut_at(byte: u8, text: &[u8]) -> Option<(&[u8], &[u8])>
-    ensures { MatchOption result (cut_at byte text.now ≡ None) (λ p. cut_at byte text.now ≡ Some (p.0.now, p.1.now)) }
+pub fn split_at(byte: u8, text: &[u8]) -> Option<(&[u8], &[u8])>
+    ensures { MatchOption result (split_at byte text.now ≡ None) (λ p. split_at byte text.now ≡ Some (p.0.now, p.1.now)) }
 {
     let Some(at) = first_place(byte, text) else {
         return None;

@@ -1,4 +1,4 @@
--- A text cut in two at a byte.
+-- A text split in two at a byte.
 use Rattle.std.specs.Prelude.{ℕ, ◌==◌, Bool, List, [], ◌∷◌, Option, Some, None, if◌then◌else◌}
 use Rattle.std.specs.Option.{option_map}
 
@@ -6,6 +6,6 @@ abbrev pub is_byte : ℕ → ℕ → Bool
 is_byte byte b = b == byte
 
 -- what stands before the first such byte, and what stands behind it, where there is one
-abbrev pub cut_at : ℕ → List ℕ → Option (List ℕ × List ℕ)
-cut_at byte [] = None
-cut_at byte (b ∷ bs) = if b == byte then Some ([], bs) else option_map (λ p. (b ∷ p.0, p.1)) (cut_at byte bs)
+abbrev pub split_at : ℕ → List ℕ → Option (List ℕ × List ℕ)
+split_at byte [] = None
+split_at byte (b ∷ bs) = if b == byte then Some ([], bs) else option_map (λ p. (b ∷ p.0, p.1)) (split_at byte bs)

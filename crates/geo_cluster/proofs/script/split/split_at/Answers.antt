@@ -1,7 +1,7 @@
 use Rattle.std.proofs.Common.{Some, None}
-use Rattle.geo_cluster.specs.Cuts.{is_byte}
+use Rattle.geo_cluster.specs.Splits.{is_byte}
 use Rattle.geo_cluster.proofs.Cutting.{position_says, cut_none, cut_some}
-use Rattle.geo_cluster.proofs.script.cut.cut_at.Goals as goal
+use Rattle.geo_cluster.proofs.script.split.split_at.Goals as goal
 
 pub returns-in_default : goal.returns-in_default
 returns-in_default c = cut_none c.args.byte c.args.text.now (position_says (is_byte c.args.byte) c.args.text.now None c.in_default.ensures)

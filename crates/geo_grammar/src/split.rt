@@ -8,7 +8,7 @@ use crate::limits::LONGEST_LINE;
 use memchr::memchr;
 
 /// The bytes before the first line end, and those behind it; None where there is none.
-pub fn cut_line(piece: &[u8]) -> Option<(&[u8], &[u8])>
+pub fn split_line(piece: &[u8]) -> Option<(&[u8], &[u8])>
     ensures end { MatchOption result (NoEnd piece.now) (λ x. NoEnd x.0.now × (piece.now ≡ x.0.now ++ 10 ∷ x.1.now)) }
     ensures shorter { IfSome result (λ x. length x.0.now + length x.1.now < length piece.now) }
 {
@@ -22,7 +22,7 @@ pub fn cut_line(piece: &[u8]) -> Option<(&[u8], &[u8])>
 
 /// What a piece brings of a line.
 #[derive(Clone, Copy)]
-pub enum LineCut<'a> {
+pub enum LineSplit<'a> {
     /// It brings bytes of it, and not yet its end.
     Open,
     /// It brings its last bytes and the newline, and then the rest.
@@ -31,21 +31,21 @@ pub enum LineCut<'a> {
     TooLong,
 }
 
-/// Cuts a piece at the end of a line of which `seen` came so far. No more is searched than a line may have.
-pub fn cut_seen<'a>(seen: &[u8], piece: &'a [u8]) -> LineCut<'a>
+/// Splits a piece at the end of a line of which `seen` came so far. No more is searched than a line may have.
+pub fn split_seen<'a>(seen: &[u8], piece: &'a [u8]) -> LineSplit<'a>
     requires { length seen.now ≤ longest_line }
     ensures leads { LineLeads seen.now piece.now result }
     ensures shorter { line_rest_length result ≤ length piece.now }
 {
     let room = LONGEST_LINE - seen.len();
     let (near, _) = piece.split_at(piece.len().min(room + 1));
-    if let Some((front, _)) = cut_line(near) {
+    if let Some((front, _)) = split_line(near) {
         let (_, rest) = piece.split_at(front.len() + 1);
-        return LineCut::Ends { front, rest };
+        return LineSplit::Ends { front, rest };
     }
     if near.len() > room {
-        LineCut::TooLong
+        LineSplit::TooLong
     } else {
-        LineCut::Open
+        LineSplit::Open
     }
 }

@@ -2,8 +2,8 @@ use Rattle.std.proofs.Common.{arith, ◌≡◌, ◌++◌, ◌+◌, ◌≤◌, �
 use Rattle.std.proofs.lemmas.List.{take_all}
 use Rattle.geo_grammar.specs.Limits.{longest_line}
 use Rattle.geo_grammar.specs.Places.{NoEnd}
-use Rattle.geo_grammar.proofs.Turns.{step_seen, step_line, step_long, near_line}
-use Rattle.geo_grammar.proofs.cut.cut_seen.Goals as goal
+use Rattle.geo_grammar.proofs.Transitions.{step_seen, step_line, step_long, near_line}
+use Rattle.geo_grammar.proofs.split.split_seen.Goals as goal
 
 pub returns-in-Some-clause-leads : goal.returns-in-Some-clause-leads
 returns-in-Some-clause-leads c =

@@ -1,8 +1,8 @@
 use Rattle.std.proofs.Common.{rules, arith, ◌-◌, [], length, take, drop, refl, length-append, length-take}
 use Rattle.geo_grammar.specs.Places.{Skips}
 use Rattle.geo_grammar.specs.declared.fault.BlockFault.TheVariants.{BadData}
-use Rattle.geo_grammar.proofs.Turns.{step_data, step_bad, block_bad, block_return, block_last, leads_stay}
-use Rattle.geo_grammar.proofs.block.cut_data.Goals as goal
+use Rattle.geo_grammar.proofs.Transitions.{step_data, step_bad, block_bad, block_return, block_last, leads_stay}
+use Rattle.geo_grammar.proofs.block.split_data.Goals as goal
 
 pub returns-then-piece-room-clause-leads : goal.returns-then-piece-room-clause-leads
 returns-then-piece-room-clause-leads c = (step_data c.args.head.now c.args.got.now c.args.piece.now _ (omega arith) refl, omega (arith, length-append c.args.got.now c.args.piece.now))
