@@ -13,7 +13,8 @@ use Rattle.geo_world.specs.There.{is_there, EachThere}
 use Rattle.geo_world.specs.Setups.{are_setups, start}
 use Rattle.geo_world.specs.Agreement.{Agrees, WorldOpens, StepDoes}
 use Rattle.geo_world.specs.Tables.{empty_tables, Tables, kept, kept_after, Keep, Tabled, Tallies, EachTallies}
-use Rattle.geo_world.proofs.Running.{HasRun, HasAllRun, run_more, all_run}
+use Rattle.geo_world.specs.Running.{HasAllRun}
+use Rattle.geo_world.proofs.Running.{HasRun, run_more, all_run}
 use Rattle.geo_history.specs.declared.history.History.{History}
 use Rattle.geo_audit.specs.declared.play.Play.{Play}
 use Rattle.geo_audit.specs.Runs.{IsRun, setup_of, setups_in}

@@ -2,8 +2,8 @@
 use Rattle.std.specs.Prelude.{◌≡◌, ◌≢◌, ◌⊎◌, ◌↔◌, IsTrue, ℕ, ◌+◌, ◌<◌, false, List, length, Option, None, Some}
 use Rattle.geo_slabs.specs.Storage.{IsClassOf}
 use Rattle.geo_stamp.specs.Vectors.{vector_joined}
-use Rattle.geo_versions.specs.Operations.{version_of}
-use Rattle.geo_versions.specs.declared.version.Version.{Version}
+use Rattle.geo_records.specs.Operations.{version_of}
+use Rattle.geo_records.specs.declared.version.Version.{Version}
 use Rattle.geo_delta.specs.declared.parcel.Parcel.{Parcel}
 use Rattle.geo_site.specs.declared.event.Event.{Event as Happening}
 use Rattle.geo_site.specs.declared.event.Trace.{Trace}

@@ -3,8 +3,8 @@ use Rattle.std.specs.Prelude.{◌≡◌, ◌≢◌, ◌↔◌, IsTrue, ℕ, ◌+
 use Rattle.std.specs.List.{All}
 use Rattle.geo_slabs.specs.Storage.{IsClassOf}
 use Rattle.geo_stamp.specs.Vectors.{vector_joined}
-use Rattle.geo_versions.specs.Operations.{latest, version_of}
-use Rattle.geo_versions.specs.declared.version.Version.{Version}
+use Rattle.geo_records.specs.Operations.{latest, version_of}
+use Rattle.geo_records.specs.declared.version.Version.{Version}
 use Rattle.geo_delta.specs.declared.parcel.Parcel.{Parcel}
 use Rattle.geo_grammar.specs.declared.request.Request.{Request}
 use Rattle.geo_grammar.specs.declared.request.Request.TheVariants.{Store, Arith}

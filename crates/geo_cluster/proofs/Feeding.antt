@@ -12,7 +12,7 @@ use Rattle.geo_site.specs.declared.event.Trace.TheVariants.{Replied}
 use Rattle.geo_world.specs.Setups.{start}
 use Rattle.geo_world.specs.Tables.{empty_tables}
 use Rattle.geo_world.specs.There.{is_site}
-use Rattle.geo_world.proofs.Running.{HasAllRun}
+use Rattle.geo_world.specs.Running.{HasAllRun}
 use Rattle.geo_cluster.specs.Progress.{Progress, followed}
 use Rattle.geo_cluster.specs.Sayings.{SaysClient}
 use Rattle.geo_cluster.specs.Effects.{AnswersItem, AnswersItems, connected}

@@ -13,7 +13,8 @@ use Rattle.geo_world.specs.Agreement.{Agrees, StepDoes}
 use Rattle.geo_world.specs.Setups.{start, limits_of}
 use Rattle.geo_world.specs.Tables.{Tables, kept, Keep, EachTallies, Tabled}
 use Rattle.geo_world.specs.There.{is_there, EachThere}
-use Rattle.geo_world.proofs.Running.{HasRun, HasAllRun, run_more, all_run}
+use Rattle.geo_world.specs.Running.{HasAllRun}
+use Rattle.geo_world.proofs.Running.{HasRun, run_more, all_run}
 use Rattle.geo_cluster.specs.Progress.{Progress, Runs, known_in, parcels_in, can_come}
 use Rattle.geo_cluster.specs.Reads.{said_by}
 use Rattle.geo_cluster.specs.declared.script.line.ScriptLine.{ScriptLine}

@@ -3,7 +3,7 @@ use Rattle.std.specs.Prelude.{ℕ, ◌==◌, Bool, true, List, [], ◌∷◌, Op
 use Rattle.std.specs.Option.{option_map, option_and_then}
 use Rattle.std.specs.Str.{bytes_eq}
 use Rattle.geo_grammar.specs.Words.{number_of}
-use Rattle.geo_versions.specs.Keys.{is_key}
+use Rattle.geo_records.specs.Keys.{is_key}
 use Rattle.geo_cluster.specs.Numbers.{ranged_of}
 use Rattle.geo_cluster.specs.Escapes.{unescaped}
 use Rattle.geo_cluster.specs.Splits.{split_at}

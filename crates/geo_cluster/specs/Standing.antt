@@ -8,7 +8,7 @@ use Rattle.geo_site.specs.declared.event.Trace.{Trace}
 use Rattle.geo_world.specs.Setups.{start}
 use Rattle.geo_world.specs.There.{is_site}
 use Rattle.geo_world.specs.Tables.{empty_tables}
-use Rattle.geo_world.proofs.Running.{HasAllRun}
+use Rattle.geo_world.specs.Running.{HasAllRun}
 use Rattle.geo_cluster.specs.Sayings.{Said}
 use Rattle.geo_cluster.specs.Progress.{Progress, known_in, can_come, followed}
 use Rattle.geo_cluster.specs.Effects.{can_carry, SaidDoes, Happens, AnswersItems}

@@ -4,3 +4,4 @@ pub mod Ranged
 pub mod Sorting
 pub mod News
 pub mod Recent
+pub mod Facts

@@ -9,9 +9,9 @@ use Rattle.std.proofs.lemmas.List.Elements.{All-nil, All-cons}
 use Rattle.std.proofs.lemmas.Map.Keys.{sorted_head, sorted_tail}
 use Rattle.geo_lattice.specs.Maps.{meaning_or}
 use Rattle.geo_lattice.proofs.Listing.{before}
-use Rattle.geo_versions.specs.Above.{joined_none, record_same}
-use Rattle.geo_versions.specs.Keys.{same_key}
-use Rattle.geo_versions.specs.Operations.{Record, record_joined}
+use Rattle.geo_records.proofs.Above.{joined_none, record_same}
+use Rattle.geo_records.specs.Keys.{same_key}
+use Rattle.geo_records.specs.Operations.{Record, record_joined}
 use Rattle.geo_versions.specs.Records.{Rec, rec_means, is_unknown, since, listed_at, Above, Rising}
 use Rattle.std.specs.Cmp.Lexicographic.{same_text}
 

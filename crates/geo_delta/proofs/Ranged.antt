@@ -6,10 +6,10 @@ use Rattle.std.proofs.lemmas.List.{get_or_past}
 use Rattle.std.proofs.lemmas.List.Elements.{All-head, All-tail}
 use Rattle.geo_stamp.specs.Stamps.{Moment, most_sites}
 use Rattle.geo_stamp.specs.Vectors.{entry_of}
-use Rattle.geo_versions.specs.Keys.{is_key}
+use Rattle.geo_records.specs.Keys.{is_key}
 use Rattle.geo_versions.specs.Maps.{Rec, Rising, has_register, is_unknown, listed_at, rec_means}
-use Rattle.geo_versions.specs.Operations.{Record, Register}
-use Rattle.geo_versions.specs.declared.body.Body.{Body}
+use Rattle.geo_records.specs.Operations.{Record, Register}
+use Rattle.geo_records.specs.declared.body.Body.{Body}
 use Rattle.geo_versions.proofs.InOrder.{each_listed}
 use Rattle.geo_delta.specs.Changes.{knows_floor, knows_record}
 use Rattle.geo_delta.specs.Ranges.{body_fits, content_fits, expiry_fits, floor_fits, is_ranged, rec_fits, record_fits, stamp_fits}

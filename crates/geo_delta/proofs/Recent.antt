@@ -4,8 +4,8 @@ use Rattle.std.specs.List.{list_any}
 use Rattle.std.proofs.lemmas.Bool.Decides.{nat_tests}
 use Rattle.geo_stamp.specs.Vectors.{entry_of, vector_joined}
 use Rattle.geo_stamp.proofs.Joins.{index_joined}
-use Rattle.geo_versions.specs.Keys.{same_key}
-use Rattle.geo_versions.specs.Operations.{Record, Register}
+use Rattle.geo_records.specs.Keys.{same_key}
+use Rattle.geo_records.specs.Operations.{Record, Register}
 use Rattle.geo_versions.specs.Records.{Rec, is_unknown, since, listed_at}
 use Rattle.geo_delta.specs.Changes.{Noted, Ring, KnowsBut, TracedFrom, Traced, knows_record, known_after, has_change, nothing_pending}
 use Rattle.geo_delta.proofs.Tracing.{traced_left, either_false, neither}

@@ -1,8 +1,8 @@
 -- What a ring of changes traces, change by change.
 use Rattle.std.proofs.Common.{◌≡◌, ℕ, zero, suc, ◌-◌, Bool, true, false, ◌||◌, List, [], ◌∷◌, ◌++◌, length, drop, None, refl, sym, ap, ◌∙◌, true≢false}
 use Rattle.std.proofs.lemmas.List.Folds.{list_any-append}
-use Rattle.geo_versions.specs.Keys.{same_key}
-use Rattle.geo_versions.specs.Operations.{Record}
+use Rattle.geo_records.specs.Keys.{same_key}
+use Rattle.geo_records.specs.Operations.{Record}
 use Rattle.geo_delta.specs.Changes.{Noted, Ring, KnowsBut, TracedFrom, Traced, knows_record, first_ring, known_after, noted, emptied, has_change, nothing_pending, most_changes}
 
 pub either_false : (a b : Bool) → (a || b) ≡ false → (a ≡ false) × (b ≡ false)

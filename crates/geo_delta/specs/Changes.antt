@@ -1,13 +1,12 @@
 -- A ring of a site's newest changes, and how far back it tells all that was changed.
 use Rattle.std.specs.Prelude.{◌≡◌, ℕ, zero, suc, ◌-◌, List, [], ◌∷◌, ◌++◌, length, Bool, true, false, not, ◌||◌, nat_le, Option, None, Some, refl}
 use Rattle.std.specs.Coded.{Coded, code_by, coded×, coded_list, coded_ℕ}
-use Rattle.std.proofs.Math.Bool.{Bool-set}
 use Rattle.std.specs.List.{list_any}
 use Rattle.circular_buffer.specs.Buffer.{keep_last}
 use Rattle.geo_stamp.specs.Stamps.{Moment}
 use Rattle.geo_stamp.specs.Vectors.{zeros, entry_of}
-use Rattle.geo_versions.specs.Keys.{same_key}
-use Rattle.geo_versions.specs.Operations.{Record}
+use Rattle.geo_records.specs.Keys.{same_key}
+use Rattle.geo_records.specs.Operations.{Record}
 use Rattle.geo_versions.specs.Records.{is_unknown}
 
 -- a vector knows both registers of a record
@@ -80,20 +79,3 @@ Traced pending map ring = TracedFrom pending map ring.reach ring.changes
 -- no key is still to be noted
 abbrev pub nothing_pending : List ℕ → Bool
 nothing_pending key = false
-
-knows_prop : (but : List ℕ → Bool) (v : List ℕ) (map : List ℕ → Record) → IsProp (KnowsBut but v map)
-knows_prop but v map = hlevel (Bool-set)
-
-traced_from_prop : (pending : List ℕ → Bool) (map : List ℕ → Record) (reach : List ℕ) (changes : List Noted)
-    → IsProp (TracedFrom pending map reach changes)
-traced_from_prop pending map reach [] = knows_prop pending reach map
-traced_from_prop pending map reach (c ∷ changes) =
-    λ a b i. (
-      knows_prop (λ key. pending key || has_change
-          (c ∷ changes) key) reach map a.0 b.0 i,
-      traced_from_prop pending map c.1 changes a.1 b.1 i,
-    )
-
--- it is a fact, and so can be kept beside a ring
-pub traced_prop : (pending : List ℕ → Bool) (map : List ℕ → Record) (ring : Ring) → IsProp (Traced pending map ring)
-traced_prop pending map ring = traced_from_prop pending map ring.reach ring.changes

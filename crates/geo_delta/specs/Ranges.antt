@@ -4,12 +4,12 @@ use Rattle.std.specs.List.{list_all}
 use Rattle.geo_delta.specs.declared.parcel.Parcel.{Parcel}
 use Rattle.geo_stamp.specs.Stamps.{Moment, last_time, most_sites}
 use Rattle.geo_stamp.specs.Vectors.{greatest_of}
-use Rattle.geo_versions.specs.Keys.{is_key}
-use Rattle.geo_versions.specs.Lengths.{longest_value}
+use Rattle.geo_records.specs.Keys.{is_key}
+use Rattle.geo_records.specs.Lengths.{longest_value}
 use Rattle.geo_versions.specs.Maps.{Rec, Rising, has_register, rec_means}
-use Rattle.geo_versions.specs.Operations.{Register}
-use Rattle.geo_versions.specs.declared.body.Body.{Body}
-use Rattle.geo_versions.specs.declared.body.Body.TheVariants.{Gone, Value}
+use Rattle.geo_records.specs.Operations.{Register}
+use Rattle.geo_records.specs.declared.body.Body.{Body}
+use Rattle.geo_records.specs.declared.body.Body.TheVariants.{Gone, Value}
 
 -- 2 to 16 sites, from one of them to another
 unfoldable pub sites_fit : ℕ → ℕ → ℕ → Bool

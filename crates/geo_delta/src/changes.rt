@@ -6,9 +6,9 @@ ghost use Rattle.std.specs.Ordering.{nat_cmp};
 ghost use Rattle.std.specs.Cmp.Lexicographic.{slice_cmp};
 ghost use Rattle.geo_lattice.specs.Maps.{meaning_or};
 ghost use Rattle.geo_stamp.specs.Vectors.{vector_joined};
-ghost use Rattle.geo_versions.specs.Keys.{IsShortKey, same_key};
+ghost use Rattle.geo_records.specs.Keys.{IsShortKey, same_key};
 ghost use Rattle.geo_versions.specs.Maps.{Rising, is_unknown, listed_at, rec_means, record_in, since};
-ghost use Rattle.geo_versions.specs.Operations.{Record, Register};
+ghost use Rattle.geo_records.specs.Operations.{Record, Register};
 ghost use Rattle.geo_delta.specs.Changes.{Noted, Traced, KnowsBut, emptied, first_ring, has_change, known_after, noted, nothing_pending};
 
 use circular_buffer::HeapCircularBuffer;

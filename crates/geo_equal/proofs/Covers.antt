@@ -1,7 +1,7 @@
 -- Two vectors of which each covers the other are one.
 use Rattle.std.proofs.Common.{◌≡◌, ◌≢◌, ◌↔◌, MatchBool, IsTrue, ℕ, Bool, true, false, List, refl, sym, ◌∙◌, subst, true≢false}
 use Rattle.geo_stamp.specs.Vectors.{vector_joined}
-use Rattle.geo_stamp.specs.Joins.{joined_comm, joined_same}
+use Rattle.geo_laws.proofs.Joins.{joined_comm, joined_same}
 
 pub covers_both : (a b : List ℕ) (s : Bool) → vector_joined a b ≡ a → (IsTrue s ↔ (vector_joined b a ≡ b)) → MatchBool s (a ≡ b) (a ≢ b)
 covers_both a b true first tells = sym first ∙ joined_comm a b ∙ tells.0 refl

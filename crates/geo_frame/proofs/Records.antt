@@ -9,14 +9,14 @@ use Rattle.std.proofs.lemmas.Bool.{eqb-true, eq-eqb, leb-true, ltb-true, lt-ltb}
 use Rattle.std.proofs.lemmas.List.{append-nil, nil_from_length}
 use Rattle.std.proofs.lemmas.List.Concat.{flat_map-cons}
 use Rattle.geo_stamp.specs.Stamps.{Moment}
-use Rattle.geo_versions.specs.Keys.{is_key}
+use Rattle.geo_records.specs.Keys.{is_key}
 use Rattle.geo_versions.specs.Maps.{Rec, Above, Rising, has_register}
-use Rattle.geo_versions.specs.Operations.{Register}
-use Rattle.geo_versions.specs.declared.body.Body.{Body}
-use Rattle.geo_versions.specs.declared.body.Body.TheVariants.{Gone, Value}
+use Rattle.geo_records.specs.Operations.{Register}
+use Rattle.geo_records.specs.declared.body.Body.{Body}
+use Rattle.geo_records.specs.declared.body.Body.TheVariants.{Gone, Value}
 use Rattle.geo_frame.specs.declared.fault.FrameFault.TheVariants.{Field, Order}
 use Rattle.geo_delta.specs.Ranges.{stamp_fits, content_fits, body_fits, expiry_fits, rec_fits, record_fits}
-use Rattle.geo_versions.specs.Lengths.{longest_value}
+use Rattle.geo_records.specs.Lengths.{longest_value}
 use Rattle.geo_frame.specs.Spelling.{four, eight, stamp_bytes, body_bytes, expiry_bytes, key_bytes, rec_bytes, record_bytes, records_bytes}
 use Rattle.geo_frame.specs.Reading.{◌>>=◌, Read, part_at, byte_at, four_at, eight_at, stamp_at, size_at, gone_at, value_at, tagged_body, body_at, expiry_at, tagged_expiry, latest_at, rec_with, rec_at, key_at, record_at, records_at, all_records}
 use Rattle.geo_frame.proofs.Fields.{IsBytes, bind_ok, pass_ok, chosen, ok_is, not_ok, both_of, both_are, Takes, Takes-then, part_takes, part_again, byte_takes, byte_again, four_takes, four_again, eight_takes, eight_again, stamp_takes, stamp_again}

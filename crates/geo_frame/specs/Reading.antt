@@ -7,16 +7,16 @@ use Rattle.std.specs.Str.{bytes_eq}
 use Rattle.sha2.specs.Sha256.{sha256}
 use Rattle.geo_delta.specs.declared.parcel.Parcel.{Parcel}
 use Rattle.geo_stamp.specs.Stamps.{Moment, last_time}
-use Rattle.geo_versions.specs.Keys.{is_key}
+use Rattle.geo_records.specs.Keys.{is_key}
 use Rattle.geo_versions.specs.Maps.{Rec, has_register}
-use Rattle.geo_versions.specs.Operations.{Register}
-use Rattle.geo_versions.specs.declared.body.Body.{Body}
-use Rattle.geo_versions.specs.declared.body.Body.TheVariants.{Gone, Value}
+use Rattle.geo_records.specs.Operations.{Register}
+use Rattle.geo_records.specs.declared.body.Body.{Body}
+use Rattle.geo_records.specs.declared.body.Body.TheVariants.{Gone, Value}
 use Rattle.geo_frame.specs.declared.fault.FrameFault.{FrameFault}
 use Rattle.geo_frame.specs.declared.fault.FrameFault.TheVariants.{Short, Magic, Version, Field, Order, Damaged, Trailing, Memory}
 use Rattle.geo_frame.specs.declared.reading.Route.{Route}
 use Rattle.geo_delta.specs.Ranges.{sites_fit, stamp_fits}
-use Rattle.geo_versions.specs.Lengths.{longest_value}
+use Rattle.geo_records.specs.Lengths.{longest_value}
 use Rattle.geo_frame.specs.Spelling.{longest_frame}
 
 infixl 10 ◌>>=◌

@@ -6,9 +6,9 @@ use Rattle.sha2.specs.Sha256.{sha256}
 use Rattle.geo_delta.specs.declared.parcel.Parcel.{Parcel}
 use Rattle.geo_stamp.specs.Stamps.{Moment}
 use Rattle.geo_versions.specs.Maps.{Rec}
-use Rattle.geo_versions.specs.Operations.{Register}
-use Rattle.geo_versions.specs.declared.body.Body.{Body}
-use Rattle.geo_versions.specs.declared.body.Body.TheVariants.{Gone, Value}
+use Rattle.geo_records.specs.Operations.{Register}
+use Rattle.geo_records.specs.declared.body.Body.{Body}
+use Rattle.geo_records.specs.declared.body.Body.TheVariants.{Gone, Value}
 
 -- a number of four bytes, and of eight
 unfoldable pub four : ℕ → List ℕ

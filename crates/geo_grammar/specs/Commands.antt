@@ -4,7 +4,7 @@ use Rattle.std.specs.Prelude.{ℕ, ℤ, pos, nat_lt, Bool, true, false, List, []
 use Rattle.std.specs.List.{list_all}
 use Rattle.std.specs.Option.{option_map, option_or}
 use Rattle.std.specs.Str.{bytes_eq}
-use Rattle.geo_versions.specs.Keys.{is_key}
+use Rattle.geo_records.specs.Keys.{is_key}
 use Rattle.geo_grammar.specs.Limits.{longest_value, most_bytes, most_flags, most_number}
 use Rattle.geo_grammar.specs.Words.{line_text, words_of, number_of, signed_of}
 use Rattle.geo_grammar.specs.declared.fault.LineFault.TheVariants.{Unknown, BadLine, BadNumber}

@@ -1,7 +1,7 @@
 //! Retrieval lines.
 ghost use Rattle.std.specs.Prelude.{◌≡◌, IfOk, true};
 ghost use Rattle.std.specs.List.{list_all};
-ghost use Rattle.geo_versions.specs.Keys.{is_key};
+ghost use Rattle.geo_records.specs.Keys.{is_key};
 ghost use Rattle.geo_grammar.specs.Words.{words_of};
 ghost use Rattle.geo_grammar.specs.Commands.{fetch_line, fetch_touch_line};
 

@@ -3,9 +3,9 @@ use Rattle.std.proofs.Common.{◌≡◌, ℕ, ◌+◌, Bool, true, false, cond, 
 use Rattle.geo_stamp.specs.Stamps.{Moment}
 use Rattle.geo_stamp.specs.Vectors.{raised, vector_joined, greatest_of}
 use Rattle.geo_stamp.specs.Acks.{heard}
-use Rattle.geo_versions.specs.Keys.{same_key}
-use Rattle.geo_versions.specs.Operations.{Act, Record, floor_joined, body_of, expiry_of, flush_of, version_in}
-use Rattle.geo_versions.specs.Operations.Act.{Flush}
+use Rattle.geo_records.specs.Keys.{same_key}
+use Rattle.geo_records.specs.Operations.{Act, Record, floor_joined, body_of, expiry_of, flush_of, version_in}
+use Rattle.geo_records.specs.Operations.Act.{Flush}
 use Rattle.geo_delta.specs.declared.parcel.Parcel.{Parcel}
 use Rattle.geo_site.specs.declared.site.Site.{Site}
 use Rattle.geo_site.specs.Entries.{Held, Counts, named_by, is_due, lacks, flushes_due, is_stuck, due_acts, waits_on}

@@ -19,7 +19,7 @@ use Rattle.geo_site.specs.Entries.{flushes_due, is_stuck, is_done, is_reapable, 
 use Rattle.geo_site.specs.Machine.{IsRecordCount, IsHeldCount}
 use Rattle.geo_site.specs.Schedule.{VictimOf}
 use Rattle.geo_site.specs.Sites.{is_sound}
-use Rattle.geo_versions.specs.Operations.{version_in}
+use Rattle.geo_records.specs.Operations.{version_in}
 use Rattle.geo_history.specs.declared.step.Event.{Event}
 use Rattle.geo_history.specs.declared.step.Event.TheVariants.{Command, Evict, Send, Take, Remove, Tick, Reap}
 use Rattle.geo_history.specs.declared.step.Answer.{Answer}

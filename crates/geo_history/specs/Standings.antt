@@ -6,7 +6,7 @@ use Rattle.geo_stamp.specs.Vectors.{zeros, greatest_of, raised, vector_joined}
 use Rattle.geo_stamp.specs.Acks.{none_heard, heard, horizon_of}
 use Rattle.geo_values.specs.Held.{digest_of, digest_at}
 use Rattle.geo_versions.specs.Maps.{has_register, listed_at, remaining}
-use Rattle.geo_versions.specs.Operations.{Act, Record, record_joined, floor_joined, above_both, body_of, expiry_of, flush_of, version_in}
+use Rattle.geo_records.specs.Operations.{Act, Record, record_joined, floor_joined, above_both, body_of, expiry_of, flush_of, version_in}
 use Rattle.geo_delta.specs.declared.parcel.Parcel.{Parcel}
 use Rattle.geo_grammar.specs.declared.request.Request.{Request}
 use Rattle.geo_site.specs.declared.setup.Setup.{Setup}

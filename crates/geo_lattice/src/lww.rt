@@ -1,6 +1,7 @@
 //! A register that the last write wins.
 ghost use Rattle.std.specs.Prelude.{◌≡◌, Option, option_copied, None, Some, refl};
-ghost use Rattle.geo_lattice.specs.Registers.{newer, newer_assoc, newer_comm, newer_same, by_both, total_by, exact_by};
+ghost use Rattle.geo_laws.specs.Registers.{newer, by_both};
+ghost use Rattle.geo_laws.proofs.Registers.{newer_assoc, newer_comm, newer_same, total_by, exact_by};
 
 use crate::exact::Exact;
 use crate::lattice::{Bottom, Flat, Lattice};

@@ -1,6 +1,6 @@
 //! The greatest number so far.
 ghost use Rattle.std.specs.Prelude.{◌≡◌, ℕ, max};
-ghost use Rattle.geo_lattice.specs.Registers.{max_assoc, max_comm, max_same};
+ghost use Rattle.geo_laws.proofs.Registers.{max_assoc, max_comm, max_same};
 ghost use Rattle.std.proofs.Common.{arith};
 
 use crate::lattice::{Bottom, Flat, Lattice};

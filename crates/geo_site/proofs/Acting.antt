@@ -3,8 +3,8 @@ use Rattle.std.proofs.Common.{◌≡◌, ℕ, ℤ, ◌+◌, ◌≤◌, ◌<◌, 
 use Rattle.std.proofs.lemmas.Bool.Decides.{nat_tests}
 use Rattle.std.specs.List.{list_any}
 use Rattle.geo_stamp.specs.Stamps.{last_time}
-use Rattle.geo_versions.specs.Operations.{Record, version_in}
-use Rattle.geo_versions.specs.Operations.Act.{Write}
+use Rattle.geo_records.specs.Operations.{Record, version_in}
+use Rattle.geo_records.specs.Operations.Act.{Write}
 use Rattle.geo_grammar.specs.declared.request.Request.{Request}
 use Rattle.geo_grammar.specs.declared.reply.Reply.{Reply}
 use Rattle.geo_grammar.specs.declared.reply.Reply.TheVariants as reply

@@ -1,8 +1,8 @@
 -- A flush that waits, and whether its moment has come.
 use Rattle.std.proofs.Common.{◌≡◌, ℕ, ◌+◌, ◌≤◌, ◌<◌, Bool, true, false, cond, not, ◌&&◌, List, [], ◌∷◌, Option, None, refl, sym, ap, ◌∙◌, subst}
 use Rattle.geo_stamp.specs.Stamps.{last_time}
-use Rattle.geo_versions.specs.Operations.{Act}
-use Rattle.geo_versions.specs.Operations.Act.{Flush}
+use Rattle.geo_records.specs.Operations.{Act}
+use Rattle.geo_records.specs.Operations.Act.{Flush}
 use Rattle.geo_site.specs.declared.site.Site.{Site}
 use Rattle.geo_site.specs.Entries.{lacks, is_due, flushes_due, is_stuck, waits_on}
 use Rattle.geo_site.specs.Sites.{state_in, clock_in, waiting_in, counts_in, HasIssued, Stays, FlushDoes}

@@ -5,13 +5,13 @@ use Rattle.std.proofs.lemmas.List.{take_more}
 use Rattle.std.specs.declared.cmp.Ordering.{Ordering}
 use Rattle.std.specs.declared.cmp.Ordering.TheVariants.{Less, Equal, Greater}
 use Rattle.std.specs.Ordering.{nat_cmp}
-use Rattle.geo_lattice.specs.Registers.{newer, by_both, by_order}
+use Rattle.geo_laws.specs.Registers.{newer, by_both, by_order}
 use Rattle.geo_stamp.specs.Stamps.{Moment, stamp_cmp}
-use Rattle.geo_versions.specs.Keys.{same_key}
-use Rattle.geo_versions.specs.Operations.{Register, Record, above, above_both, is_above, record_joined, expiry_joined, version_in}
+use Rattle.geo_records.specs.Keys.{same_key}
+use Rattle.geo_records.specs.Operations.{Register, Record, above, above_both, is_above, record_joined, expiry_joined, version_in}
 use Rattle.geo_versions.specs.Maps.{Rec, rec_means, listed_at}
-use Rattle.geo_versions.specs.declared.body.Body.{Body}
-use Rattle.geo_versions.specs.declared.body.Body.TheVariants.{Value, Gone}
+use Rattle.geo_records.specs.declared.body.Body.{Body}
+use Rattle.geo_records.specs.declared.body.Body.TheVariants.{Value, Gone}
 use Rattle.geo_site.specs.Entries.{is_reapable}
 use Rattle.std.specs.List.{All}
 use Rattle.std.proofs.lemmas.List.Elements.{All-append, All-cons}

@@ -5,8 +5,8 @@ use Rattle.std.specs.Prelude.{nat_le}
 use Rattle.std.proofs.lemmas.Bool.Decides.{nat_tests}
 use Rattle.std.proofs.lemmas.List.Elements.{All-append, All-cons}
 use Rattle.geo_stamp.specs.Stamps.{last_time}
-use Rattle.geo_versions.specs.Operations.{Register, Record}
-use Rattle.geo_versions.specs.declared.body.Body.{Body}
+use Rattle.geo_records.specs.Operations.{Register, Record}
+use Rattle.geo_records.specs.declared.body.Body.{Body}
 use Rattle.geo_site.specs.declared.site.Site.{Site}
 use Rattle.geo_site.specs.Sites.{state_in, clock_in, basis_in, touched_in, fetched, victim_in, FirstVictimFits, HasIssuedAfter, FetchDoes, FetchTouchDoes}
 use Rattle.geo_site.specs.Changes.{HasBody}
@@ -20,10 +20,10 @@ use Rattle.geo_grammar.specs.declared.reply.Reply.TheVariants.{Values, MapFull, 
 use Rattle.geo_grammar.specs.declared.request.Request.TheVariants.{Fetch, FetchTouch}
 use Rattle.geo_versions.specs.Maps.{has_register}
 use Rattle.geo_memcache.specs.Entries.{Entry, is_live, expiry_at}
-use Rattle.geo_versions.specs.Keys.{same_key}
+use Rattle.geo_records.specs.Keys.{same_key}
 use Rattle.std.proofs.lemmas.List.{map-append, length-map}
-use Rattle.geo_versions.specs.Operations.{Act, version_in}
-use Rattle.geo_versions.specs.Operations.Act.{Touch}
+use Rattle.geo_records.specs.Operations.{Act, version_in}
+use Rattle.geo_records.specs.Operations.Act.{Touch}
 use Rattle.geo_site.specs.Machine.{SiteState, Same, visible_in, issue, issue_all}
 use Rattle.geo_site.specs.Entries.{Visible, entry_in, lacks, is_crowded, wants_record, is_growth, owed, Answers, is_done, keys_found, touches_of, found_at, renewed, after_touches, found_after, touched_after, touched_of}
 

@@ -3,8 +3,8 @@ use Rattle.std.proofs.Common.{◌≡◌, ℕ, ℤ, ◌+◌, ◌≤◌, Bool, tru
 use Rattle.std.proofs.lemmas.Bool.Decides.{nat_tests}
 use Rattle.geo_stamp.specs.Stamps.{Moment}
 use Rattle.geo_stamp.specs.Vectors.{entry_of, greatest_of, raised}
-use Rattle.geo_versions.specs.Operations.{Act, Record, above_both, record_joined, floor_joined, version_in}
-use Rattle.geo_versions.specs.Operations.Act.{Flush}
+use Rattle.geo_records.specs.Operations.{Act, Record, above_both, record_joined, floor_joined, version_in}
+use Rattle.geo_records.specs.Operations.Act.{Flush}
 use Rattle.geo_site.specs.Entries.{Held, named_by, flushes_now, flush_acts, is_done}
 use Rattle.geo_site.specs.declared.site.Site.{Site}
 use Rattle.geo_site.specs.Sites.{FirstVictimFits, HasIssuedAfter, IssuesAs}
@@ -17,7 +17,7 @@ use Rattle.geo_site.specs.Machine.{settled, Same, issue, Covers, Settled, knows_
 use Rattle.geo_site.proofs.Entries.{Within, entry_raised, entry_rises}
 use Rattle.geo_site.proofs.Sound.{named_some}
 use Rattle.geo_site.proofs.Writing.{knows_joined, knows_floors, knows_more, knows_floor_more}
-use Rattle.geo_versions.specs.Above.{joined_none}
+use Rattle.geo_records.proofs.Above.{joined_none}
 
 -- a record of which nothing new is known
 pub knows_above : (v : List ℕ) (f : Option Moment) (r : Record) → knows_record v r ≡ true → knows_record v (above_both f r) ≡ true

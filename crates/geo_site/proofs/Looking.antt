@@ -4,7 +4,7 @@ use Rattle.std.specs.Cmp.Lexicographic.{same_text}
 use Rattle.std.specs.Str.{bytes_eq}
 use Rattle.sha2.specs.Sha256.{sha256}
 use Rattle.geo_values.specs.Stock.{with_digest}
-use Rattle.geo_versions.specs.declared.version.Version.{Version}
+use Rattle.geo_records.specs.declared.version.Version.{Version}
 use Rattle.geo_site.specs.Entries.{names, entry_in}
 use Rattle.geo_site.proofs.Verdicts.{none_some}
 use Rattle.geo_site.proofs.Writing.{same_bytes}

@@ -1,9 +1,9 @@
 -- What a change of records leaves to be noted: the keys that it is of.
 use Rattle.std.proofs.Common.{◌≡◌, ℕ, Bool, true, false, cond, ◌||◌, List, [], ◌∷◌, Option, None, refl, sym, ap, ◌∙◌, subst, true≢false}
 use Rattle.geo_stamp.specs.Stamps.{Moment}
-use Rattle.geo_versions.specs.Keys.{same_key}
-use Rattle.geo_versions.specs.Operations.{Record, above_both, record_joined, version_in}
-use Rattle.geo_versions.specs.Above.{joined_none}
+use Rattle.geo_records.specs.Keys.{same_key}
+use Rattle.geo_records.specs.Operations.{Record, above_both, record_joined, version_in}
+use Rattle.geo_records.proofs.Above.{joined_none}
 use Rattle.geo_versions.specs.Maps.{Rec, rec_means, listed_at}
 use Rattle.geo_delta.specs.Changes.{Ring, KnowsBut, Traced, noted, emptied, nothing_pending}
 use Rattle.geo_delta.proofs.Tracing.{traced_on, traced_noted, traced_emptied}

@@ -3,11 +3,11 @@ use Rattle.std.proofs.Common.{◌≡◌, ℕ, suc, ◌+◌, ◌<◌, Bool, true,
 use Rattle.std.specs.Cmp.Lexicographic.{same_text}
 use Rattle.geo_lattice.proofs.Entries.{slice_get_from_get_or}
 use Rattle.geo_stamp.specs.Stamps.{Moment}
-use Rattle.geo_versions.specs.Keys.{same_key}
-use Rattle.geo_versions.specs.Operations.{Record, record_joined, above_both, version_in}
+use Rattle.geo_records.specs.Keys.{same_key}
+use Rattle.geo_records.specs.Operations.{Record, record_joined, above_both, version_in}
 use Rattle.geo_versions.specs.Maps.{Rec, rec_means, listed_at, Rising}
-use Rattle.geo_versions.specs.Above.{joined_none}
-use Rattle.geo_versions.specs.declared.version.Version.{Version}
+use Rattle.geo_records.proofs.Above.{joined_none}
+use Rattle.geo_records.specs.declared.version.Version.{Version}
 use Rattle.geo_versions.proofs.InOrder.{listed_more, not_before}
 use Rattle.geo_lru.specs.Rules.{ListsOf}
 use Rattle.geo_lru.specs.declared.access.Access.{Access}

@@ -3,10 +3,10 @@ use Rattle.std.proofs.Common.{◌≡◌, ℕ, ◌+◌, ◌≤◌, ◌<◌, Bool,
 use Rattle.std.specs.Prelude.{Ok, Err, MatchOption}
 use Rattle.std.proofs.lemmas.Bool.Decides.{nat_tests}
 use Rattle.geo_versions.specs.Maps.{has_ended}
-use Rattle.geo_versions.specs.declared.version.Version.{Version}
+use Rattle.geo_records.specs.declared.version.Version.{Version}
 use Rattle.geo_stamp.specs.Stamps.{last_time}
-use Rattle.geo_versions.specs.Operations.{Act, Record, version_in}
-use Rattle.geo_versions.specs.Operations.Act.{Delete}
+use Rattle.geo_records.specs.Operations.{Act, Record, version_in}
+use Rattle.geo_records.specs.Operations.Act.{Delete}
 use Rattle.geo_site.specs.declared.site.Site.{Site}
 use Rattle.geo_site.specs.declared.refusal.ReapError.TheVariants.{ClockEnded}
 use Rattle.geo_site.specs.Entries.{lacks, is_reapable}

@@ -6,16 +6,19 @@ use Rattle.std.specs.declared.cmp.Ordering.TheVariants.{Less, Equal, Greater}
 use Rattle.std.specs.Ordering.{ordering_then, is_lt, is_gt, nat_cmp}
 use Rattle.std.proofs.lemmas.Cmp.{nat_cmp_total, tied_itself}
 use Rattle.std.proofs.lemmas.Map.Lookups.{exact_pairs, exact_unsigned}
-use Rattle.geo_lattice.specs.Registers.{newer, by_both, both_total, by_order, greater}
-use Rattle.geo_stamp.specs.Stamps.{Moment, stamp_cmp, stamps_total, exact_stamps}
-use Rattle.geo_versions.specs.Operations.{Operation, Act, Register, Record, newest, above, is_above, floor_of, flush_of, body_of, expiry_of, winner, latest_expiry, record_of, floor_joined, body_joined, expiry_joined, version_in, version_of}
-use Rattle.geo_versions.specs.Keys.{same_key}
-use Rattle.geo_versions.specs.Bodies.{body_cmp, bodies_total, exact_bodies}
-use Rattle.geo_versions.specs.Operations.Act.{Write, Delete, Touch, Flush}
+use Rattle.geo_laws.specs.Registers.{newer, by_both, by_order, greater}
+use Rattle.geo_laws.proofs.Registers.{both_total}
+use Rattle.geo_stamp.specs.Stamps.{Moment, stamp_cmp}
+use Rattle.geo_stamp.proofs.Stamps.{stamps_total, exact_stamps}
+use Rattle.geo_records.specs.Operations.{Operation, Act, Register, Record, newest, above, is_above, floor_of, flush_of, body_of, expiry_of, winner, latest_expiry, record_of, floor_joined, body_joined, expiry_joined, version_in, version_of}
+use Rattle.geo_records.specs.Keys.{same_key}
+use Rattle.geo_records.specs.Bodies.{body_cmp}
+use Rattle.geo_records.proofs.Bodies.{bodies_total, exact_bodies}
+use Rattle.geo_records.specs.Operations.Act.{Write, Delete, Touch, Flush}
 use Rattle.geo_versions.proofs.Meaning.{newest_append, absorbed}
-use Rattle.geo_versions.specs.Above.{above_lower, below_too, lt_gt}
-use Rattle.geo_versions.specs.declared.body.Body.{Body}
-use Rattle.geo_versions.specs.declared.body.Body.TheVariants.{Gone, Value}
+use Rattle.geo_records.proofs.Above.{above_lower, below_too, lt_gt}
+use Rattle.geo_records.specs.declared.body.Body.{Body}
+use Rattle.geo_records.specs.declared.body.Body.TheVariants.{Gone, Value}
 use Rattle.geo_site.specs.Agreement.{has_value, Old, Kept, Holds}
 use Rattle.geo_site.proofs.Registers.{Later, Incoming, join_later, join_whole, join_kept, missing_absorbed, found, earlier}
 

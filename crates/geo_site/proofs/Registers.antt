@@ -6,10 +6,12 @@ use Rattle.std.specs.declared.cmp.Ordering.TheVariants.{Less, Equal, Greater}
 use Rattle.std.specs.Ordering.{ordering_then, nat_cmp}
 use Rattle.std.specs.Cmp.{IsTotalOrder}
 use Rattle.std.proofs.lemmas.Map.Lookups.{exact_pairs, CmpEqualImpliesEq}
-use Rattle.geo_lattice.specs.Registers.{newer, newer_assoc, newer_comm, by_both, both_total, by_order}
-use Rattle.geo_stamp.specs.Stamps.{Moment, stamp_cmp, stamps_total, exact_stamps}
-use Rattle.geo_versions.specs.Operations.{Operation, Register, newest, above, is_above, floor_joined, Among}
-use Rattle.geo_versions.specs.Above.{above_newer, above_lower, not_above}
+use Rattle.geo_laws.specs.Registers.{newer, by_both, by_order}
+use Rattle.geo_laws.proofs.Registers.{newer_assoc, newer_comm, both_total}
+use Rattle.geo_stamp.specs.Stamps.{Moment, stamp_cmp}
+use Rattle.geo_stamp.proofs.Stamps.{stamps_total, exact_stamps}
+use Rattle.geo_records.specs.Operations.{Operation, Register, newest, above, is_above, floor_joined, Among}
+use Rattle.geo_records.proofs.Above.{above_newer, above_lower, not_above}
 use Rattle.geo_site.specs.Agreement.{Old, Kept}
 
 abbrev pub Later : {A : Type 0} → ℕ → Register A → Type 0

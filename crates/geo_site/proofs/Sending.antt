@@ -1,7 +1,7 @@
 -- What a send leaves out.
 use Rattle.std.proofs.Common.{◌≡◌, ℕ, ◌≤◌, Bool, true, false, cond, not, ◌||◌, List, None, refl, sym, ap, arith, true≢false}
 use Rattle.geo_stamp.specs.Vectors.{entry_of, vector_joined}
-use Rattle.geo_versions.specs.Operations.{Record}
+use Rattle.geo_records.specs.Operations.{Record}
 use Rattle.geo_versions.specs.Maps.{is_unknown, since}
 use Rattle.geo_delta.specs.Ranges.{sites_fit}
 use Rattle.geo_site.specs.Machine.{knows_record}

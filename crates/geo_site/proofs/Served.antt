@@ -4,15 +4,15 @@ use Rattle.std.specs.List.{list_any}
 use Rattle.std.specs.Str.{bytes_eq}
 use Rattle.std.specs.Cmp.Lexicographic.{same_text}
 use Rattle.sha2.specs.Sha256.{sha256}
-use Rattle.geo_lattice.specs.Registers.{by_both}
+use Rattle.geo_laws.specs.Registers.{by_both}
 use Rattle.geo_stamp.specs.Stamps.{Moment, stamp_cmp}
-use Rattle.geo_versions.specs.Keys.{same_key}
-use Rattle.geo_versions.specs.Bodies.{body_cmp}
-use Rattle.geo_versions.specs.Operations.{Operation, Act, Register, Record, body_of, floor_of, winner, record_of, latest, Among, version_in, version_of}
-use Rattle.geo_versions.specs.Operations.Act.{Write, Touch, Flush, Delete}
-use Rattle.geo_versions.specs.declared.body.Body.{Body}
-use Rattle.geo_versions.specs.declared.body.Body.TheVariants.{Gone, Value}
-use Rattle.geo_versions.specs.declared.version.Version.{Version}
+use Rattle.geo_records.specs.Keys.{same_key}
+use Rattle.geo_records.specs.Bodies.{body_cmp}
+use Rattle.geo_records.specs.Operations.{Operation, Act, Register, Record, body_of, floor_of, winner, record_of, latest, Among, version_in, version_of}
+use Rattle.geo_records.specs.Operations.Act.{Write, Touch, Flush, Delete}
+use Rattle.geo_records.specs.declared.body.Body.{Body}
+use Rattle.geo_records.specs.declared.body.Body.TheVariants.{Gone, Value}
+use Rattle.geo_records.specs.declared.version.Version.{Version}
 use Rattle.geo_grammar.specs.declared.request.Request.{Request}
 use Rattle.geo_grammar.specs.declared.request.Request.TheVariants.{Store, Fetch, FetchTouch, Arith, FlushAll, ShowVersion, Verbosity, Quit}
 use Rattle.geo_grammar.specs.declared.request.Request.TheVariants as request

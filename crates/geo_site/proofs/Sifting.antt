@@ -7,13 +7,13 @@ use Rattle.std.specs.declared.cmp.Ordering.TheVariants.{Less, Equal, Greater}
 use Rattle.std.specs.Ordering.{ordering_then, is_lt, is_gt, nat_cmp}
 use Rattle.std.specs.Map.{lookup}
 use Rattle.std.proofs.lemmas.List.Sums.{sum_by-cons}
-use Rattle.geo_lattice.specs.Registers.{newer, by_both, by_order}
+use Rattle.geo_laws.specs.Registers.{newer, by_both, by_order}
 use Rattle.geo_lattice.specs.Maps.{missing}
 use Rattle.geo_stamp.specs.Stamps.{Moment, stamp_cmp}
-use Rattle.geo_versions.specs.Above.{lt_gt, newer_none}
-use Rattle.geo_versions.specs.Bodies.{body_cmp}
-use Rattle.geo_versions.specs.Keys.{same_key}
-use Rattle.geo_versions.specs.Operations.{Record, Register, record_joined, version_in}
+use Rattle.geo_records.proofs.Above.{lt_gt, newer_none}
+use Rattle.geo_records.specs.Bodies.{body_cmp}
+use Rattle.geo_records.specs.Keys.{same_key}
+use Rattle.geo_records.specs.Operations.{Record, Register, record_joined, version_in}
 use Rattle.geo_versions.specs.Maps.{Rec, rec_means, listed_at, has_register, is_unknown, is_old, recent, recent_both, sifted, is_over, remaining}
 use Rattle.geo_versions.specs.Records.{rec_recent}
 use Rattle.geo_delta.specs.Changes.{Ring, Traced, nothing_pending}

@@ -3,10 +3,10 @@ use Rattle.std.proofs.Common.{◌≡◌, ◌≢◌, ℕ, zero, suc, Bool, true, 
 use Rattle.std.proofs.lemmas.Bool.{cases_eq}
 use Rattle.std.proofs.lemmas.Bool.Decides.{eqb_tells}
 use Rattle.geo_stamp.specs.Stamps.{Moment}
-use Rattle.geo_versions.specs.Keys.{same_key}
-use Rattle.geo_versions.specs.Operations.{Operation, Act, Among, version_of, latest}
-use Rattle.geo_versions.specs.Operations.Act.{Write, Delete, Touch, Flush}
-use Rattle.geo_versions.specs.declared.version.Version.{Version}
+use Rattle.geo_records.specs.Keys.{same_key}
+use Rattle.geo_records.specs.Operations.{Operation, Act, Among, version_of, latest}
+use Rattle.geo_records.specs.Operations.Act.{Write, Delete, Touch, Flush}
+use Rattle.geo_records.specs.declared.version.Version.{Version}
 use Rattle.geo_site.specs.declared.event.Event.{Event}
 use Rattle.geo_site.specs.declared.event.Event.TheVariants.{Command, Evict, Send, Take, Remove, Tick, Reap}
 use Rattle.geo_site.specs.declared.event.Trace.{Trace}

@@ -6,15 +6,18 @@ use Rattle.std.specs.Cmp.{IsTotalOrder}
 use Rattle.std.proofs.lemmas.Cmp.{nat_cmp_total}
 use Rattle.std.proofs.lemmas.Map.Lookups.{exact_pairs, exact_unsigned, CmpEqualImpliesEq}
 use Rattle.std.proofs.lemmas.Bool.Decides.{nat_tests}
-use Rattle.geo_lattice.specs.Registers.{newer, by_both, both_total}
-use Rattle.geo_stamp.specs.Stamps.{Moment, stamp_cmp, stamps_total, exact_stamps}
+use Rattle.geo_laws.specs.Registers.{newer, by_both}
+use Rattle.geo_laws.proofs.Registers.{both_total}
+use Rattle.geo_stamp.specs.Stamps.{Moment, stamp_cmp}
+use Rattle.geo_stamp.proofs.Stamps.{stamps_total, exact_stamps}
 use Rattle.geo_stamp.specs.Vectors.{entry_of, zeros, vector_joined, greatest_of, raised, Knows}
-use Rattle.geo_versions.specs.Keys.{same_key}
-use Rattle.geo_versions.specs.Bodies.{body_cmp, bodies_total, exact_bodies}
-use Rattle.geo_versions.specs.Operations.{Operation, Act, Register, Record, newest, above, above_both, floor_of, flush_of, body_of, expiry_of, winner, latest_expiry, record_joined, floor_joined, latest, Among, version_in, version_of}
-use Rattle.geo_versions.specs.Operations.Act.{Write, Delete, Touch, Flush}
-use Rattle.geo_versions.specs.declared.body.Body.{Body}
-use Rattle.geo_versions.specs.declared.body.Body.TheVariants.{Gone, Value}
+use Rattle.geo_records.specs.Keys.{same_key}
+use Rattle.geo_records.specs.Bodies.{body_cmp}
+use Rattle.geo_records.proofs.Bodies.{bodies_total, exact_bodies}
+use Rattle.geo_records.specs.Operations.{Operation, Act, Register, Record, newest, above, above_both, floor_of, flush_of, body_of, expiry_of, winner, latest_expiry, record_joined, floor_joined, latest, Among, version_in, version_of}
+use Rattle.geo_records.specs.Operations.Act.{Write, Delete, Touch, Flush}
+use Rattle.geo_records.specs.declared.body.Body.{Body}
+use Rattle.geo_records.specs.declared.body.Body.TheVariants.{Gone, Value}
 use Rattle.geo_versions.specs.Maps.{is_unknown, since, is_old, recent, recent_both, is_over, remaining}
 use Rattle.geo_versions.proofs.Meaning.{newest_append, absorbed, latest_append}
 use Rattle.geo_site.specs.Entries.{Held, named_by}

@@ -4,10 +4,10 @@ use Rattle.std.specs.Prelude.{IfSome}
 use Rattle.std.proofs.lemmas.Bool.{cases_eq}
 use Rattle.std.proofs.lemmas.Bool.Decides.{nat_tests}
 use Rattle.geo_slabs.specs.Storage.{chunk_bytes, IsClassOf}
-use Rattle.geo_versions.specs.Keys.{same_key}
-use Rattle.geo_versions.specs.Operations.{Act, Record, version_in}
-use Rattle.geo_versions.specs.Operations.Act.{Write, Delete, Touch, Flush}
-use Rattle.geo_versions.specs.declared.version.Version.{Version}
+use Rattle.geo_records.specs.Keys.{same_key}
+use Rattle.geo_records.specs.Operations.{Act, Record, version_in}
+use Rattle.geo_records.specs.Operations.Act.{Write, Delete, Touch, Flush}
+use Rattle.geo_records.specs.declared.version.Version.{Version}
 use Rattle.geo_lru.specs.Rules.{victim_of}
 use Rattle.geo_lru.specs.declared.access.Access.{Access}
 use Rattle.geo_values.specs.Stock.{Stock, dropped, evicted_from, is_used_up, is_full, with_page_of, with_room, victim_for, arrived, staying, kept_where, hit_at, IsStored, IsHeldIn}

@@ -1,8 +1,8 @@
 -- What a take leaves: a vector that knows what both knew, and records whose stamps are known.
 use Rattle.std.proofs.Common.{◌≡◌, ℕ, ◌≤◌, Bool, true, false, cond, ◌&&◌, List, [], ◌∷◌, refl, sym, subst, arith, true≢false}
 use Rattle.geo_stamp.specs.Vectors.{entry_of, greatest_of, vector_joined, raised}
-use Rattle.geo_versions.specs.Keys.{same_key}
-use Rattle.geo_versions.specs.Operations.{Record, record_joined}
+use Rattle.geo_records.specs.Keys.{same_key}
+use Rattle.geo_records.specs.Operations.{Record, record_joined}
 use Rattle.geo_versions.specs.Maps.{Rec, rec_means, listed_at}
 use Rattle.geo_site.specs.Machine.{SiteState, Delta, Same, take, knows_record}
 use Rattle.geo_site.specs.Sites.{knows_all}

@@ -4,8 +4,8 @@ use Rattle.std.specs.Prelude.{Result, Ok, Err, IfOk, replicate}
 use Rattle.std.specs.declared.alloc.AllocError.{AllocError}
 use Rattle.geo_grammar.specs.declared.request.Request.{Request}
 use Rattle.geo_grammar.specs.declared.reply.Reply.TheVariants.{ClockEnded}
-use Rattle.geo_versions.specs.Operations.{Act}
-use Rattle.geo_versions.specs.Operations.Act.{Flush}
+use Rattle.geo_records.specs.Operations.{Act}
+use Rattle.geo_records.specs.Operations.Act.{Flush}
 use Rattle.geo_memcache.specs.Entries.{Entry}
 use Rattle.geo_memcache.specs.Decisions.{deletes, touches, decided}
 use Rattle.geo_memcache.specs.Asks.{request_of}

@@ -1,15 +1,15 @@
 -- What a touch leaves: another expiry, and all else as it was.
 use Rattle.std.proofs.Common.{◌≡◌, ℕ, ◌+◌, ◌≤◌, not, Bool, true, false, cond, List, Option, None, Some, refl, sym, ap, ◌∙◌, subst, arith}
 use Rattle.std.specs.declared.cmp.Ordering.{Ordering}
-use Rattle.geo_lattice.specs.Registers.{newer, by_both}
+use Rattle.geo_laws.specs.Registers.{newer, by_both}
 use Rattle.geo_stamp.specs.Stamps.{Moment, stamp_cmp}
 use Rattle.geo_stamp.specs.Vectors.{entry_of, greatest_of, raised}
-use Rattle.geo_versions.specs.Keys.{same_key}
-use Rattle.geo_versions.specs.Bodies.{body_cmp}
-use Rattle.geo_versions.specs.Operations.{Register, Record, above, above_both, body_joined, record_joined, floor_joined, version_in}
-use Rattle.geo_versions.specs.Operations.Act.{Touch}
-use Rattle.geo_versions.specs.declared.body.Body.{Body}
-use Rattle.geo_versions.specs.declared.body.Body.TheVariants.{Value, Gone}
+use Rattle.geo_records.specs.Keys.{same_key}
+use Rattle.geo_records.specs.Bodies.{body_cmp}
+use Rattle.geo_records.specs.Operations.{Register, Record, above, above_both, body_joined, record_joined, floor_joined, version_in}
+use Rattle.geo_records.specs.Operations.Act.{Touch}
+use Rattle.geo_records.specs.declared.body.Body.{Body}
+use Rattle.geo_records.specs.declared.body.Body.TheVariants.{Value, Gone}
 use Rattle.geo_site.specs.Entries.{Held, names}
 use Rattle.geo_values.specs.Stock.{Stock}
 use Rattle.geo_values.specs.Stock as stocks
@@ -17,7 +17,7 @@ use Rattle.geo_site.proofs.Stocking.{stock_done, stock_path}
 use Rattle.geo_site.specs.Machine.{Same, issue, Covers, Settled, knows_record, knows_floor}
 use Rattle.geo_site.proofs.Entries.{Within, entry_raised, entry_rises}
 use Rattle.geo_site.proofs.Writing.{knows_joined, knows_more, knows_floor_more, time_known}
-use Rattle.geo_versions.specs.Above.{joined_none}
+use Rattle.geo_records.proofs.Above.{joined_none}
 
 newer_none : {A : Type 0} (cmp : A → A → Ordering) (o : Option A) → newer cmp o None ≡ o
 newer_none cmp None = refl

@@ -1,8 +1,8 @@
 -- Whose bytes go for what a request issues: those of one other key at most, for its first act.
 use Rattle.std.proofs.Common.{◌≡◌, ℕ, ℤ, Bool, true, false, cond, List, [], ◌∷◌, length, Option, None, Some, refl, sym, ◌∙◌, subst}
 use Rattle.std.specs.Prelude.{IfSome}
-use Rattle.geo_versions.specs.Operations.{Act}
-use Rattle.geo_versions.specs.Operations.Act.{Write, Delete, Touch, Flush}
+use Rattle.geo_records.specs.Operations.{Act}
+use Rattle.geo_records.specs.Operations.Act.{Write, Delete, Touch, Flush}
 use Rattle.geo_grammar.specs.declared.request.Request.{Request}
 use Rattle.geo_grammar.specs.declared.request.Request.TheVariants as request
 use Rattle.geo_grammar.specs.declared.reply.Found.{Found}

@@ -6,14 +6,14 @@ use Rattle.std.specs.declared.cmp.Ordering.{Ordering}
 use Rattle.std.specs.declared.cmp.Ordering.TheVariants.{Less, Equal, Greater}
 use Rattle.std.specs.Ordering.{ordering_then, is_lt, nat_cmp}
 use Rattle.sha2.specs.Sha256.{sha256}
-use Rattle.geo_lattice.specs.Registers.{newer, by_both, by_order}
+use Rattle.geo_laws.specs.Registers.{newer, by_both, by_order}
 use Rattle.geo_stamp.specs.Stamps.{Moment, stamp_cmp}
 use Rattle.geo_stamp.specs.Vectors.{entry_of, greatest_of}
-use Rattle.geo_versions.specs.Bodies.{body_cmp}
-use Rattle.geo_versions.specs.Operations.{Register, Record, above, above_both, is_above, record_joined, body_joined, expiry_joined, floor_joined, version_in}
+use Rattle.geo_records.specs.Bodies.{body_cmp}
+use Rattle.geo_records.specs.Operations.{Register, Record, above, above_both, is_above, record_joined, body_joined, expiry_joined, floor_joined, version_in}
 use Rattle.geo_versions.specs.Maps.{is_unknown}
-use Rattle.geo_versions.specs.declared.body.Body.{Body}
-use Rattle.geo_versions.specs.declared.body.Body.TheVariants.{Value}
+use Rattle.geo_records.specs.declared.body.Body.{Body}
+use Rattle.geo_records.specs.declared.body.Body.TheVariants.{Value}
 use Rattle.geo_site.specs.Entries.{names}
 use Rattle.geo_site.specs.Machine.{knows_record, knows_floor}
 use Rattle.geo_site.proofs.Entries.{entry_at_most}

@@ -4,13 +4,13 @@ use Rattle.std.specs.Ordering.{nat_cmp}
 use Rattle.sha2.specs.Sha256.{sha256}
 use Rattle.geo_stamp.specs.Stamps.{Moment, stamp_cmp}
 use Rattle.geo_stamp.specs.Vectors.{entry_of, greatest_of, raised}
-use Rattle.geo_versions.specs.Keys.{same_key}
-use Rattle.geo_versions.specs.Operations.{Act, Register, Record, above_both, record_joined, floor_joined, version_in, body_of, expiry_of, flush_of}
-use Rattle.geo_versions.specs.Operations.Act.{Write, Delete}
-use Rattle.geo_versions.specs.Above.{newer_none, joined_none}
+use Rattle.geo_records.specs.Keys.{same_key}
+use Rattle.geo_records.specs.Operations.{Act, Register, Record, above_both, record_joined, floor_joined, version_in, body_of, expiry_of, flush_of}
+use Rattle.geo_records.specs.Operations.Act.{Write, Delete}
+use Rattle.geo_records.proofs.Above.{newer_none, joined_none}
 use Rattle.geo_versions.specs.Maps.{Rec, rec_means, listed_at}
-use Rattle.geo_versions.specs.declared.body.Body.{Body}
-use Rattle.geo_versions.specs.declared.body.Body.TheVariants.{Value, Gone}
+use Rattle.geo_records.specs.declared.body.Body.{Body}
+use Rattle.geo_records.specs.declared.body.Body.TheVariants.{Value, Gone}
 use Rattle.geo_site.specs.Entries.{Held, names}
 use Rattle.geo_values.specs.Stock.{Stock}
 use Rattle.geo_values.specs.Stock as stocks

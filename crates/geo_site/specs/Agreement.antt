@@ -3,10 +3,10 @@
 use Rattle.std.specs.Prelude.{◌≡◌, ℕ, ◌≤◌, ◌⊎◌, Bool, true, false, List, length, Option, None, Some}
 use Rattle.geo_stamp.specs.Stamps.{Moment}
 use Rattle.geo_stamp.specs.Vectors.{greatest_of, entry_of, Knows}
-use Rattle.geo_versions.specs.Operations.{Operation, Register, Record, winner, latest_expiry, record_of, floor_of, latest, Among}
+use Rattle.geo_records.specs.Operations.{Operation, Register, Record, winner, latest_expiry, record_of, floor_of, latest, Among}
 use Rattle.geo_versions.specs.Maps.{since}
-use Rattle.geo_versions.specs.declared.body.Body.{Body}
-use Rattle.geo_versions.specs.declared.body.Body.TheVariants.{Gone, Value}
+use Rattle.geo_records.specs.declared.body.Body.{Body}
+use Rattle.geo_records.specs.declared.body.Body.TheVariants.{Gone, Value}
 use Rattle.geo_site.specs.Entries.{Held}
 use Rattle.geo_site.specs.Machine.{SiteState, Delta}
 

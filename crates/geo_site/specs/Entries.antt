@@ -4,10 +4,10 @@ use Rattle.std.specs.List.{list_any}
 use Rattle.std.specs.Str.{bytes_eq}
 use Rattle.sha2.specs.Sha256.{sha256}
 use Rattle.geo_stamp.specs.Stamps.{Moment, last_time}
-use Rattle.geo_versions.specs.Keys.{same_key}
-use Rattle.geo_versions.specs.Operations.{Act}
-use Rattle.geo_versions.specs.Operations.Act.{Write, Delete, Touch, Flush}
-use Rattle.geo_versions.specs.declared.version.Version.{Version}
+use Rattle.geo_records.specs.Keys.{same_key}
+use Rattle.geo_records.specs.Operations.{Act}
+use Rattle.geo_records.specs.Operations.Act.{Write, Delete, Touch, Flush}
+use Rattle.geo_records.specs.declared.version.Version.{Version}
 use Rattle.geo_grammar.specs.Limits.{most_number}
 use Rattle.geo_grammar.specs.declared.request.Request.{Request}
 use Rattle.geo_grammar.specs.declared.request.Request.TheVariants as request

@@ -4,13 +4,13 @@ use Rattle.std.specs.Prelude.{◌≡◌, ◌≢◌, ◌==◌, min, ℕ, zero, su
 use Rattle.geo_stamp.specs.Acks.{row_of}
 use Rattle.geo_stamp.specs.Stamps.{Moment, most_sites}
 use Rattle.geo_stamp.specs.Vectors.{zeros, vector_joined, greatest_of, raised}
-use Rattle.geo_versions.specs.Keys.{same_key}
+use Rattle.geo_records.specs.Keys.{same_key}
 use Rattle.std.specs.List.{IsDistinct, list_any}
 use Rattle.geo_versions.specs.Maps.{has_register, recent_both, remaining}
-use Rattle.geo_versions.specs.Operations.{Act, Operation, Record, record_joined, floor_joined, above_both, body_of, expiry_of, flush_of, version_in}
-use Rattle.geo_versions.specs.Operations.Act.{Write, Delete, Touch, Flush}
+use Rattle.geo_records.specs.Operations.{Act, Operation, Record, record_joined, floor_joined, above_both, body_of, expiry_of, flush_of, version_in}
+use Rattle.geo_records.specs.Operations.Act.{Write, Delete, Touch, Flush}
 pub use Rattle.geo_delta.specs.Changes.{knows_record, is_unknown_floor, knows_floor}
-use Rattle.geo_versions.specs.declared.version.Version.{Version}
+use Rattle.geo_records.specs.declared.version.Version.{Version}
 use Rattle.geo_slabs.specs.Storage.{chunk_bytes}
 use Rattle.geo_values.specs.Stock.{Stock, first_stock, dropped, hit_at, with_room, victim_for, arrived, kept_where, IsHeldIn}
 use Rattle.geo_values.specs.Stock as stocks

@@ -2,7 +2,7 @@
 -- join of what was seen: Almeida et al. 2018.)
 use Rattle.std.specs.Prelude.{◌≡◌, ◌≢◌, ℕ, Bool, true, false, cond, if◌then◌else◌, ◌==◌, ◌≤◌, nat_le, List, [], ◌∷◌, ◌++◌, length, Option, None, Some, is_some, slice_index_or}
 use Rattle.geo_versions.specs.Maps.{has_register}
-use Rattle.geo_versions.specs.Operations.{Operation, Act, Among, Record, latest, version_of}
+use Rattle.geo_records.specs.Operations.{Operation, Act, Among, Record, latest, version_of}
 use Rattle.geo_grammar.specs.declared.request.Request.{Request}
 use Rattle.geo_grammar.specs.declared.reply.Reply.{Reply}
 use Rattle.geo_grammar.specs.declared.reply.Reply.TheVariants.{ClockEnded}
@@ -18,8 +18,8 @@ use Rattle.geo_site.specs.declared.refusal.ReapError.TheVariants as reap
 use Rattle.geo_site.specs.declared.refusal.SendError.TheVariants as send
 use Rattle.geo_site.specs.declared.refusal.TakeError.TheVariants as take
 use Rattle.geo_site.specs.Entries.{Held, Visible, Basis, Counts, none_counted, counted, evicted_on, entry_in, named_by, issued, waits_after, flushes_due, is_stuck, due_acts, waits_on, is_reapable, reap_acts, lacks, Answers, is_done}
-use Rattle.geo_versions.specs.Keys.{same_key}
-use Rattle.geo_versions.specs.Operations.Act.{Write, Delete, Touch, Flush}
+use Rattle.geo_records.specs.Keys.{same_key}
+use Rattle.geo_records.specs.Operations.Act.{Write, Delete, Touch, Flush}
 use Rattle.geo_site.specs.Agreement.{Holds}
 use Rattle.geo_site.specs.Machine.{act_held, without, class_for, next_operation, IsRecordCount, IsHeldCount}
 

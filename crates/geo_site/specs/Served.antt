@@ -1,9 +1,9 @@
 -- Values that are served: each is what the operation wrote that the version names, unless two values have one SHA-256.
 use Rattle.std.specs.Prelude.{◌≡◌, ℕ, List, [], ◌∷◌, Some}
 use Rattle.sha2.specs.Sha256.{sha256}
-use Rattle.geo_versions.specs.Operations.{Operation, Among, version_of}
-use Rattle.geo_versions.specs.Operations.Act.{Write}
-use Rattle.geo_versions.specs.declared.version.Version.{Version}
+use Rattle.geo_records.specs.Operations.{Operation, Among, version_of}
+use Rattle.geo_records.specs.Operations.Act.{Write}
+use Rattle.geo_records.specs.declared.version.Version.{Version}
 use Rattle.geo_grammar.specs.declared.reply.Reply.{Reply}
 use Rattle.geo_grammar.specs.declared.reply.Reply.TheVariants.{Values}
 use Rattle.geo_grammar.specs.declared.reply.Found.{Found}

@@ -8,7 +8,7 @@ use Rattle.geo_values.specs.Stock.{dropped, juggled_in}
 use Rattle.geo_values.specs.Held.{stock_in, count_in as values_count}
 use Rattle.geo_stamp.specs.Acks.{row_of, heard, none_heard, horizon_of}
 use Rattle.geo_stamp.specs.Vectors.{vector_joined}
-use Rattle.geo_versions.specs.Keys.{same_key}
+use Rattle.geo_records.specs.Keys.{same_key}
 use Rattle.geo_versions.specs.Maps.{Rec, rec_means, listed_at, since, Rising}
 use Rattle.geo_versions.specs.Maps.{floor_in, record_in, count_in, has_register}
 use Rattle.geo_delta.specs.Ranges.{InRange}
@@ -16,7 +16,7 @@ use Rattle.geo_delta.specs.declared.parcel.Parcel.{Parcel}
 use Rattle.geo_grammar.specs.declared.request.Request.{Request}
 use Rattle.geo_grammar.specs.declared.stats.Stats.{Stats}
 use Rattle.geo_stamp.specs.Stamps.{Moment, most_sites}
-use Rattle.geo_versions.specs.Operations.{Act, version_in}
+use Rattle.geo_records.specs.Operations.{Act, version_in}
 use Rattle.geo_site.specs.declared.site.Site.{Site}
 use Rattle.geo_site.specs.declared.acted.Acted.{Acted}
 use Rattle.geo_site.specs.declared.exchange.Taken.{Taken}

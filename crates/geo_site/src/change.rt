@@ -2,7 +2,7 @@
 ghost use Rattle.std.specs.Prelude.{◌≡◌, ◌≤◌, ◌<◌, ◌+◌, ℕ, List, length, OnOk, OnErr, IsOk, IfOk, IfErr, MatchResult, cond, Some, None, Option};
 ghost use Rattle.geo_grammar.specs.Limits.{longest_value};
 ghost use Rattle.geo_versions.specs.Maps.{rec_means};
-ghost use Rattle.geo_versions.specs.Operations.Act.{Write, Delete};
+ghost use Rattle.geo_records.specs.Operations.Act.{Write, Delete};
 ghost use Rattle.std.specs.Prelude.{[], ◌∷◌};
 ghost use Rattle.geo_site.specs.Machine.{Same, victim_by, VictimFits};
 ghost use Rattle.geo_site.specs.Entries.{evicted_on};

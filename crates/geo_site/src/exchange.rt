@@ -3,7 +3,7 @@ ghost use Rattle.std.specs.Prelude.{IsTrue, ◌↔◌, ◌≡◌, ◌≢◌, ◌
 ghost use Rattle.sha2.specs.Sha256.{sha256};
 ghost use Rattle.geo_values.specs.Stock as stocks;
 ghost use Rattle.geo_values.specs.Held.{stock_in, count_in};
-ghost use Rattle.geo_versions.specs.Operations.{version_in, above_both, record_joined, floor_joined};
+ghost use Rattle.geo_records.specs.Operations.{version_in, above_both, record_joined, floor_joined};
 ghost use Rattle.geo_versions.specs.Maps.{rec_means, listed_at, floor_in, record_in, HasRoomFor, Rising};
 ghost use Rattle.geo_site.specs.Entries.{names};
 ghost use Rattle.geo_site.specs.Machine.{Same, Settled, settled, stays_by, take, knows_record, knows_floor};

@@ -3,7 +3,7 @@ ghost use Rattle.std.specs.Prelude.{◌≡◌, ◌≤◌, ◌<◌, ◌+◌, ◌^
 ghost use Rattle.geo_stamp.specs.Stamps.{last_time};
 ghost use Rattle.geo_grammar.specs.declared.reply.Reply.TheVariants.{Done};
 ghost use Rattle.geo_memcache.specs.Entries.{expiry_at};
-ghost use Rattle.geo_versions.specs.Operations.Act.{Flush};
+ghost use Rattle.geo_records.specs.Operations.Act.{Flush};
 ghost use Rattle.geo_site.specs.Entries.{is_due, is_done, flushes_now, flush_acts};
 ghost use Rattle.geo_site.specs.Machine.{clock_of};
 ghost use Rattle.geo_site.specs.Sites.{state_in, waiting_in, counts_in, HasIssued, Rests, Stays, IssuesAs, TickDoes};

@@ -1,6 +1,6 @@
 //! What a site notes of its changes, so that a parcel finds them without a look at all records.
 ghost use Rattle.std.specs.Prelude.{ℕ, List};
-ghost use Rattle.geo_versions.specs.Operations.{Record};
+ghost use Rattle.geo_records.specs.Operations.{Record};
 ghost use Rattle.geo_delta.specs.Changes.{KnowsBut, Traced, nothing_pending};
 ghost use Rattle.geo_site.specs.Noting.{is_key, is_listed};
 

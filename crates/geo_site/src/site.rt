@@ -3,10 +3,11 @@ ghost use Rattle.std.specs.Prelude.{◌≡◌, ◌≢◌, ℕ, ◌≤◌, ◌<�
 ghost use Rattle.geo_slabs.specs.Storage.{class_count, most_pages};
 ghost use Rattle.geo_values.specs.Stock.{Same, first_stock};
 ghost use Rattle.geo_values.specs.Held.{stock_in};
-ghost use Rattle.geo_versions.specs.Keys.{same_key};
-ghost use Rattle.geo_versions.specs.Operations.{version_in};
+ghost use Rattle.geo_records.specs.Keys.{same_key};
+ghost use Rattle.geo_records.specs.Operations.{version_in};
 ghost use Rattle.geo_versions.specs.Maps.{floor_in, record_in};
-ghost use Rattle.geo_delta.specs.Changes.{Traced, nothing_pending, traced_prop};
+ghost use Rattle.geo_delta.specs.Changes.{Traced, nothing_pending};
+ghost use Rattle.geo_delta.proofs.Facts.{traced_prop};
 ghost use Rattle.geo_site.specs.Machine.{Numbered, HasRows, Covers, Settled, EndsFrom, knows_floor};
 
 use crate::refusal::SetupError;

@@ -3,8 +3,8 @@ ghost use Rattle.std.specs.Prelude.{◌≡◌, ◌≤◌, ◌+◌, ℕ, Bool, Li
 ghost use Rattle.std.specs.List.{list_any, All};
 ghost use Rattle.geo_stamp.specs.Stamps.{last_time};
 ghost use Rattle.geo_grammar.specs.declared.reply.Found.{Found as FoundOf};
-ghost use Rattle.geo_versions.specs.Keys.{same_key};
-ghost use Rattle.geo_versions.specs.Operations.Act.{Touch};
+ghost use Rattle.geo_records.specs.Keys.{same_key};
+ghost use Rattle.geo_records.specs.Operations.Act.{Touch};
 ghost use Rattle.geo_site.specs.Entries.{touches_of, found_after};
 ghost use Rattle.geo_site.specs.Machine.{clock_of, visible_in};
 ghost use Rattle.geo_site.specs.Sites.{state_in, touched_in, HasIssued, Rests, Stays, FetchTouchDoes, TellsPlain, reply_in};

@@ -1,3 +1,4 @@
 pub mod Vectors
 pub mod Joins
 pub mod Heard
+pub mod Stamps

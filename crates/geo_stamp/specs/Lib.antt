@@ -1,4 +1,3 @@
 pub mod Stamps
 pub mod Vectors
-pub mod Joins
 pub mod Acks

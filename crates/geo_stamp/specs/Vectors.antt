@@ -1,5 +1,6 @@
 -- Vectors of clocks: the entry of site j stands at index j - 1, and one that is missing is 0.
 use Rattle.std.specs.Prelude.{◌≡◌, ℕ, zero, suc, ◌≤◌, max, min, List, [], ◌∷◌, length, slice_index, slice_set}
+pub use Rattle.geo_laws.specs.Vectors.{vector_joined}
 use Rattle.geo_stamp.specs.Stamps.{Moment, last_time}
 
 abbrev pub entry_of : List ℕ → ℕ → ℕ
@@ -10,12 +11,6 @@ entry_of v (suc j) = slice_index v j
 abbrev pub zeros : ℕ → List ℕ
 zeros zero = []
 zeros (suc n) = 0 ∷ zeros n
-
--- the greater of both at each site
-abbrev pub vector_joined : List ℕ → List ℕ → List ℕ
-vector_joined [] ys = ys
-vector_joined (x ∷ xs) [] = x ∷ xs
-vector_joined (x ∷ xs) (y ∷ ys) = max x y ∷ vector_joined xs ys
 
 -- the greatest entry, or 0 where there is none
 abbrev pub greatest_of : List ℕ → ℕ

@@ -1,6 +1,6 @@
 //! When and where an operation was issued.
 ghost use Rattle.std.specs.Prelude.{◌≡◌, ℕ, ◌≤◌, ◌+◌, ◌*◌, MatchOption, refl};
-ghost use Rattle.geo_stamp.specs.Stamps.{Moment, InRange, stamp_cmp, exact_stamps};
+ghost use Rattle.geo_stamp.specs.Stamps.{Moment, InRange, stamp_cmp};
 
 use geo_lattice::Exact;
 use std::marker::Model;
@@ -67,9 +67,14 @@ impl Stamp {
 }
 
 impl Exact for Stamp {
+    ghost use Rattle.std.specs.Ordering.{nat_cmp, ordering_then};
+    ghost use Rattle.std.proofs.lemmas.Map.Lookups.{exact_pairs, exact_unsigned};
+    ghost use Rattle.geo_laws.proofs.Orders.{exact_on};
+
     ghost order = { stamp_cmp };
 
     ghost order_is = { λ _ _. refl };
 
-    ghost exact = { exact_stamps };
+    ghost exact = { exact_on (λ s. (s.time, s.site)) (λ p. record { time = p.0; site = p.1 })
+        (λ x y. ordering_then (nat_cmp x.0 y.0) (nat_cmp x.1 y.1)) (λ _. refl) (exact_pairs nat_cmp nat_cmp exact_unsigned exact_unsigned) };
 }

@@ -125,7 +125,7 @@ impl Twin for Vector {
 impl Lattice for Vector {
     ghost use Rattle.std.specs.Prelude.{List, ℕ, [], refl};
     ghost use Rattle.geo_stamp.specs.Vectors.{vector_joined};
-    ghost use Rattle.geo_stamp.specs.Joins.{joined_assoc, joined_comm, joined_same};
+    ghost use Rattle.geo_laws.proofs.Joins.{joined_assoc, joined_comm, joined_same};
 
     ghost Meaning = { List ℕ };
 

@@ -4,7 +4,7 @@ use Rattle.std.proofs.lemmas.Bool.{cases_eq}
 use Rattle.std.proofs.lemmas.Nat.{div-mul-add}
 use Rattle.std.specs.Option.{unwrap_or}
 use Rattle.sha2.specs.Sha256.{sha256}
-use Rattle.geo_versions.specs.Keys.{same_key}
+use Rattle.geo_records.specs.Keys.{same_key}
 use Rattle.geo_slabs.specs.Storage.{Storage, PutDoes, IsClassOf, class_count, chunks_a_page, chunks_in, class_in, held_in}
 use Rattle.geo_slabs.specs.declared.slabs.Chunk.{Chunk}
 use Rattle.geo_slabs.proofs.Kept.{put_gives, put_class, put_new, put_keeps_held}

@@ -11,7 +11,7 @@ use Rattle.std.proofs.lemmas.Cmp.{nat_list_cmp_total}
 use Rattle.std.proofs.lemmas.List.{get_or-map, length-map, map-append}
 use Rattle.std.proofs.lemmas.List.Sorted.{IsPermutation-map}
 use Rattle.sha2.specs.Sha256.{sha256}
-use Rattle.geo_versions.specs.Keys.{same_key}
+use Rattle.geo_records.specs.Keys.{same_key}
 use Rattle.geo_versions.specs.Maps.{Rising}
 use Rattle.geo_versions.proofs.Listed.{rising_from_sorted}
 use Rattle.geo_slabs.specs.Storage.{Storage, held_in}

@@ -5,7 +5,7 @@ use Rattle.std.specs.List.{find}
 use Rattle.std.specs.Option.{option_map, unwrap_or}
 use Rattle.indexmap.proofs.ReorderLemmas.{map-reverse}
 use Rattle.lru.specs.LruCache.{last_entry}
-use Rattle.geo_versions.specs.Keys.{same_key}
+use Rattle.geo_records.specs.Keys.{same_key}
 use Rattle.geo_slabs.specs.Storage.{Storage}
 use Rattle.geo_lru.specs.Rules.{ListsOf, moved, count, last_active, hot_limit, warm_limit, without_by, hot_tail_moved_by, warm_tail_moved_by, cold_active_moved_by, hot_juggled_by, warm_juggled_by, cold_juggled_by, juggled_by}
 use Rattle.geo_lru.specs.Lists.{Lists, present, places, without, hot_tail_moved, warm_tail_moved, cold_active_moved, hot_juggled, warm_juggled, cold_juggled, juggled}

@@ -4,7 +4,7 @@ use Rattle.std.proofs.lemmas.Bool.{eqb-true}
 use Rattle.std.specs.Cmp.{nat_eq_equiv}
 use Rattle.std.specs.Cmp.Lexicographic.{same_text, nat_list_eq_equiv}
 use Rattle.std.specs.Option.{unwrap_or}
-use Rattle.geo_versions.specs.Keys.{same_key}
+use Rattle.geo_records.specs.Keys.{same_key}
 use Rattle.geo_slabs.specs.Storage.{held_in}
 use Rattle.geo_lru.specs.Lists.{Lists, places, left}
 use Rattle.geo_lru.proofs.Places.{without-absent}

@@ -6,7 +6,7 @@ use Rattle.std.specs.Cmp.{nat_eq_equiv}
 use Rattle.std.specs.Option.{option_map, option_map_or}
 use Rattle.std.specs.Map.{lookup, set_value}
 use Rattle.lru.specs.LruCache.{last_entry}
-use Rattle.geo_versions.specs.Keys.{same_key}
+use Rattle.geo_records.specs.Keys.{same_key}
 use Rattle.geo_lru.specs.Rules.{touched, victim_of, touched_in_by, without_by, touched_by, left_by, count}
 use Rattle.geo_lru.specs.Lists.{Lists, present, places, touched_in, without, touched_at, left}
 use Rattle.geo_lru.specs.declared.access.Access.{Access}

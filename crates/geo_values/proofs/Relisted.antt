@@ -1,7 +1,7 @@
 -- The links outlast what only moves items within their lists.
 use Rattle.std.proofs.Common.{◌≡◌, ℕ, ◌*◌, ◌<◌, Bool, true, false, nat_eq, cond, List, [], length, Option, Some, None, refl, sym, ap, subst, ◌∙◌, arith}
 use Rattle.std.specs.Option.{unwrap_or}
-use Rattle.geo_versions.specs.Keys.{same_key}
+use Rattle.geo_records.specs.Keys.{same_key}
 use Rattle.geo_slabs.specs.Storage.{Storage, chunks_a_page, chunks_in, class_in}
 use Rattle.geo_lru.specs.Rules.{count}
 use Rattle.geo_lru.specs.Lists.{Lists, places, touched_at}

@@ -6,7 +6,7 @@ use Rattle.std.proofs.lemmas.Option.{slice_get_past, slice_get_within, slice_get
 use Rattle.std.specs.Fn.{Shared, FnReturns}
 use Rattle.std.specs.Map.{lookup}
 use Rattle.sha2.specs.Sha256.{sha256}
-use Rattle.geo_versions.specs.Keys.{same_key}
+use Rattle.geo_records.specs.Keys.{same_key}
 use Rattle.geo_slabs.specs.Storage.{held_in}
 use Rattle.geo_values.specs.Stock.{Same, TestAnswers, dropped, staying, kept_where, IsRetained}
 use Rattle.geo_values.specs.Links.{Links, Kept, IsLinked, links_of, stock_of, bytes_of}

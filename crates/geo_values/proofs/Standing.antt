@@ -6,7 +6,7 @@ use Rattle.std.proofs.lemmas.Bool.{cases_eq, cases_order}
 use Rattle.std.specs.Option.{option_map, option_map_or}
 use Rattle.std.specs.Map.{keys_of}
 use Rattle.lru.specs.LruCache.{last_entry}
-use Rattle.geo_versions.specs.Keys.{same_key}
+use Rattle.geo_records.specs.Keys.{same_key}
 use Rattle.geo_slabs.specs.Storage.{IsClassOf}
 use Rattle.geo_lru.specs.Rules.{present_by, places_by, leaves_list, warm_leaves, last_active, hot_limit, warm_limit}
 use Rattle.geo_lru.specs.Lists.{Lists, present, places}

@@ -1,6 +1,6 @@
 -- What a filter by keys leaves of the lists, and that an item which leaves them leaves such a filter.
 use Rattle.std.proofs.Common.{◌≡◌, ℕ, ◌≤◌, Bool, true, false, not, nat_eq, cond, filter, List, [], ◌∷◌, refl, sym, ap, ◌∙◌, arith}
-use Rattle.geo_versions.specs.Keys.{same_key}
+use Rattle.geo_records.specs.Keys.{same_key}
 use Rattle.geo_lru.specs.Rules.{ListsOf, left_by, without_by}
 use Rattle.geo_lru.specs.Lists.{Lists, present, places}
 use Rattle.geo_lru.specs.declared.access.Access.{Access}

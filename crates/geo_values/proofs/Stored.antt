@@ -1,7 +1,7 @@
 -- A store as a whole: the key's item is taken out, room is made, and the new item comes, while its number waits in the lists.
 use Rattle.std.proofs.Common.{◌≡◌, ℕ, ◌+◌, ◌-◌, ◌*◌, ◌<◌, inl, inr, Bool, true, false, ◌&&◌, nat_eq, cond, List, length, slice_get, Option, Some, None, IsSome, IfSome, refl, sym, ap, subst, ◌∙◌, arith}
 use Rattle.sha2.specs.Sha256.{sha256}
-use Rattle.geo_versions.specs.Keys.{same_key}
+use Rattle.geo_records.specs.Keys.{same_key}
 use Rattle.geo_slabs.specs.Storage.{Storage, PutDoes, IsPut, IsFull, IsClassOf, AllHeld, class_count, chunks_a_page, chunks_in, with_page}
 use Rattle.geo_slabs.specs.declared.slabs.Chunk.{Chunk}
 use Rattle.geo_lru.specs.Rules.{count, victim_of}

@@ -3,7 +3,7 @@ use Rattle.std.proofs.Common.{◌≡◌, ◌≢◌, ℕ, ◌+◌, ◌-◌, ◌*�
 use Rattle.std.proofs.lemmas.Bool.{cases_eq}
 use Rattle.std.proofs.lemmas.List.{length-set}
 use Rattle.std.specs.Option.{unwrap_or}
-use Rattle.geo_versions.specs.Keys.{same_key}
+use Rattle.geo_records.specs.Keys.{same_key}
 use Rattle.geo_slabs.specs.Chunks.{ClassState}
 use Rattle.geo_slabs.specs.Storage.{Storage, class_count, chunks_a_page, chunks_in, class_in, held_in, with_chunks}
 use Rattle.geo_slabs.proofs.Kept.{free_keeps}

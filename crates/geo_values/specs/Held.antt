@@ -2,7 +2,7 @@
 use Rattle.std.specs.Prelude.{ℕ, List, map, length, Option}
 use Rattle.sha2.specs.Sha256.{sha256}
 use Rattle.std.specs.Map.{lookup, keys_of}
-use Rattle.geo_versions.specs.Keys.{same_key}
+use Rattle.geo_records.specs.Keys.{same_key}
 use Rattle.geo_values.specs.Stock.{Stock}
 use Rattle.geo_values.specs.Links.{Kept, links_of, stock_of}
 

@@ -3,7 +3,7 @@ use Rattle.std.specs.Prelude.{◌≡◌, ℕ, ◌*◌, ◌/◌, ◌<◌, cond, n
 use Rattle.std.specs.Option.{unwrap_or}
 use Rattle.std.specs.Map.{lookup}
 use Rattle.sha2.specs.Sha256.{sha256}
-use Rattle.geo_versions.specs.Keys.{same_key}
+use Rattle.geo_records.specs.Keys.{same_key}
 use Rattle.geo_slabs.specs.Storage.{Storage, class_count, chunks_a_page, chunks_in, class_in, held_in, IsClassOf}
 use Rattle.geo_lru.specs.Rules.{ListsOf, count}
 use Rattle.geo_lru.specs.Lists.{Lists, places}

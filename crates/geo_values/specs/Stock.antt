@@ -6,7 +6,7 @@ use Rattle.std.specs.Fn.{Shared, FnReturns}
 use Rattle.std.specs.Option.{option_map_or, unwrap_or}
 use Rattle.std.specs.Str.{bytes_eq}
 use Rattle.sha2.specs.Sha256.{sha256}
-use Rattle.geo_versions.specs.Keys.{same_key}
+use Rattle.geo_records.specs.Keys.{same_key}
 use Rattle.geo_slabs.specs.Storage.{class_count, chunks_a_page, IsClassOf}
 use Rattle.geo_lru.specs.Rules.{ListsOf, present_by, places_by, entered, touched_by, victim_of, count, juggled_by}
 

@@ -1,7 +1,7 @@
 //! What values are made of. A call may leave these parts for a while without the links that a whole `Values` has.
 ghost use Rattle.std.specs.Prelude.{◌≡◌, ◌+◌, ◌<◌, ◌≤◌, ℕ, cond, List, Option, Some, None, IsTrue, IsSome, is_some, IfSome, IfOk, OnOk, OnErr, length, slice_get, slice_index_or, slice_set, swap_remove, option_map};
 ghost use Rattle.indexmap.specs.IndexMap.{get, spare};
-ghost use Rattle.geo_versions.specs.Keys.{same_key};
+ghost use Rattle.geo_records.specs.Keys.{same_key};
 ghost use Rattle.geo_slabs.specs.Storage.{class_count, chunk_bytes, held_in, with_held};
 ghost use Rattle.geo_lru.specs.Lists.{left, places, juggled, leaves_list, victim_of};
 ghost use Rattle.geo_values.specs.Stock.{no_items};

@@ -48,7 +48,7 @@ fn empty_classes(alloc: Global) -> Result<Vec<Segments>, AllocError>
 impl Values {
     ghost use Rattle.std.specs.List.{IsDistinct, list_any};
     ghost use Rattle.std.specs.Option.{unwrap_or};
-    ghost use Rattle.geo_versions.specs.Keys.{same_key};
+    ghost use Rattle.geo_records.specs.Keys.{same_key};
     ghost use Rattle.geo_versions.specs.Maps.{Rising};
     ghost use Rattle.geo_lru.specs.Rules.{victim_of, juggled_by, leaves_list};
     ghost use Rattle.geo_slabs.specs.Chunks.{page_bytes};

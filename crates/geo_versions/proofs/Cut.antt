@@ -2,16 +2,16 @@
 use Rattle.std.proofs.Common.{◌≡◌, Bool, true, false, cond, Option, None, Some, refl, sym, ap, ◌∙◌, List, [], ◌∷◌, ℕ}
 use Rattle.std.specs.Ordering.{nat_cmp}
 use Rattle.std.specs.Cmp.Lexicographic.{nat_list_eq_equiv}
-use Rattle.geo_lattice.specs.Registers.{by_both}
+use Rattle.geo_laws.specs.Registers.{by_both}
 use Rattle.std.specs.Option.{option_and_then}
 use Rattle.geo_lattice.specs.Maps.{meaning_or, all_joined}
 use Rattle.geo_stamp.specs.Stamps.{Moment, stamp_cmp}
-use Rattle.geo_versions.specs.Above.{newer_none, above_both_joined, above_both_twice, joined_above}
-use Rattle.geo_versions.specs.Bodies.{body_cmp}
-use Rattle.geo_versions.specs.Keys.{same_key}
-use Rattle.geo_versions.specs.Operations.{Record, above, above_both, is_above, record_joined}
+use Rattle.geo_records.proofs.Above.{newer_none, above_both_joined, above_both_twice, joined_above}
+use Rattle.geo_records.specs.Bodies.{body_cmp}
+use Rattle.geo_records.specs.Keys.{same_key}
+use Rattle.geo_records.specs.Operations.{Record, above, above_both, is_above, record_joined}
 use Rattle.geo_versions.specs.Records.{Rec, rec_means, rec_above, listed_at}
-use Rattle.geo_versions.specs.declared.body.Body.{Body}
+use Rattle.geo_records.specs.declared.body.Body.{Body}
 
 empty_joined : (r : Record) → record_joined r (None, None) ≡ r
 empty_joined r = λ i. (newer_none (by_both stamp_cmp body_cmp) r.0 i, newer_none (by_both stamp_cmp nat_cmp) r.1 i)

@@ -7,10 +7,10 @@ use Rattle.std.specs.Ordering.{nat_cmp, is_lt}
 use Rattle.std.specs.List.{IsAllAdjacentAnswer}
 use Rattle.std.specs.Cmp.Lexicographic.{slice_cmp, same_text, nat_list_eq_equiv}
 use Rattle.geo_lattice.proofs.Entries.{some_same, some_none}
-use Rattle.geo_versions.specs.Keys.{same_key}
-use Rattle.geo_versions.specs.Operations.{Record, record_joined}
+use Rattle.geo_records.specs.Keys.{same_key}
+use Rattle.geo_records.specs.Operations.{Record, record_joined}
 use Rattle.geo_versions.specs.Records.{Rec, rec_means, listed_at, Above, Rising}
-use Rattle.geo_versions.specs.Above.{joined_none}
+use Rattle.geo_records.proofs.Above.{joined_none}
 
 not_less_itself : (a : List ℕ) → slice_cmp nat_cmp a a ≡ Less → ⊥
 not_less_itself a h = apart (sym h ∙ tied_itself nat_list_cmp_total a)

@@ -9,15 +9,15 @@ use Rattle.std.specs.declared.cmp.Ordering.{Ordering}
 use Rattle.std.specs.declared.cmp.Ordering.TheVariants.{Less, Equal, Greater}
 use Rattle.std.specs.Ordering.{nat_cmp, ordering_then, MatchOrdering}
 use Rattle.geo_lattice.specs.Maps.{meaning_or, all_joined}
-use Rattle.geo_lattice.specs.Registers.{newer, by_both, by_order, greater}
+use Rattle.geo_laws.specs.Registers.{newer, by_both, by_order, greater}
 use Rattle.geo_stamp.specs.Stamps.{Moment, stamp_cmp}
-use Rattle.geo_versions.specs.Above.{newer_none}
-use Rattle.geo_versions.specs.Bodies.{body_cmp}
-use Rattle.geo_versions.specs.Keys.{same_key}
-use Rattle.geo_versions.specs.Operations.{Record, Register, above, above_both, is_above, record_joined, version_in}
+use Rattle.geo_records.proofs.Above.{newer_none}
+use Rattle.geo_records.specs.Bodies.{body_cmp}
+use Rattle.geo_records.specs.Keys.{same_key}
+use Rattle.geo_records.specs.Operations.{Record, Register, above, above_both, is_above, record_joined, version_in}
 use Rattle.geo_versions.specs.Records.{Rec, rec_means, rec_above, is_old, is_over, remaining, LastsTo, time_in, lasting_of}
-use Rattle.geo_versions.specs.declared.body.Body.{Body}
-use Rattle.geo_versions.specs.declared.body.Body.TheVariants.{Value, Gone}
+use Rattle.geo_records.specs.declared.body.Body.{Body}
+use Rattle.geo_records.specs.declared.body.Body.TheVariants.{Value, Gone}
 
 -- the greater of two registers is as late as both
 module _ {A : Type 0} (C : A → A → Ordering) (a b : Moment × A) where

@@ -14,10 +14,10 @@ use Rattle.std.proofs.lemmas.Map.Made.{is_some-lookup}
 use Rattle.geo_lattice.specs.Maps.{meaning_or, EachFound}
 use Rattle.geo_lattice.proofs.Entries.{some_same, some_none, slice_get_from_get_or}
 use Rattle.geo_lattice.proofs.Listed.{all_joined_unique}
-use Rattle.geo_versions.specs.Keys.{same_key}
-use Rattle.geo_versions.specs.Operations.{Record, record_joined}
+use Rattle.geo_records.specs.Keys.{same_key}
+use Rattle.geo_records.specs.Operations.{Record, record_joined}
 use Rattle.geo_versions.specs.Records.{Rec, rec_means, rec_since, since, is_unknown, listed_at, has_register, Rising}
-use Rattle.geo_versions.specs.Above.{record_assoc, record_comm}
+use Rattle.geo_records.proofs.Above.{record_assoc, record_comm}
 
 pub either_way : {T E P Q R : Type 0} (r : Result T E) → OnOk r P → OnErr r Q → (P → R) → (Q → R) → R
 either_way (Ok x) p q f g = f p

@@ -5,12 +5,15 @@ use Rattle.std.specs.Ordering.{nat_cmp}
 use Rattle.std.specs.Cmp.{IsTotalOrder}
 use Rattle.std.proofs.lemmas.Cmp.{nat_cmp_total}
 use Rattle.std.proofs.lemmas.Map.Lookups.{exact_pairs, exact_unsigned, CmpEqualImpliesEq}
-use Rattle.geo_lattice.specs.Registers.{newer, newer_assoc, newer_comm, newer_same, by_both, both_total}
-use Rattle.geo_stamp.specs.Stamps.{Moment, stamp_cmp, stamps_total, exact_stamps}
-use Rattle.geo_versions.specs.Above.{above_both_joined, above_both_lower, above_both_higher, above_both_twice, record_comm}
-use Rattle.geo_versions.specs.Normal.{IsNormal}
-use Rattle.geo_versions.specs.Bodies.{body_cmp, bodies_total, exact_bodies}
-use Rattle.geo_versions.specs.Operations.{Operation, Record, newest, floor_of, flush_of, body_of, expiry_of, above, above_both, record_of, state_of, state_joined, floor_joined, record_joined, Among, SameOperations, latest}
+use Rattle.geo_laws.specs.Registers.{newer, by_both}
+use Rattle.geo_laws.proofs.Registers.{newer_assoc, newer_comm, newer_same, both_total}
+use Rattle.geo_stamp.specs.Stamps.{Moment, stamp_cmp}
+use Rattle.geo_stamp.proofs.Stamps.{stamps_total, exact_stamps}
+use Rattle.geo_records.proofs.Above.{above_both_joined, above_both_lower, above_both_higher, above_both_twice, record_comm}
+use Rattle.geo_records.specs.Normal.{IsNormal}
+use Rattle.geo_records.specs.Bodies.{body_cmp}
+use Rattle.geo_records.proofs.Bodies.{bodies_total, exact_bodies}
+use Rattle.geo_records.specs.Operations.{Operation, Record, newest, floor_of, flush_of, body_of, expiry_of, above, above_both, record_of, state_of, state_joined, floor_joined, record_joined, Among, SameOperations, latest}
 
 module _ {A : Type 0} (cmp : A → A → Ordering) (order : IsTotalOrder cmp) (exact : CmpEqualImpliesEq cmp) (f : Operation → Option A) where
   pub newest_append : (ks ls : List Operation) → newest cmp f (ks ++ ls) ≡ newer cmp (newest cmp f ks) (newest cmp f ls)

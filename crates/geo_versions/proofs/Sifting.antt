@@ -3,7 +3,7 @@ use Rattle.std.proofs.Common.{◌≡◌, ℕ, Bool, true, false, cond, List, [],
 use Rattle.std.specs.List.Retain.{RetainsInTurn}
 use Rattle.geo_lattice.specs.Maps.{meaning_or}
 use Rattle.geo_stamp.specs.Stamps.{Moment}
-use Rattle.geo_versions.specs.Operations.{Record, above_both}
+use Rattle.geo_records.specs.Operations.{Record, above_both}
 use Rattle.geo_versions.specs.Records.{Rec, rec_means, rec_recent, rec_remaining, has_register, sifted, is_over, remaining}
 
 module _ {F : Type 0} (T : F → (List ℕ × Rec) → Bool → F → (List ℕ × Rec) → Type 0) (h : ℕ) (f : F)

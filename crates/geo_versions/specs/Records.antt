@@ -9,10 +9,10 @@ use Rattle.geo_lattice.specs.declared.lww.Lww.{Lww}
 use Rattle.geo_lattice.specs.declared.pair.Pair.{Pair}
 use Rattle.geo_stamp.specs.Stamps.{Moment}
 use Rattle.geo_stamp.specs.Vectors.{entry_of}
-use Rattle.geo_versions.specs.Keys.{same_key}
-use Rattle.geo_versions.specs.Operations.{Record, Register, record_joined, above, above_both, version_in}
-use Rattle.geo_versions.specs.declared.body.Body.{Body}
-use Rattle.geo_versions.specs.declared.version.Version.{Version}
+use Rattle.geo_records.specs.Keys.{same_key}
+use Rattle.geo_records.specs.Operations.{Record, Register, record_joined, above, above_both, version_in}
+use Rattle.geo_records.specs.declared.body.Body.{Body}
+use Rattle.geo_records.specs.declared.version.Version.{Version}
 
 abbrev pub Rec : Type 0
 Rec = Pair (Lww Moment Body) (Lww Moment ℕ)

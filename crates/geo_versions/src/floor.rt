@@ -1,11 +1,11 @@
 //! What a flush leaves: the operations above its stamp.
 ghost use Rattle.std.specs.Prelude.{◌≡◌, Option};
-ghost use Rattle.geo_versions.specs.Operations.{above, is_above, floor_joined};
+ghost use Rattle.geo_records.specs.Operations.{above, is_above, floor_joined};
 ghost use Rattle.geo_versions.specs.Records.{rec_above};
 
-use crate::body::Rec;
 use crate::shown::copied;
 use geo_lattice::{Change, Exact, Lww, Show};
+use geo_records::Rec;
 use geo_stamp::Stamp;
 
 /// Whether an operation with this stamp counts: where it is above the floor.

@@ -2,8 +2,8 @@
 //!
 //! A set is a list whose order and repetition do not matter. Each law is a function that does nothing: its clause is the law.
 ghost use Rattle.std.specs.Prelude.{◌≡◌, ◌++◌, ◌∷◌, List, ℕ, max};
-ghost use Rattle.geo_versions.specs.Normal.{IsNormal};
-ghost use Rattle.geo_versions.specs.Operations.{Operation, SameOperations, state_of, state_joined, floor_of, record_of, flush_of, body_of, expiry_of, floor_joined, record_joined, above_both, latest};
+ghost use Rattle.geo_records.specs.Normal.{IsNormal};
+ghost use Rattle.geo_records.specs.Operations.{Operation, SameOperations, state_of, state_joined, floor_of, record_of, flush_of, body_of, expiry_of, floor_joined, record_joined, above_both, latest};
 
 /// What two sets mean together is the join of what each means, and their latest time is the later of the two.
 pub fn union_is_join()

@@ -2,14 +2,12 @@
 ghost use Rattle.std.specs.Prelude.{◌≡◌, ◌≤◌, is_some};
 ghost use Rattle.std.specs.List.{All};
 ghost use Rattle.geo_versions.specs.Maps.{is_old, sifted};
-ghost use Rattle.geo_versions.specs.Operations.{above_both, version_in};
+ghost use Rattle.geo_records.specs.Operations.{above_both, version_in};
 ghost use Rattle.geo_versions.specs.Records.{rec_means, rec_recent, rec_remaining, time_in, lasting_of};
 
-use crate::body::{Body, Rec};
 use crate::floor::counts;
-use crate::key::Key;
-use crate::version::shown_version;
 use geo_lattice::{Bottom, Change, Exact, Lww, Measure};
+use geo_records::{Body, Key, Rec, shown_version};
 use geo_stamp::Stamp;
 
 /// Whether a register is empty, or every site knows its operation.

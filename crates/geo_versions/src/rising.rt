@@ -2,8 +2,7 @@
 ghost use Rattle.std.specs.Prelude.{◌↔◌, IsTrue};
 ghost use Rattle.geo_versions.specs.Maps.{Rising};
 
-use crate::body::Rec;
-use crate::key::Key;
+use geo_records::{Key, Rec};
 
 /// Whether each key is greater than the one before it, byte by byte, so that no key is listed twice.
 pub fn are_rising(records: &[(Key, Rec)]) -> bool

@@ -1,11 +1,10 @@
 //! What is listed of records, and what is sought among them.
 ghost use Rattle.std.specs.Prelude.{◌≡◌, Bool, Some};
-ghost use Rattle.geo_versions.specs.Operations.{Register, version_in};
+ghost use Rattle.geo_records.specs.Operations.{Register, version_in};
 ghost use Rattle.geo_versions.specs.Records.{rec_means, rec_since, is_unknown, has_ended};
 
-use crate::body::Rec;
-use crate::version::{Version, shown_version};
 use geo_lattice::{Exact, Lww, Pair, Show, Test};
+use geo_records::{Rec, Version, shown_version};
 use geo_stamp::{Stamp, Vector};
 
 /// An equal record. It takes no memory.

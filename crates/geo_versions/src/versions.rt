@@ -1,15 +1,14 @@
 //! The floor, and what is kept of each key.
 ghost use Rattle.std.specs.Prelude.{List, ℕ};
 ghost use Rattle.geo_versions.specs.Records.{record_at, LastsTo};
-ghost use Rattle.geo_versions.specs.Normal.{IsNormal, normal_prop};
+ghost use Rattle.geo_records.specs.Normal.{IsNormal};
+ghost use Rattle.geo_records.proofs.Normal.{normal_prop};
 
-use crate::body::{Body, Rec};
 use crate::floor::{AboveFloor, counts, later};
-use crate::key::Key;
 use crate::removal::{Lasting, Remaining};
 use crate::shown::{Ended, Shown, UnknownTo, Whole, copied};
-use crate::version::{Version, shown_version};
 use geo_lattice::{Bottom, Change, Lattice, Lww, MapOf, Measure, Pair};
+use geo_records::{Body, Key, Rec, Version, shown_version};
 use geo_stamp::{Stamp, Vector};
 use std::alloc::{AllocError, Global};
 use std::hash::RandomState;
@@ -30,8 +29,8 @@ impl Versions {
     ghost use Rattle.std.specs.List.{All, IsDistinct, list_any};
     ghost use Rattle.std.specs.Map.{lookup};
     ghost use Rattle.geo_lattice.specs.Maps.{meaning_or};
-    ghost use Rattle.geo_versions.specs.Keys.{same_key};
-    ghost use Rattle.geo_versions.specs.Operations.{above_both, record_joined, floor_joined, version_in};
+    ghost use Rattle.geo_records.specs.Keys.{same_key};
+    ghost use Rattle.geo_records.specs.Operations.{above_both, record_joined, floor_joined, version_in};
     ghost use Rattle.geo_versions.specs.Maps.{floor_in, record_in, keys_in, count_in, has_register, HasRoomFor, rec_means, listed_at, since, has_ended, remaining, Rising};
 
     /// Nothing known. It takes no memory.
@@ -259,9 +258,11 @@ impl Versions {
 
 impl Lattice for Versions {
     ghost use Rattle.geo_lattice.specs.Maps.{missing};
-    ghost use Rattle.geo_versions.specs.Keys.{same_key};
+    ghost use Rattle.geo_records.specs.Keys.{same_key};
     ghost use Rattle.geo_versions.specs.Maps.{state_in};
-    ghost use Rattle.geo_versions.specs.Normal.{Normal, normal_joined, nothing_known, normal_associative, normal_commutative, normal_idempotent, nothing_joined};
+    ghost use Rattle.geo_records.specs.Normal.{Normal};
+    ghost use Rattle.geo_records.proofs.Normal.{same_normal, states_assoc, states_comm, states_same, nothing_adds};
+    ghost use Rattle.geo_versions.specs.Normal.{normal_joined, nothing_known};
 
     ghost Meaning = { Normal };
 
@@ -273,13 +274,14 @@ impl Lattice for Versions {
 
     ghost HasRoom = { λ v w. ⟦<MapOf<Key, Rec> as Lattice>⟧.HasRoom v.records w.records };
 
-    ghost associative = { normal_associative };
+    ghost associative = { λ a b c. same_normal (normal_joined a (normal_joined b c)) (normal_joined (normal_joined a b) c)
+        (states_assoc a.0 b.0 c.0) };
 
-    ghost commutative = { normal_commutative };
+    ghost commutative = { λ a b. same_normal (normal_joined a b) (normal_joined b a) (states_comm a.0 b.0) };
 
-    ghost idempotent = { normal_idempotent };
+    ghost idempotent = { λ a. same_normal (normal_joined a a) a (states_same a) };
 
-    ghost least_joined = { nothing_joined };
+    ghost least_joined = { λ a. same_normal (normal_joined nothing_known a) a (nothing_adds a) };
 
     fn ready(&mut self, alloc: Global, other: &Self) -> Result<(), AllocError> {
         self.records.ready(alloc, &other.records)

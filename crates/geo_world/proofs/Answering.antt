@@ -3,8 +3,8 @@ use Rattle.std.proofs.Common.{◌≡◌, ◌≢◌, ◌⊎◌, ℕ, zero, suc, �
 use Rattle.std.proofs.lemmas.List.{length-set}
 use Rattle.std.specs.Prelude.{is_some}
 use Rattle.geo_versions.specs.Maps.{has_register}
-use Rattle.geo_versions.specs.Operations.{Act, latest, version_in, version_of}
-use Rattle.geo_versions.specs.Operations.Act.{Delete}
+use Rattle.geo_records.specs.Operations.{Act, latest, version_in, version_of}
+use Rattle.geo_records.specs.Operations.Act.{Delete}
 use Rattle.geo_delta.specs.declared.parcel.Parcel.{Parcel}
 use Rattle.geo_grammar.specs.declared.request.Request.{Request}
 use Rattle.geo_grammar.specs.declared.reply.Reply.{Reply}

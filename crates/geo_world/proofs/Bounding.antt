@@ -7,8 +7,8 @@ use Rattle.std.proofs.lemmas.List.{get_or_append_left}
 use Rattle.std.proofs.Math.Seq.{get_or-append_seam}
 use Rattle.geo_stamp.specs.Acks.{row_of, heard, none_heard}
 use Rattle.geo_stamp.specs.Vectors.{entry_of, zeros, vector_joined, raised, greatest_of, Knows}
-use Rattle.geo_stamp.specs.Joins.{joined_assoc, joined_comm, joined_same}
-use Rattle.geo_versions.specs.Operations.{Operation, Act, Among, latest}
+use Rattle.geo_laws.proofs.Joins.{joined_assoc, joined_comm, joined_same}
+use Rattle.geo_records.specs.Operations.{Operation, Act, Among, latest}
 use Rattle.geo_versions.proofs.Meaning.{latest_append}
 use Rattle.geo_delta.specs.declared.parcel.Parcel.{Parcel}
 use Rattle.geo_site.specs.declared.site.Site.{Site}

@@ -8,7 +8,7 @@ use Rattle.std.proofs.Math.Seq.{get_or-append_seam}
 use Rattle.geo_stamp.specs.Stamps.{Moment}
 use Rattle.geo_stamp.specs.Acks.{row_of, heard, with_own, horizon_of}
 use Rattle.geo_stamp.specs.Vectors.{entry_of, vector_joined, raised, greatest_of}
-use Rattle.geo_versions.specs.Operations.{Operation, Among, Record, latest}
+use Rattle.geo_records.specs.Operations.{Operation, Among, Record, latest}
 use Rattle.geo_versions.specs.Maps.{Rec, rec_means, listed_at, is_unknown, since, Rising}
 use Rattle.geo_delta.specs.declared.parcel.Parcel.{Parcel}
 use Rattle.geo_site.specs.declared.site.Site.{Site}

@@ -1,7 +1,7 @@
 -- What a command and a reap add, after a due flush.
 use Rattle.std.proofs.Common.{◌≡◌, ℕ, Bool, true, cond, Option, List, Ok, Err, sym, ◌∙◌, subst, true≢false}
 use Rattle.std.specs.Prelude.{Result, IfOk, IfErr}
-use Rattle.geo_versions.specs.Operations.{latest}
+use Rattle.geo_records.specs.Operations.{latest}
 use Rattle.geo_grammar.specs.declared.request.Request.{Request}
 use Rattle.geo_grammar.specs.declared.reply.Reply.{Reply}
 use Rattle.geo_site.specs.declared.event.Event.TheVariants.{Command, Reap}

@@ -4,12 +4,12 @@ use Rattle.std.proofs.lemmas.Bool.{cases_eq}
 use Rattle.geo_stamp.specs.Stamps.{last_time}
 use Rattle.geo_stamp.specs.Acks.{row_of, heard, with_own, least_in, horizon_of}
 use Rattle.geo_stamp.specs.Vectors.{entry_of, least_of, vector_joined}
-use Rattle.geo_versions.specs.Operations.{Operation}
+use Rattle.geo_records.specs.Operations.{Operation}
 use Rattle.geo_delta.specs.declared.parcel.Parcel.{Parcel}
 use Rattle.geo_site.specs.Machine.{SiteState, clock_of, issue, issue_all}
 use Rattle.geo_site.specs.Schedule.{StableAt}
-use Rattle.geo_versions.specs.Operations.{Act}
-use Rattle.geo_stamp.specs.Joins.{joined_same}
+use Rattle.geo_records.specs.Operations.{Act}
+use Rattle.geo_laws.proofs.Joins.{joined_same}
 use Rattle.geo_world.specs.Bounds.{IsAbove, Bounded}
 use Rattle.geo_world.proofs.Bounding.{above_entry, above_trans, above_raised, above_joined, heard_here, heard_there}
 

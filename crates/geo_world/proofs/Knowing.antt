@@ -1,7 +1,7 @@
 -- What a site of the plain program knows and holds, change by change.
 use Rattle.std.proofs.Common.{◌≡◌, ℕ, List, [], ◌∷◌, ◌++◌, Option, None, Some, refl, ap, ◌∙◌}
 use Rattle.std.proofs.lemmas.List.{map-append}
-use Rattle.geo_versions.specs.Operations as spec
+use Rattle.geo_records.specs.Operations as spec
 use Rattle.geo_stamp.specs.Stamps.{Moment}
 use Rattle.geo_site.specs.Entries.{Held, named_by, entry_in}
 use Rattle.geo_site.specs.Machine.{act_held, without}

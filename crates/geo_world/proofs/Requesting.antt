@@ -1,7 +1,7 @@
 -- What a request adds at a site of the plain program.
 use Rattle.std.proofs.Common.{◌≡◌, ℕ, ◌==◌, Bool, true, false, cond, Option, List, [], ◌∷◌, ◌++◌, Ok, Err, refl, sym, ap, ◌∙◌, subst, true≢false}
 use Rattle.std.specs.Prelude.{Result}
-use Rattle.geo_versions.specs.Operations.{Act, latest}
+use Rattle.geo_records.specs.Operations.{Act, latest}
 use Rattle.geo_grammar.specs.declared.request.Request.{Request}
 use Rattle.geo_memcache.specs.Asks.{request_of}
 use Rattle.geo_memcache.specs.Decisions.{decided}

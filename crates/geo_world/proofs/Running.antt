@@ -9,7 +9,7 @@ use Rattle.geo_site.specs.declared.event.Trace.{Trace}
 use Rattle.geo_site.specs.Schedule.{Known, happens, known, Lawful, EachLawful}
 use Rattle.geo_site.proofs.Served.{lawful_more, known_more}
 use Rattle.geo_world.specs.There.{is_there, all_there, is_in_time, all_in_time, EachThere, IsMissing}
-use Rattle.geo_versions.specs.Operations.{Operation, State, version_in, SameOperations}
+use Rattle.geo_records.specs.Operations.{Operation, State, version_in, SameOperations}
 use Rattle.geo_versions.proofs.Meaning.{state_same}
 use Rattle.geo_site.specs.Sites.{state_in}
 use Rattle.geo_site.proofs.Steps.{state_version}
@@ -21,6 +21,7 @@ use Rattle.geo_world.specs.declared.outcome.WorldError.TheVariants.{Setups, BadE
 use Rattle.geo_world.specs.declared.world.World.{World}
 use Rattle.geo_world.specs.Setups.{are_setups, start}
 use Rattle.geo_world.specs.Tables.{Tables, kept_after, kept, Keep, Tallies, EachTallies, Tabled}
+use Rattle.geo_world.specs.Running.{HasAllRun}
 use Rattle.geo_world.specs.Agreement.{SiteKnown, StepDoes, RunRefuses, Stands, Agrees, ShowsVersions, SameVersions}
 
 there_more : (n : ℕ) (w : Known) (es : List Event) (ts : List Trace) (e : Event) (t : Trace) → EachLawful w es ts → EachThere n w es ts → is_there n (length (known w es ts).sent) e ≡ true → EachThere n w (es ++ e ∷ []) (ts ++ t ∷ [])
@@ -49,14 +50,6 @@ pub record HasRun (first : Known) (none : Tables) (sites : List Site) (parcels :
   pub agrees : Agrees sites parcels (known first (take index events) traces)
   pub tallies : EachTallies first none (take index events) traces
   pub keep : Keep sites parcels (kept first none (take index events) traces)
-
-pub record HasAllRun (first : Known) (none : Tables) (sites : List Site) (parcels : List Parcel) (events : List Event) (traces : List Trace) : Type 0 where
-  pub told : length traces ≡ length events
-  pub lawful : EachLawful first events traces
-  pub there : EachThere (length sites) first events traces
-  pub agrees : Agrees sites parcels (known first events traces)
-  pub tallies : EachTallies first none events traces
-  pub keep : Keep sites parcels (kept first none events traces)
 
 module _ (first : Known) (none : Tables) (sites sites' : List Site) (parcels parcels' : List Parcel) (events : List Event) (traces : List Trace) (index : ℕ) (event : Event) (trace : Trace) (run : HasRun first none sites parcels events traces index)
     (lt : index < length events) (at : event ≡ get_or events index event) (as_many : length sites' ≡ length sites)

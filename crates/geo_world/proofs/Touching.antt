@@ -3,8 +3,8 @@ use Rattle.std.proofs.Common.{◌≡◌, ℕ, ◌+◌, ◌≤◌, ◌-◌, get_o
 use Rattle.std.specs.Prelude.{Result, IfOk}
 use Rattle.std.proofs.lemmas.List.{map-append, append_assoc, append-nil, take_all}
 use Rattle.geo_stamp.specs.Stamps.{last_time}
-use Rattle.geo_versions.specs.Operations.{Act, latest}
-use Rattle.geo_versions.specs.Operations.Act.{Touch}
+use Rattle.geo_records.specs.Operations.{Act, latest}
+use Rattle.geo_records.specs.Operations.Act.{Touch}
 use Rattle.geo_versions.proofs.Meaning.{latest_append}
 use Rattle.geo_site.specs.Entries.{Visible, found_after, touched_after, touches_of, lacks}
 use Rattle.geo_site.specs.Machine.{act_held}

@@ -3,7 +3,7 @@ use Rattle.std.specs.Prelude.{Result, Ok, Err, ◌≡◌, ◌≢◌, ◌⊎◌, 
 use Rattle.geo_stamp.specs.Acks.{row_of, with_own}
 use Rattle.geo_stamp.specs.Vectors.{entry_of}
 use Rattle.geo_stamp.specs.Stamps.{last_time}
-use Rattle.geo_versions.specs.Operations.{Operation, version_in, version_of, floor_of}
+use Rattle.geo_records.specs.Operations.{Operation, version_in, version_of, floor_of}
 use Rattle.geo_delta.specs.declared.parcel.Parcel.{Parcel}
 use Rattle.geo_site.specs.declared.site.Site.{Site}
 use Rattle.geo_site.specs.Entries.{Held, Counts, none_counted}

@@ -3,7 +3,7 @@
 use Rattle.std.specs.Prelude.{◌≡◌, ℕ, zero, suc, ◌≤◌, List, [], ◌∷◌, Some, slice_get, slice_index_or}
 use Rattle.geo_stamp.specs.Acks.{row_of}
 use Rattle.geo_stamp.specs.Vectors.{entry_of, vector_joined, Knows}
-use Rattle.geo_versions.specs.Operations.{Operation, Among, latest}
+use Rattle.geo_records.specs.Operations.{Operation, Among, latest}
 use Rattle.geo_delta.specs.declared.parcel.Parcel.{Parcel}
 use Rattle.geo_site.specs.declared.site.Site.{Site}
 use Rattle.geo_site.specs.Sites.{heard_in}

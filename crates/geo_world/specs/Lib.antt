@@ -4,3 +4,4 @@ pub mod Bounds
 pub mod Agreement
 pub mod Tables
 pub mod Plain
+pub mod Running

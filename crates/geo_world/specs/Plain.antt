@@ -2,7 +2,7 @@
 use Rattle.std.specs.Prelude.{◌≡◌, ℕ, ◌+◌, Bool, true, false, ◌&&◌, Result, Ok, Err, cond, List, [], ◌∷◌, Option, None, Some, map, slice_get}
 use Rattle.std.specs.Borrow.{Bor}
 use Rattle.geo_stamp.specs.Stamps.{Moment}
-use Rattle.geo_versions.specs.Keys.{same_key}
+use Rattle.geo_records.specs.Keys.{same_key}
 use Rattle.geo_site.specs.Entries.{Held, Visible, Counts, named_by, entry_in, lacks}
 use Rattle.geo_site.specs.Schedule as spec_known
 use Rattle.geo_site.specs.Schedule.{issues}
@@ -11,7 +11,7 @@ use Rattle.geo_world.specs.declared.plain.known.PlainError.{PlainError}
 use Rattle.geo_world.specs.declared.plain.known.PlainError.TheVariants.{NotThere, ClockEnded, Memory}
 use Rattle.geo_site.specs.declared.event.Event.{Event}
 use Rattle.geo_world.specs.There.{is_there, is_in_time}
-use Rattle.geo_versions.specs.Operations as spec
+use Rattle.geo_records.specs.Operations as spec
 use Rattle.geo_world.specs.declared.plain.operation.Act.{Act}
 use Rattle.geo_world.specs.declared.plain.operation.Act.TheVariants.{Write, Delete, Touch, Flush}
 use Rattle.geo_world.specs.declared.plain.operation.Operation.{Operation}

@@ -5,7 +5,7 @@ use Rattle.geo_stamp.specs.Acks.{row_of, none_heard, heard, horizon_of}
 use Rattle.geo_stamp.specs.Stamps.{Moment}
 use Rattle.geo_stamp.specs.Vectors.{zeros, vector_joined, greatest_of, raised}
 use Rattle.geo_versions.specs.Maps.{since, remaining, recent_both, floor_in, record_in}
-use Rattle.geo_versions.specs.Operations.{Act, Record, record_joined, floor_joined, above_both, body_of, expiry_of, flush_of, latest}
+use Rattle.geo_records.specs.Operations.{Act, Record, record_joined, floor_joined, above_both, body_of, expiry_of, flush_of, latest}
 use Rattle.geo_delta.specs.declared.parcel.Parcel.{Parcel}
 use Rattle.geo_grammar.specs.declared.request.Request.{Request}
 use Rattle.geo_grammar.specs.declared.reply.Reply.{Reply}

@@ -1,6 +1,6 @@
 //! Whole schedules.
 ghost use Rattle.std.specs.Prelude.{◌≡◌, ℕ, ◌+◌, length, IfOk, IfErr, slice_get, Some, true};
-ghost use Rattle.geo_versions.specs.Operations.{SameOperations};
+ghost use Rattle.geo_records.specs.Operations.{SameOperations};
 ghost use Rattle.geo_site.specs.declared.site.Site.{Site};
 ghost use Rattle.geo_site.specs.Schedule.{Known, known, EachLawful};
 ghost use Rattle.geo_site.specs.Served.{NoCollision, AllServe};

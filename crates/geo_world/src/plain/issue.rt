@@ -1,7 +1,7 @@
 //! What a site issues and evicts, and the flush that waits there.
 ghost use Rattle.std.specs.Prelude.{[], ◌∷◌, ◌≡◌, ◌≤◌, ◌<◌, ◌+◌, ◌^◌, Option, ℕ, length, IfOk, IfErr, true};
 ghost use Rattle.geo_stamp.specs.Stamps.{last_time};
-ghost use Rattle.geo_versions.specs.Operations.{latest as latest_of};
+ghost use Rattle.geo_records.specs.Operations.{latest as latest_of};
 ghost use Rattle.geo_site.specs.Entries.{lacks};
 ghost use Rattle.geo_site.specs.Schedule.{Known as Knowing, evicts, waits, flushed, reaps_on};
 ghost use Rattle.geo_world.specs.declared.plain.known.PlainError.TheVariants.{Memory};

@@ -1,9 +1,9 @@
 //! What a set of operations means.
 ghost use Rattle.std.specs.Prelude.{◌≡◌, ℕ, length, None, Some, map, cond};
-ghost use Rattle.geo_versions.specs.Operations.{latest as latest_of, floor_of, floor_joined, body_joined, expiry_joined, flush_of, body_of, expiry_of, newest, above, is_above, version_in, version_of as version_named};
-ghost use Rattle.geo_lattice.specs.Registers.{by_both};
+ghost use Rattle.geo_records.specs.Operations.{latest as latest_of, floor_of, floor_joined, body_joined, expiry_joined, flush_of, body_of, expiry_of, newest, above, is_above, version_in, version_of as version_named};
+ghost use Rattle.geo_laws.specs.Registers.{by_both};
 ghost use Rattle.geo_stamp.specs.Stamps.{stamp_cmp};
-ghost use Rattle.geo_versions.specs.Bodies.{body_cmp};
+ghost use Rattle.geo_records.specs.Bodies.{body_cmp};
 ghost use Rattle.std.specs.Ordering.{nat_cmp};
 ghost use Rattle.geo_site.specs.Entries.{names};
 ghost use Rattle.geo_world.specs.Plain.{act_of, is_about, operation_of, operations_of};

@@ -3,9 +3,9 @@ use Rattle.std.specs.List.{All, list_any}
 use Rattle.std.specs.List.Sorted.{IsStrictlySortedBy}
 use Rattle.std.specs.Cmp.Lexicographic.{slice_cmp}
 use Rattle.std.specs.Ordering.{nat_cmp}
-use Rattle.geo_versions.specs.Keys.{same_key}
+use Rattle.geo_records.specs.Keys.{same_key}
 use Rattle.geo_versions.specs.Maps.{Rising, rec_means, record_in, since, listed_at}
-use Rattle.geo_versions.specs.Operations.{Record}
+use Rattle.geo_records.specs.Operations.{Record}
 use Rattle.geo_delta.proofs.News.{found_is_news, one_more, none_more, news_rise, news_at, news_filled}
 use Rattle.geo_lattice.proofs.Showing.{rest_more, rest_none}
 use Rattle.geo_delta.proofs.changes.looked_up.Goals as goal

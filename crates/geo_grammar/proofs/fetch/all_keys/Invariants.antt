@@ -1,6 +1,6 @@
 use Rattle.std.proofs.Common.{◌≡◌, length}
 use Rattle.std.specs.List.{list_all}
-use Rattle.geo_versions.specs.Keys.{is_key}
+use Rattle.geo_records.specs.Keys.{is_key}
 use Rattle.geo_grammar.specs.Words.{words_of}
 use Rattle.geo_grammar.proofs.fetch.all_keys.Given as goal
 

@@ -1,5 +1,5 @@
 use Rattle.std.proofs.Common.{◌≡◌, refl, sym, ◌∙◌, subst, true≢false}
-use Rattle.geo_versions.specs.Operations.{above_both, record_joined}
+use Rattle.geo_records.specs.Operations.{above_both, record_joined}
 use Rattle.geo_versions.specs.Maps.{floor_in, record_in, listed_at}
 use Rattle.geo_values.specs.Held.{stock_in}
 use Rattle.geo_values.specs.Links.{Kept}

@@ -1,6 +1,6 @@
 use Rattle.std.proofs.Common.{rules, ◌≡◌, ℕ, List, length, Some, refl, ap, ◌∙◌}
 use Rattle.sha2.specs.Sha256.{sha256}
-use Rattle.geo_versions.specs.Operations.{version_in}
+use Rattle.geo_records.specs.Operations.{version_in}
 use Rattle.geo_versions.specs.Maps.{record_in}
 use Rattle.geo_values.specs.Held.{stock_in}
 use Rattle.geo_site.specs.Entries.{names}

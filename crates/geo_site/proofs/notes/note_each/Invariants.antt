@@ -1,5 +1,5 @@
 use Rattle.std.proofs.Common.{ℕ, List, drop}
-use Rattle.geo_versions.specs.Operations.{Record}
+use Rattle.geo_records.specs.Operations.{Record}
 use Rattle.geo_delta.specs.Changes.{KnowsBut, Traced, nothing_pending}
 use Rattle.geo_site.specs.Noting.{is_listed}
 use Rattle.geo_site.proofs.notes.note_each.Given as goal

@@ -1,6 +1,6 @@
 use Rattle.std.proofs.Common.{◌≡◌, ◌≤◌, ◌∙◌, ℕ, List, length, cond, Option, Some, IfSome, IsSome, is_some, sym, subst, ap}
 use Rattle.indexmap.specs.IndexMap.{get}
-use Rattle.geo_versions.specs.Keys.{same_key}
+use Rattle.geo_records.specs.Keys.{same_key}
 use Rattle.geo_slabs.specs.Storage.{chunk_bytes, held_in, so_long, with_held}
 use Rattle.geo_values.specs.Steps.{rewritten}
 use Rattle.geo_values.specs.declared.parts.Item.{Item}

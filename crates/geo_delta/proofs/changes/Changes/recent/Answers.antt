@@ -1,6 +1,6 @@
 use Rattle.std.proofs.Common.{ap, ◌∙◌}
 use Rattle.std.specs.List.{list_any}
-use Rattle.geo_versions.specs.Keys.{same_key}
+use Rattle.geo_records.specs.Keys.{same_key}
 use Rattle.geo_versions.specs.Maps.{record_in}
 use Rattle.geo_delta.proofs.Recent.{all_news}
 use Rattle.geo_delta.proofs.changes.Changes.recent.Goals as goal

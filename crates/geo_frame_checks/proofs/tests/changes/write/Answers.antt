@@ -1,5 +1,5 @@
 use Rattle.std.proofs.Common.{Some, cond, ap, sym, refl, ◌∙◌, subst}
-use Rattle.geo_versions.specs.Operations.{Record, above_both, record_joined}
+use Rattle.geo_records.specs.Operations.{Record, above_both, record_joined}
 use Rattle.geo_versions.specs.Maps.{floor_in, record_in}
 use Rattle.geo_delta.specs.Changes.{Traced, nothing_pending}
 use Rattle.geo_delta.proofs.Tracing.{traced_one}

@@ -2,10 +2,10 @@ use Rattle.std.proofs.Common.{refl, ◌≡◌, ◌+◌, ℕ, List, true, false, 
 use Rattle.std.specs.Prelude.{cond, Some, None, Option}
 use Rattle.geo_stamp.specs.Stamps.{Moment}
 use Rattle.geo_stamp.specs.Vectors.{raised, greatest_of}
-use Rattle.geo_versions.specs.Keys.{same_key}
-use Rattle.geo_versions.specs.Operations.{Record, above_both, record_joined, version_in}
-use Rattle.geo_versions.specs.Operations.Act.{Delete}
-use Rattle.geo_versions.specs.declared.body.Body.TheVariants.{Gone}
+use Rattle.geo_records.specs.Keys.{same_key}
+use Rattle.geo_records.specs.Operations.{Record, above_both, record_joined, version_in}
+use Rattle.geo_records.specs.Operations.Act.{Delete}
+use Rattle.geo_records.specs.declared.body.Body.TheVariants.{Gone}
 use Rattle.geo_versions.specs.Maps.{floor_in, record_in}
 use Rattle.geo_values.specs.Held.{stock_in}
 use Rattle.geo_site.specs.Entries.{Held}

@@ -1,5 +1,5 @@
 use Rattle.std.proofs.Common.{ℕ, List, Some, [], ◌∷◌, ap, ◌∙◌, sym}
-use Rattle.geo_versions.specs.Operations.Act.{Write}
+use Rattle.geo_records.specs.Operations.Act.{Write}
 use Rattle.sha2.specs.Sha256.{sha256}
 use Rattle.geo_site.specs.Entries.{acts_of, made_of}
 use Rattle.geo_site.specs.Sites.{victim_in}

@@ -1,5 +1,5 @@
 use Rattle.std.proofs.Common.{◌≡◌, ◌+◌, ◌∙◌, sym, arith}
-use Rattle.geo_versions.specs.Operations.{version_in}
+use Rattle.geo_records.specs.Operations.{version_in}
 use Rattle.geo_site.specs.Sites.{state_in}
 use Rattle.geo_versions.specs.Maps.{record_in}
 use Rattle.geo_site.proofs.Ending.{early_kept}

@@ -1,7 +1,7 @@
 use Rattle.std.proofs.Common.{◌≡◌, Some, sym, ap, ◌∙◌}
 use Rattle.std.specs.Option.{option_map}
 use Rattle.geo_memcache.specs.Entries.{entry_of}
-use Rattle.geo_versions.specs.Operations.{version_in}
+use Rattle.geo_records.specs.Operations.{version_in}
 use Rattle.geo_site.specs.Entries.{names, entry_in}
 use Rattle.geo_site.specs.Sites.{state_in}
 use Rattle.geo_site.proofs.Looking.{unseen}

@@ -3,7 +3,7 @@ use Rattle.std.specs.List.{All}
 use Rattle.geo_stamp.specs.Vectors.{greatest_of}
 use Rattle.geo_stamp.specs.Stamps.{last_time}
 use Rattle.geo_grammar.specs.declared.reply.Found.{Found}
-use Rattle.geo_versions.specs.Operations.{Record}
+use Rattle.geo_records.specs.Operations.{Record}
 use Rattle.geo_grammar.specs.declared.reply.Reply.TheVariants.{Values}
 use Rattle.geo_site.specs.Entries.{keys_found, touches_of}
 use Rattle.geo_site.specs.Machine.{Same, accessed, issue_all}

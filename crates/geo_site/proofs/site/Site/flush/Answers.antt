@@ -3,7 +3,7 @@ use Rattle.std.specs.Prelude.{Some}
 use Rattle.geo_values.specs.Held.{stock_in}
 use Rattle.geo_stamp.specs.Stamps.{Moment}
 use Rattle.geo_stamp.specs.Vectors.{raised, greatest_of}
-use Rattle.geo_versions.specs.Operations.{floor_joined, version_in}
+use Rattle.geo_records.specs.Operations.{floor_joined, version_in}
 use Rattle.geo_versions.specs.Maps.{floor_in, record_in}
 use Rattle.geo_site.specs.Entries.{Held, named_by}
 use Rattle.geo_site.proofs.Stocking.{settled_held}

@@ -1,7 +1,7 @@
 use Rattle.std.proofs.Common.{◌≡◌, List, true, cond, [], ◌∷◌, inl, refl, sym, ap, ◌∙◌, subst, arith}
 use Rattle.std.proofs.lemmas.Bool.Decides.{nat_tests}
-use Rattle.geo_versions.specs.Operations.{Act}
-use Rattle.geo_versions.specs.Operations.Act.{Flush}
+use Rattle.geo_records.specs.Operations.{Act}
+use Rattle.geo_records.specs.Operations.Act.{Flush}
 use Rattle.geo_site.specs.Entries.{lacks, flushes_now}
 use Rattle.geo_site.specs.Sites.{clock_in, HasIssued}
 use Rattle.geo_site.proofs.Acting.{later}

@@ -2,7 +2,7 @@ use Rattle.std.proofs.Common.{◌≡◌, ℕ, true, List, subst, arith, ap, sym,
 use Rattle.geo_values.specs.Held.{stock_in}
 use Rattle.geo_site.proofs.Stocking.{settled_held}
 use Rattle.geo_stamp.specs.Vectors.{vector_joined, greatest_of, raised}
-use Rattle.geo_versions.specs.Operations.{above_both, record_joined, floor_joined, version_in}
+use Rattle.geo_records.specs.Operations.{above_both, record_joined, floor_joined, version_in}
 use Rattle.geo_versions.specs.Maps.{Rec, listed_at}
 use Rattle.geo_versions.specs.Maps.{floor_in, record_in}
 use Rattle.geo_site.specs.Machine.{knows_record, knows_floor}

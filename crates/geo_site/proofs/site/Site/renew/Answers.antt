@@ -4,8 +4,8 @@ use Rattle.geo_values.specs.Held.{stock_in}
 use Rattle.geo_site.proofs.Stocking.{stock_same}
 use Rattle.geo_stamp.specs.Stamps.{Moment}
 use Rattle.geo_stamp.specs.Vectors.{raised, greatest_of}
-use Rattle.geo_versions.specs.Keys.{same_key}
-use Rattle.geo_versions.specs.Operations.{Record, above_both, record_joined}
+use Rattle.geo_records.specs.Keys.{same_key}
+use Rattle.geo_records.specs.Operations.{Record, above_both, record_joined}
 use Rattle.geo_versions.specs.Maps.{floor_in, record_in}
 use Rattle.geo_site.specs.Entries.{Held}
 use Rattle.geo_site.specs.Machine.{knows_floor, knows_record}

@@ -1,7 +1,7 @@
 use Rattle.std.proofs.Common.{◌≡◌, ◌+◌, take, refl, sym, ap, ◌∙◌, subst, arith}
 use Rattle.geo_grammar.specs.declared.reply.Found.{Found}
-use Rattle.geo_versions.specs.Operations.{Record}
-use Rattle.geo_versions.specs.Operations.Act.{Touch}
+use Rattle.geo_records.specs.Operations.{Record}
+use Rattle.geo_records.specs.Operations.Act.{Touch}
 use Rattle.geo_stamp.specs.Vectors.{greatest_of}
 use Rattle.geo_site.specs.declared.site.Site.{Site}
 use Rattle.geo_site.specs.Machine.{Same, issue, issue_all}

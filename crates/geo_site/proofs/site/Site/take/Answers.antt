@@ -4,7 +4,7 @@ use Rattle.geo_site.proofs.Stocking.{stock_same}
 use Rattle.geo_site.proofs.Taking.{take_from_same}
 use Rattle.geo_versions.specs.Maps.{record_in, listed_at, HasRoomFor, Rec}
 use Rattle.geo_lattice.specs.Maps.{missing}
-use Rattle.geo_versions.specs.Keys.{same_key}
+use Rattle.geo_records.specs.Keys.{same_key}
 use Rattle.geo_site.proofs.Noting.{traced_same, covers_same, ends_same, named_same}
 use Rattle.geo_values.specs.Held.{stock_in}
 use Rattle.geo_site.specs.Machine.{Delta, Same, take, sifted_delta, knows_floor}

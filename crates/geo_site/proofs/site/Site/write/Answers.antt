@@ -3,10 +3,10 @@ use Rattle.std.specs.Prelude.{cond, Some, Option, true}
 use Rattle.sha2.specs.Sha256.{sha256}
 use Rattle.geo_stamp.specs.Stamps.{Moment}
 use Rattle.geo_stamp.specs.Vectors.{raised, greatest_of}
-use Rattle.geo_versions.specs.Keys.{same_key}
-use Rattle.geo_versions.specs.Operations.{Record, above_both, record_joined}
-use Rattle.geo_versions.specs.Operations.Act.{Write}
-use Rattle.geo_versions.specs.declared.body.Body.TheVariants.{Value}
+use Rattle.geo_records.specs.Keys.{same_key}
+use Rattle.geo_records.specs.Operations.{Record, above_both, record_joined}
+use Rattle.geo_records.specs.Operations.Act.{Write}
+use Rattle.geo_records.specs.declared.body.Body.TheVariants.{Value}
 use Rattle.geo_versions.specs.Maps.{floor_in, record_in, rec_means, listed_at}
 use Rattle.geo_values.specs.Stock.{IsStored}
 use Rattle.geo_values.specs.Held.{stock_in}

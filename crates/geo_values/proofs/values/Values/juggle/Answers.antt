@@ -1,5 +1,5 @@
 use Rattle.std.proofs.Common.{◌≡◌, IfOk, OnOk, OnErr, IsTrue, IsSome, is_some, subst}
-use Rattle.geo_versions.specs.Keys.{same_key}
+use Rattle.geo_records.specs.Keys.{same_key}
 use Rattle.geo_lru.specs.Rules.{juggled_by, leaves_list}
 use Rattle.geo_values.specs.Stock.{Same, juggled_in}
 use Rattle.geo_values.specs.Held.{stock_in}

@@ -1,6 +1,6 @@
 use Rattle.std.proofs.Common.{◌≡◌, ◌∙◌, is_some, sym, subst}
 use Rattle.std.specs.List.{list_any}
-use Rattle.geo_versions.specs.Keys.{same_key}
+use Rattle.geo_records.specs.Keys.{same_key}
 use Rattle.geo_values.specs.Stock.{IsListed}
 use Rattle.geo_values.specs.Held.{stock_in, keys_in}
 use Rattle.geo_values.specs.Links.{Kept}

@@ -1,8 +1,8 @@
 use Rattle.std.proofs.Common.{rules, ◌≡◌, ◌≤◌, ◌∙◌, ap, sym, subst, List, ℕ}
 use Rattle.std.specs.List.{All}
 use Rattle.geo_lattice.specs.Maps.{get}
-use Rattle.geo_versions.specs.Keys.{same_key}
-use Rattle.geo_versions.specs.Operations.{above_both, record_joined}
+use Rattle.geo_records.specs.Keys.{same_key}
+use Rattle.geo_records.specs.Operations.{above_both, record_joined}
 use Rattle.geo_versions.specs.Records.{Rec, rec_means, record_at, listed_at, LastsTo, lasting_of}
 use Rattle.geo_versions.proofs.Cut.{changed_above, listed_above, cut_normal, joined_at_floor, joined_at_rise}
 use Rattle.geo_versions.proofs.Lasting.{lasts_less, lasts_joined, lasts_listed}

@@ -1,6 +1,6 @@
 use Rattle.std.proofs.Common.{◌∙◌, arith}
 use Rattle.geo_lattice.specs.Maps.{get}
-use Rattle.geo_versions.specs.Keys.{same_key}
+use Rattle.geo_records.specs.Keys.{same_key}
 use Rattle.geo_versions.specs.Records.{record_at}
 use Rattle.geo_versions.proofs.Cut.{changed_above, cut_normal}
 use Rattle.geo_versions.proofs.versions.Versions.raise_floor.Goals as goal

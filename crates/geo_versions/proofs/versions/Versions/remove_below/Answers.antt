@@ -1,7 +1,7 @@
 use Rattle.std.proofs.Common.{◌≡◌, ◌∙◌, ap, sym, List, ℕ}
 use Rattle.geo_lattice.specs.Maps.{get}
-use Rattle.geo_versions.specs.Keys.{same_key}
-use Rattle.geo_versions.specs.Operations.{Record, above_both}
+use Rattle.geo_records.specs.Keys.{same_key}
+use Rattle.geo_records.specs.Operations.{Record, above_both}
 use Rattle.geo_versions.specs.Records.{record_at}
 use Rattle.geo_versions.proofs.Sifting.{remaining_at, remaining_above}
 use Rattle.geo_versions.proofs.Lasting.{lasts_found}

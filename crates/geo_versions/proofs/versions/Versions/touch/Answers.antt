@@ -1,6 +1,6 @@
 use Rattle.std.proofs.Common.{◌≡◌, ◌∙◌, sym, cond}
-use Rattle.geo_versions.specs.Keys.{same_key}
-use Rattle.geo_versions.specs.Operations.{Record, above_both, record_joined}
+use Rattle.geo_records.specs.Keys.{same_key}
+use Rattle.geo_records.specs.Operations.{Record, above_both, record_joined}
 use Rattle.geo_versions.specs.Records.{record_at}
 use Rattle.geo_versions.proofs.Cut.{one_joined_normal, touch_above}
 use Rattle.geo_versions.proofs.Lasting.{lasts_touch}

@@ -1,5 +1,5 @@
 use Rattle.std.proofs.Common.{◌≡◌, ◌≤◌, ◌∙◌, sym, ap, Some, arith}
-use Rattle.geo_versions.specs.Operations.{Record, above_both}
+use Rattle.geo_records.specs.Operations.{Record, above_both}
 use Rattle.geo_versions.specs.Records.{record_at, lasting_of}
 use Rattle.geo_versions.proofs.Cut.{one_joined_normal, none_joined_is, write_above, write_below}
 use Rattle.geo_versions.proofs.Lasting.{lasts_less, lasts_normal, lasts_put, lasts_same}

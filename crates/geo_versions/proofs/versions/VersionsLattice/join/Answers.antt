@@ -1,8 +1,8 @@
 use Rattle.std.proofs.Common.{rules, ◌≡◌, ◌∙◌, sym, ap, List, ℕ, arith}
 use Rattle.geo_lattice.specs.Maps.{get}
-use Rattle.geo_versions.specs.Keys.{same_key}
-use Rattle.geo_versions.specs.Normal.{same_normal}
-use Rattle.geo_versions.specs.Operations.{above_both, record_joined}
+use Rattle.geo_records.specs.Keys.{same_key}
+use Rattle.geo_records.proofs.Normal.{same_normal}
+use Rattle.geo_records.specs.Operations.{above_both, record_joined}
 use Rattle.geo_versions.specs.Records.{record_at}
 use Rattle.geo_versions.proofs.Cut.{changed_above, cut_normal, joined_at_floor, joined_at_rise}
 use Rattle.geo_versions.proofs.versions.VersionsLattice.join.Goals as goal

@@ -1,6 +1,6 @@
 use Rattle.std.proofs.Common.{◌∙◌, sym, ap, List, ℕ}
-use Rattle.geo_versions.specs.Normal.{same_normal}
-use Rattle.geo_versions.specs.Operations.{Record, above_both}
+use Rattle.geo_records.proofs.Normal.{same_normal}
+use Rattle.geo_records.specs.Operations.{Record, above_both}
 use Rattle.geo_versions.specs.Records.{record_at}
 use Rattle.geo_versions.proofs.Lasting.{lasts_same}
 use Rattle.geo_versions.proofs.versions.VersionsLattice.ready.Goals as goal

@@ -1,7 +1,7 @@
 use Rattle.std.proofs.Common.{arith, refl, ap, ◌∙◌, ◌≡◌, ◌+◌, ◌-◌, ◌<◌, List, ℕ, Some, length, slice_get}
 use Rattle.std.proofs.lemmas.Option.{slice_get_read}
-use Rattle.geo_versions.specs.Operations.{floor_of}
-use Rattle.geo_versions.specs.declared.version.Version.{Version}
+use Rattle.geo_records.specs.Operations.{floor_of}
+use Rattle.geo_records.specs.declared.version.Version.{Version}
 use Rattle.geo_world.proofs.Running.{shows}
 use Rattle.geo_cluster.specs.Prints.{versions_text}
 use Rattle.geo_cluster.specs.Progress.{known_in}

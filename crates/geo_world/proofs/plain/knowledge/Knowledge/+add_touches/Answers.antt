@@ -1,7 +1,7 @@
 use Rattle.std.proofs.Common.{◌≡◌, ◌∷◌, ◌++◌, [], Bool, cond, ℕ, List, ◌-◌, length, take, drop, sym, ap, ◌∙◌, subst}
 use Rattle.std.specs.Prelude.{IfOk}
-use Rattle.geo_versions.specs.Operations.{Act as ActOf}
-use Rattle.geo_versions.specs.Operations.Act.{Touch}
+use Rattle.geo_records.specs.Operations.{Act as ActOf}
+use Rattle.geo_records.specs.Operations.Act.{Touch}
 use Rattle.geo_site.specs.Entries.{touched_after, touches_of}
 use Rattle.geo_world.specs.Plain.{acts_of, shown}
 use Rattle.geo_world.proofs.Touching.{first_of, touched, untouched, touches_more}

@@ -1,6 +1,6 @@
 use Rattle.std.proofs.Common.{◌≡◌, Bool, true, List, sym, ap, ◌∙◌, subst}
 use Rattle.std.specs.Prelude.{IfOk}
-use Rattle.geo_versions.specs.Operations.{Act as ActOf}
+use Rattle.geo_records.specs.Operations.{Act as ActOf}
 use Rattle.geo_grammar.specs.Requests.{is_of_one_key}
 use Rattle.geo_grammar.specs.Replies.{is_noreply}
 use Rattle.geo_memcache.specs.Asks.{request_of}

@@ -1,5 +1,5 @@
 use Rattle.std.proofs.Common.{◌∷◌, List, ◌-◌, length, take, drop, sym, ap, ◌∙◌, subst}
-use Rattle.geo_versions.specs.Operations.{Act as ActOf}
+use Rattle.geo_records.specs.Operations.{Act as ActOf}
 use Rattle.geo_world.specs.Plain.{act_of, acts_of, ChangeAdds}
 use Rattle.geo_world.proofs.Touching.{first_of, adds_more}
 use Rattle.geo_world.proofs.plain.known.Known.+issue_all.Goals as goal

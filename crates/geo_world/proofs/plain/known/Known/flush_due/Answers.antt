@@ -1,5 +1,5 @@
 use Rattle.std.proofs.Common.{◌-◌, [], ◌∷◌, length, true, false, refl, sym, ◌∙◌, arith}
-use Rattle.geo_versions.specs.Operations.Act.{Flush}
+use Rattle.geo_records.specs.Operations.Act.{Flush}
 use Rattle.geo_site.specs.Entries.{flushes_due}
 use Rattle.geo_site.specs.Schedule.{issues}
 use Rattle.geo_world.proofs.Worlds.{there_is, read_is}

@@ -1,6 +1,6 @@
 use Rattle.std.proofs.Common.{◌≡◌, ◌-◌, Bool, true, false, cond, ℕ, List, [], ◌∷◌, length, sym, ap, ◌∙◌, subst, arith}
-use Rattle.geo_versions.specs.Operations.{Act, version_of}
-use Rattle.geo_versions.specs.Operations.Act.{Delete}
+use Rattle.geo_records.specs.Operations.{Act, version_of}
+use Rattle.geo_records.specs.Operations.Act.{Delete}
 use Rattle.geo_site.specs.Entries.{is_reapable}
 use Rattle.geo_site.specs.Schedule.{issues, reaps_on}
 use Rattle.geo_world.specs.Plain.{Meets}

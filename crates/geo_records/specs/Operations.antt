@@ -4,13 +4,13 @@ use Rattle.std.specs.Prelude.{◌≡◌, ℕ, ◌⊎◌, max, length, Bool, true
 use Rattle.std.specs.declared.cmp.Ordering.{Ordering}
 use Rattle.std.specs.Ordering.{is_lt, nat_cmp}
 use Rattle.sha2.specs.Sha256.{sha256}
-use Rattle.geo_lattice.specs.Registers.{newer, by_both}
+use Rattle.geo_laws.specs.Registers.{newer, by_both}
 use Rattle.geo_stamp.specs.Stamps.{Moment, stamp_cmp}
-use Rattle.geo_versions.specs.Keys.{same_key}
-use Rattle.geo_versions.specs.Bodies.{body_cmp}
-use Rattle.geo_versions.specs.declared.body.Body.{Body}
-use Rattle.geo_versions.specs.declared.body.Body.TheVariants.{Gone, Value}
-use Rattle.geo_versions.specs.declared.version.Version.{Version}
+use Rattle.geo_records.specs.Keys.{same_key}
+use Rattle.geo_records.specs.Bodies.{body_cmp}
+use Rattle.geo_records.specs.declared.body.Body.{Body}
+use Rattle.geo_records.specs.declared.body.Body.TheVariants.{Gone, Value}
+use Rattle.geo_records.specs.declared.version.Version.{Version}
 
 -- what an operation does; the bytes themselves belong to the write
 pub data Act : Type 0 where

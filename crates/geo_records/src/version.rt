@@ -1,6 +1,6 @@
 //! The version of a key.
 ghost use Rattle.std.specs.Prelude.{◌≡◌, None, Some};
-ghost use Rattle.geo_versions.specs.Operations.{version_in};
+ghost use Rattle.geo_records.specs.Operations.{version_in};
 
 use crate::body::{Body, Rec};
 use crate::digest::Digest;

@@ -6,10 +6,13 @@ use Rattle.std.specs.declared.cmp.Ordering.TheVariants.{Less, Equal, Greater}
 use Rattle.std.specs.Ordering.{ordering_then, ordering_reverse, is_lt, is_gt, nat_cmp}
 use Rattle.std.proofs.lemmas.Cmp.{nat_cmp_total, upto, tied_itself}
 use Rattle.std.proofs.lemmas.Map.Lookups.{exact_pairs, exact_unsigned}
-use Rattle.geo_lattice.specs.Registers.{newer, newer_comm, newer_assoc, newer_same, by_both, both_total, by_order, greater}
-use Rattle.geo_stamp.specs.Stamps.{Moment, stamp_cmp, stamps_total, exact_stamps}
-use Rattle.geo_versions.specs.Bodies.{body_cmp, bodies_total, exact_bodies}
-use Rattle.geo_versions.specs.Operations.{Register, Record, above, above_both, is_above, floor_joined, record_joined}
+use Rattle.geo_laws.specs.Registers.{newer, by_both, by_order, greater}
+use Rattle.geo_laws.proofs.Registers.{newer_comm, newer_assoc, newer_same, both_total}
+use Rattle.geo_stamp.specs.Stamps.{Moment, stamp_cmp}
+use Rattle.geo_stamp.proofs.Stamps.{stamps_total, exact_stamps}
+use Rattle.geo_records.specs.Bodies.{body_cmp}
+use Rattle.geo_records.proofs.Bodies.{bodies_total, exact_bodies}
+use Rattle.geo_records.specs.Operations.{Register, Record, above, above_both, is_above, floor_joined, record_joined}
 
 lt_back : (o : Ordering) → is_lt (ordering_reverse o) ≡ is_gt o
 lt_back Less = refl

@@ -1,7 +1,7 @@
 -- Joining vectors is associative, commutative and idempotent.
 use Rattle.std.specs.Prelude.{◌≡◌, ℕ, max, List, [], ◌∷◌, refl}
 use Rattle.std.proofs.Common.{arith}
-use Rattle.geo_stamp.specs.Vectors.{vector_joined}
+use Rattle.geo_laws.specs.Vectors.{vector_joined}
 
 pub joined_assoc : (a b c : List ℕ) → vector_joined a (vector_joined b c) ≡ vector_joined (vector_joined a b) c
 joined_assoc [] b c = refl

@@ -1,13 +1,14 @@
--- the join of registers: the greater by a total order that tells all values apart
+-- The join of registers is associative, commutative and idempotent, by a total order that tells all values apart.
 use Rattle.std.specs.Prelude.{◌≡◌, ℕ, max, refl}
 use Rattle.std.specs.Prelude.{Option, None, Some}
 use Rattle.std.specs.Cmp.{IsTotalOrder}
 use Rattle.std.specs.declared.cmp.Ordering.{Ordering}
 use Rattle.std.specs.declared.cmp.Ordering.TheVariants.{Less, Equal, Greater}
-use Rattle.std.specs.Ordering.{ordering_reverse, ordering_then}
+use Rattle.std.specs.Ordering.{ordering_reverse}
 use Rattle.std.proofs.Common.{arith, sym, ◌∙◌, ap, subst}
 use Rattle.std.proofs.lemmas.Map.Lookups.{CmpEqualImpliesEq, exact_pairs}
 use Rattle.std.proofs.lemmas.Cmp.{alike_right, then_total, on_total}
+use Rattle.geo_laws.specs.Registers.{by_both, by_order, greater, newer}
 
 pub max_assoc : (a b c : ℕ) → max a (max b c) ≡ max (max a b) c
 max_assoc a b c = omega arith
@@ -17,10 +18,6 @@ max_comm a b = omega arith
 
 pub max_same : (a : ℕ) → max a a ≡ a
 max_same a = omega arith
-
--- by the first part, and then by the second
-abbrev pub by_both : {A B : Type 0} → (A → A → Ordering) → (B → B → Ordering) → A × B → A × B → Ordering
-by_both R S x y = ordering_then (R x.0 y.0) (S x.1 y.1)
 
 -- an order that answers as a total one is total
 pub same_total : {A : Type 0} {R S : A → A → Ordering} → ((a b : A) → R a b ≡ S a b) → IsTotalOrder R → IsTotalOrder S
@@ -37,22 +34,6 @@ total_by P Q p q r s = both_total (same_total p r) (same_total q s)
 pub exact_by : {A B : Type 0} {R : A → A → Ordering} {S : B → B → Ordering} (P : A → A → Ordering) (Q : B → B → Ordering)
     → ((a b : A) → R a b ≡ P a b) → ((a b : B) → S a b ≡ Q a b) → CmpEqualImpliesEq R → CmpEqualImpliesEq S → CmpEqualImpliesEq (by_both P Q)
 exact_by P Q p q r s = exact_pairs P Q (λ a b h. r a b (p a b ∙ h)) (λ a b h. s a b (q a b ∙ h))
-
--- by how they compare, the second where the first is less
-abbrev pub by_order : {A : Type 0} → Ordering → A → A → A
-by_order Less a b = b
-by_order Equal a b = a
-by_order Greater a b = a
-
--- the greater of the two
-abbrev pub greater : {A : Type 0} → (A → A → Ordering) → A → A → A
-greater cmp a b = by_order (cmp a b) a b
-
--- the greater of the two registers, of which each may be empty
-abbrev pub newer : {A : Type 0} → (A → A → Ordering) → Option A → Option A → Option A
-newer cmp None b = b
-newer cmp (Some a) None = Some a
-newer cmp (Some a) (Some b) = Some (greater cmp a b)
 
 module _ {A : Type 0} (cmp : A → A → Ordering) (order : IsTotalOrder cmp) (exact : CmpEqualImpliesEq cmp) where
   same_first : (a : A) (o : Ordering) → by_order o a a ≡ a

@@ -1,6 +1,6 @@
 //! How long a value is.
 ghost use Rattle.std.specs.Prelude.{◌≡◌, ◌≤◌, ◌<◌, MatchOption};
-ghost use Rattle.geo_versions.specs.Lengths.{longest_value};
+ghost use Rattle.geo_records.specs.Lengths.{longest_value};
 
 use std::marker::Model;
 
@@ -15,7 +15,7 @@ pub struct Length {
 
 impl Model for Length {
     ghost use Rattle.std.specs.Prelude.{ℕ, ◌≤◌};
-    ghost use Rattle.geo_versions.specs.Lengths.{longest_value};
+    ghost use Rattle.geo_records.specs.Lengths.{longest_value};
 
     ghost Value = { ℕ };
 

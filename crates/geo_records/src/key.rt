@@ -7,7 +7,7 @@ ghost use Rattle.std.proofs.lemmas.Cmp.{nat_list_cmp_total};
 ghost use Rattle.std.specs.Cmp.Lexicographic.{nat_list_eq_equiv};
 ghost use Rattle.std.specs.Cmp.Rules.{comparing, hashing};
 ghost use Rattle.std.proofs.Common.{rules};
-ghost use Rattle.geo_versions.specs.Keys.{IsShortKey, is_key, is_key_byte};
+ghost use Rattle.geo_records.specs.Keys.{IsShortKey, is_key, is_key_byte};
 ghost use Rattle.std.specs.List.{list_all};
 
 use geo_lattice::Twin;
@@ -31,7 +31,7 @@ pub struct Key {
 
 impl Model for Key {
     ghost use Rattle.std.specs.Prelude.{◌≡◌, ℕ, List, true};
-    ghost use Rattle.geo_versions.specs.Keys.{is_key};
+    ghost use Rattle.geo_records.specs.Keys.{is_key};
 
     ghost Value = { List ℕ };
 
