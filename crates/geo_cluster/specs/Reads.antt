@@ -1,6 +1,7 @@
 -- The Rust type of a line as what it stands for, without where it lies in memory.
 use Rattle.std.specs.Prelude.{◌≢◌, ◌≤◌, ◌^◌}
 use Rattle.geo_cluster.specs.Sayings.{Said, SaysSites, SaysAt, SaysClient, SaysSend, SaysTake, SaysTick, SaysRemove, SaysReap, SaysEvict, SaysVersions}
+use Rattle.geo_slabs.specs.Storage.{class_count, most_pages}
 use Rattle.geo_cluster.specs.declared.script.line.ScriptLine.{ScriptLine}
 use Rattle.geo_cluster.specs.declared.script.line.ScriptLine.TheVariants.{Sites, At, Client, Send, Take, Tick, Remove, Reap, Evict, Versions}
 
@@ -20,7 +21,7 @@ said_by (Versions site) = SaysVersions site
 -- the numbers of sites are 1 to 16, pages 15 to 65,536, records at most 1 to 1,000,000, seconds of keeping at most 2^31 - 1, and
 -- moments 1 to 2^40
 abbrev pub IsInRange : ScriptLine → Type 0
-IsInRange (Sites count pages max reap) = (1 ≤ count) × (count ≤ 16) × (15 ≤ pages) × (pages ≤ 65536) × (1 ≤ max) × (max ≤ 1000000)
+IsInRange (Sites count pages max reap) = (1 ≤ count) × (count ≤ 16) × (class_count ≤ pages) × (pages ≤ most_pages) × (1 ≤ max) × (max ≤ 1000000)
     × (reap ≤ 2147483647)
 IsInRange (At moment) = (1 ≤ moment) × (moment ≤ 2 ^ 40)
 IsInRange (Client site text) = (1 ≤ site) × (site ≤ 16)

@@ -6,6 +6,7 @@ use Rattle.geo_grammar.specs.Words.{number_of}
 use Rattle.geo_records.specs.Keys.{is_key}
 use Rattle.geo_cluster.specs.Numbers.{ranged_of}
 use Rattle.geo_cluster.specs.Escapes.{unescaped}
+use Rattle.geo_slabs.specs.Storage.{class_count, most_pages}
 use Rattle.geo_cluster.specs.Splits.{split_at}
 
 pub data Said : Type 0 where
@@ -58,7 +59,7 @@ option_number name least most otherwise (Some text) = option_split name least mo
 -- how many pages a site has for values, 15 to 65,536, how many records it may keep, 1 to 1,000,000, and for how many seconds it
 -- keeps a write that has ended, 0 to 2^31 - 1
 abbrev pub pages_number : Option (List ℕ) → Option FrontNumber
-pages_number text = option_number (codes "pages") 15 65536 15 text
+pages_number text = option_number (codes "pages") class_count most_pages class_count text
 
 abbrev pub max_number : Option (List ℕ) → Option FrontNumber
 max_number text = option_number (codes "max") 1 1000000 100000 text

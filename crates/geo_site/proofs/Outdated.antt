@@ -69,8 +69,8 @@ module _ (map map' : List ℕ → Record) (key : List ℕ) (s t : Stock) (named 
   others_stay q h = ap (λ r. stays_by (version_in r) (s.held q)) (elsewhere q h) ∙ settled_stays map s named q
 
   -- a key whose version is gone is dropped, and nothing else
-  pub buried : stocks.Same (settled map' s) t
-  buried = by (s.held key) refl
+  pub deleted : stocks.Same (settled map' s) t
+  deleted = by (s.held key) refl
     where
       by : (o : Option (List ℕ)) → s.held key ≡ o → stocks.Same (settled map' s) t
       by None none = stock_by (settled map' s) t (stock_path s t (absent none) ∙ sym (stock_path s (settled map' s) (all_kept (stays_in map' s) s (λ q. all q (same_key q key) refl))))

@@ -114,7 +114,12 @@ impl Site {
     }
 
     /// Deletes a key: its record says so from now on, and its bytes are dropped. An Err changes nothing.
-    pub(crate) fn bury(&mut self, alloc: Global, stamp: Stamp, key: &Key) -> Result<(), AllocError>
+    pub(crate) fn delete(
+        &mut self,
+        alloc: Global,
+        stamp: Stamp,
+        key: &Key,
+    ) -> Result<(), AllocError>
         requires next { stamp ≡ next_stamp_of self.old }
         ensures deleted { OnOk result (HasIssued self.old self.new (Delete key.now ∷ [])) }
         ensures err { OnErr result (Same (state_in self.old) (state_in self.new)) }
@@ -174,7 +179,7 @@ impl Site {
             }
             Effect::Tomb => {
                 let stamp = self.next_stamp(key)?;
-                self.bury(alloc, stamp, key)?;
+                self.delete(alloc, stamp, key)?;
                 Ok(Beside::nothing())
             }
         }

@@ -76,7 +76,7 @@ impl Site {
         let Some(stamp) = self.stamp() else {
             return Err(ReapError::ClockEnded);
         };
-        match self.bury(alloc, stamp, key) {
+        match self.delete(alloc, stamp, key) {
             Ok(()) => Ok(true),
             Err(_) => Err(ReapError::Memory),
         }

@@ -13,7 +13,7 @@ use Rattle.geo_world.specs.declared.plain.operation.Act.TheVariants.{Write}
 use Rattle.geo_world.specs.declared.plain.knowledge.Change.{Change}
 use Rattle.geo_world.specs.declared.plain.knowledge.Change.TheVariants.{Wrote, Dropped, Settled}
 use Rattle.geo_world.specs.declared.plain.knowledge.Knowledge.{Knowledge}
-use Rattle.geo_world.specs.Plain.{act_of, operations_of, stamped, after, held_after, shown, Knows, Rests}
+use Rattle.geo_world.specs.Plain.{act_of, operations_of, stamped, after, held_after, shown, Knows, KeepsCounts}
 
 -- one change more
 pub held_more : (key : List ℕ) (held : Option (List ℕ)) (changes : List Change) (change : Change) → held_after key held (changes ++ change ∷ []) ≡ after change key (held_after key held changes)
@@ -67,5 +67,5 @@ pub shown_is : (site : Knowledge) (ops : List spec.Operation) (held : Held) (now
 shown_is site ops held now k = λ i key. entry_in now (spec.version_of (k.operations i) key) (k.holds key i)
 
 -- what rests from one change to the next
-pub rests_on : (old mid new : Knowledge) → Rests old mid → Rests mid new → Rests old new
+pub rests_on : (old mid new : Knowledge) → KeepsCounts old mid → KeepsCounts mid new → KeepsCounts old new
 rests_on old mid new a b = record { counts = b.counts ∙ a.counts; waiting = b.waiting ∙ a.waiting; reap_after = b.reap_after ∙ a.reap_after }

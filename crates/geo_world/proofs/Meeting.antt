@@ -16,7 +16,7 @@ use Rattle.geo_site.proofs.Sound.{here, held_here}
 use Rattle.geo_world.specs.declared.plain.operation.Operation.{Operation}
 use Rattle.geo_world.specs.declared.plain.knowledge.Knowledge.{Knowledge}
 use Rattle.geo_world.specs.Agreement.{SiteKnown, about}
-use Rattle.geo_world.specs.Plain.{operations_of, stamped, held_after, sent_of, Knows, Rests, counts_of, shown, Meets}
+use Rattle.geo_world.specs.Plain.{operations_of, stamped, held_after, sent_of, Knows, KeepsCounts, counts_of, shown, Meets}
 use Rattle.geo_world.proofs.Knowing.{shown_is}
 use Rattle.geo_world.proofs.Worlds.{some_same, some_none, get_appended}
 use Rattle.geo_world.proofs.Changing.{get_written, settled_about, put_same, left_here, left_there, counts_here, counts_there, waits_here, waits_there}
@@ -58,14 +58,14 @@ module _ (sites : List Knowledge) (sent : List (ℕ × List Operation)) (w : Kno
 
     module _ (old : Knowledge) (got : slice_get sites k ≡ Some old) where
       -- a site settles
-      meets_settled : (new : Knowledge) (ops : List spec.Operation) (held : Held) → Rests old new → Knows new ops (still_held ops held) → Meets (slice_set sites k new) sent (settles w s ops held)
+      meets_settled : (new : Knowledge) (ops : List spec.Operation) (held : Held) → KeepsCounts old new → Knows new ops (still_held ops held) → Meets (slice_set sites k new) sent (settles w s ops held)
       meets_settled new ops held rests knows =
           meets_changed new (settles w s ops held) (subst₂ (Knows new) (sym (here w s ops held)) (sym (held_here w s ops held)) knows)
           (rests.counts ∙ meets.counted k s old at_number got) (rests.waiting ∙ meets.waits k s old at_number got) (rests.reap_after ∙ meets.reaps k s old at_number got)
           (λ t ne. settled_about w s ops held t ne) refl
 
       -- it learns operations
-      pub meets_learned : (new : Knowledge) (parcel : ℕ) (x : ℕ × List Operation) (ops : List Operation) → slice_get sent parcel ≡ Some x → ops ≡ x.1 → Rests old new
+      pub meets_learned : (new : Knowledge) (parcel : ℕ) (x : ℕ × List Operation) (ops : List Operation) → slice_get sent parcel ≡ Some x → ops ≡ x.1 → KeepsCounts old new
           → ((known : List spec.Operation) (held : Held) → Knows old known held → Knows new (known ++ operations_of ops) (still_held (known ++ operations_of ops) held))
           → Meets (slice_set sites k new) sent (learns w s (carried w parcel))
       meets_learned new parcel x ops there same rests does =
@@ -86,7 +86,7 @@ module _ (sites : List Knowledge) (sent : List (ℕ × List Operation)) (w : Kno
       shows_visible now = shown_is old (w.at s) (w.held s) now (meets.each k s old at_number got)
 
       -- it issues an operation
-      pub meets_issued : (new : Knowledge) (act : spec.Act) (stamp : Moment) → stamp ≡ record { time = latest (w.at s) + 1; site = s } → Rests old new
+      pub meets_issued : (new : Knowledge) (act : spec.Act) (stamp : Moment) → stamp ≡ record { time = latest (w.at s) + 1; site = s } → KeepsCounts old new
           → ((ops : List spec.Operation) (held : Held) → Knows old ops held → Knows new (ops ++ stamped stamp act ∷ []) (still_held (ops ++ stamped stamp act ∷ []) (act_held act held)))
           → Meets (slice_set sites k new) sent (issues w s (act ∷ []))
       meets_issued new act stamp is rests does =

@@ -66,7 +66,7 @@ abbrev pub shown : Knowledge → ℕ → Visible
 shown site now key = entry_in now (spec.version_of (operations_of site.ops.items) key) (held_after key None site.changes.items)
 
 -- nothing but its operations and what it holds changes
-pub record Rests (old new : Knowledge) : Type 0 where
+pub record KeepsCounts (old new : Knowledge) : Type 0 where
   pub counts : counts_of new ≡ counts_of old
   pub waiting : new.waiting ≡ old.waiting
   pub reap_after : new.reap_after ≡ old.reap_after

@@ -9,22 +9,14 @@ use crate::script::escape::unescape;
 use crate::script::line::ScriptLine;
 use crate::script::split::split_at;
 use geo_grammar::number;
-use geo_site::LAST_MOMENT;
+use geo_site::{LAST_MOMENT, MOST_RECORDS};
+use geo_slabs::{CLASSES, MOST_PAGES};
 use geo_stamp::MOST_SITES;
 use geo_versions::Key;
 use std::alloc::{AllocError, Global};
 
-/// How many pages each site has for values where the script doesn't say, and the fewest that it may have.
-const LEAST_PAGES: u64 = 15;
-
-/// The most pages that a site may have.
-const MOST_PAGES: u64 = 65_536;
-
 /// How many records each site may keep where the script doesn't say.
-const DEFAULT_LIMIT: u64 = 100_000;
-
-/// The most records that a site may be allowed to keep.
-const GREATEST_LIMIT: u64 = 1_000_000;
+const DEFAULT_RECORDS: u64 = 100_000;
 
 /// For how many seconds behind its end a write is kept where the script doesn't say.
 const DEFAULT_REAP: u64 = 60;
@@ -212,8 +204,9 @@ fn sites_line(args: &[u8]) -> Option<ScriptLine>
     ensures range { IfSome result (λ l. IsInRange l) }
 {
     let (count, options) = front_number(args, 1, MOST_SITES as u64)?;
-    let (pages, options) = option_number(b"pages", LEAST_PAGES, MOST_PAGES, LEAST_PAGES, options)?;
-    let (max, options) = option_number(b"max", 1, GREATEST_LIMIT, DEFAULT_LIMIT, options)?;
+    let (least, most) = (CLASSES as u64, MOST_PAGES as u64);
+    let (pages, options) = option_number(b"pages", least, most, least, options)?;
+    let (max, options) = option_number(b"max", 1, MOST_RECORDS as u64, DEFAULT_RECORDS, options)?;
     let (reap, options) = option_number(b"reap", 0, GREATEST_REAP, DEFAULT_REAP, options)?;
     if options.is_some() {
         return None;

@@ -10,7 +10,7 @@ ghost use Rattle.geo_records.specs.Operations.Act.{Touch};
 ghost use Rattle.geo_site.specs.Entries.{Held, found_of, found_after, touched_after, touches_of, evicted_on, is_due, flushes_due, is_reapable};
 ghost use Rattle.geo_site.specs.Machine.{act_held, without};
 ghost use Rattle.geo_site.specs.Schedule.{still_held};
-ghost use Rattle.geo_world.specs.Plain.{act_of, acts_of, operations_of, stamped, Knows, Rests, counts_of, held_after, lent, shown};
+ghost use Rattle.geo_world.specs.Plain.{act_of, acts_of, operations_of, stamped, Knows, KeepsCounts, counts_of, held_after, lent, shown};
 
 use crate::plain::meaning::{floor, is_named, latest, version_of};
 use crate::plain::operation::{Act, Operation};
@@ -77,7 +77,7 @@ pub fn copies(alloc: Global, ops: &[Operation]) -> Result<Items<Operation>, Allo
 impl Knowledge {
     fn settle(&mut self, alloc: Global) -> Result<(), AllocError>
         ensures operations { self.new.ops ≡ self.old.ops }
-        ensures rests { Rests self.old self.new }
+        ensures rests { KeepsCounts self.old self.new }
         ensures settles { IfOk result (λ _. (ops : List Issued) (held : Held) → Knows self.old ops held
             → Knows self.new ops (still_held ops held)) }
     {
@@ -89,7 +89,7 @@ impl Knowledge {
     /// It puts the bytes of its own write into what it holds.
     fn hold(&mut self, alloc: Global, act: &Act) -> Result<(), AllocError>
         ensures operations { self.new.ops ≡ self.old.ops }
-        ensures rests { Rests self.old self.new }
+        ensures rests { KeepsCounts self.old self.new }
         ensures held { IfOk result (λ _. (ops : List Issued) (held : Held) → Knows self.old ops held
             → Knows self.new ops (act_held (act_of act.now) held)) }
     {
@@ -103,7 +103,7 @@ impl Knowledge {
 
     /// It issues an operation.
     pub fn issue(&mut self, alloc: Global, stamp: Stamp, act: Act) -> Result<(), AllocError>
-        ensures rests { Rests self.old self.new }
+        ensures rests { KeepsCounts self.old self.new }
         ensures issued { IfOk result (λ _. (ops : List Issued) (held : Held) → Knows self.old ops held → Knows self.new (ops
             ++ stamped stamp (act_of act) ∷ []) (still_held (ops ++ stamped stamp (act_of act) ∷ []) (act_held (act_of act) held))) }
     {
@@ -115,7 +115,7 @@ impl Knowledge {
 
     /// It learns operations.
     pub fn learn(&mut self, alloc: Global, known: &[Operation]) -> Result<(), AllocError>
-        ensures rests { Rests self.old self.new }
+        ensures rests { KeepsCounts self.old self.new }
         ensures learned { IfOk result (λ _. (ops : List Issued) (held : Held) → Knows self.old ops held → Knows self.new (ops
             ++ operations_of known.now) (still_held (ops ++ operations_of known.now) held)) }
     {

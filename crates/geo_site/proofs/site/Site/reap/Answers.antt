@@ -24,7 +24,7 @@ pub returns-in-Ok : goal.returns-in-Ok
 returns-in-Ok c = record {
   mid = c.tick.new.self;
   flush = c.tick.ensures.flush;
-  does = reaps c.tick.new.self c.bury.new.self c.args.now c.args.key.now (sym c.if-not-is_to_reap.ensures) c.in-Some.ensures.0 c.in-Ok.ensures.deleted;
-  rests = c.bury.ensures.rests;
-  stays = c.bury.ensures.stays;
+  does = reaps c.tick.new.self c.delete.new.self c.args.now c.args.key.now (sym c.if-not-is_to_reap.ensures) c.in-Some.ensures.0 c.in-Ok.ensures.deleted;
+  rests = c.delete.ensures.rests;
+  stays = c.delete.ensures.stays;
 }

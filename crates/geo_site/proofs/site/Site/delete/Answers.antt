@@ -14,11 +14,11 @@ use Rattle.geo_site.specs.Sites.{state_in}
 use Rattle.geo_site.proofs.Entries.{Within, length_raised}
 use Rattle.geo_site.proofs.Ending.{ends_gone}
 use Rattle.geo_site.proofs.Stocking.{stock_kept}
-use Rattle.geo_site.proofs.Outdated.{buried}
+use Rattle.geo_site.proofs.Outdated.{deleted}
 use Rattle.geo_site.proofs.Written.{delete_puts, map_at_key, map_elsewhere, write_floor, write_covers, write_named, write_map, write_same}
 use Rattle.geo_site.proofs.Noting.{traced_put, traced_same, covers_same, ends_same, named_same}
 use Rattle.geo_site.proofs.Rows.{rows_on}
-use Rattle.geo_site.proofs.site.Site.bury.Goals as goal
+use Rattle.geo_site.proofs.site.Site.delete.Goals as goal
 
 pub invariant_of-self-2 : goal.invariant_of-self-2
 invariant_of-self-2 c =
@@ -82,7 +82,7 @@ returns-clause-deleted c =
     let elsewhere : (q : List ℕ) → same_key q key ≡ false → map' q ≡ map q = map_elsewhere v f f' map map' held held' n 0 key (Delete key) Gone None puts s.floor_known s.covered s.named norm num floor new new_held in
     let all = write_map v f f' map map' held held' n 0 key (Delete key) Gone None puts s.floor_known s.covered s.named norm num floor new new_held before in
     let done = write_same v f f' map map' held held' n 0 key (Delete key) Gone None puts s.floor_known s.covered s.named norm num floor new new_held before after
-    (stock_kept map' (map_after (state_in s) (next_operation (greatest_of v) n (Delete key))) before after all (buried map map' key before after s.named here elsewhere c.drop_key.ensures.dropped c.drop_key.ensures.absent)) in
+    (stock_kept map' (map_after (state_in s) (next_operation (greatest_of v) n (Delete key))) before after all (deleted map map' key before after s.named here elsewhere c.drop_key.ensures.dropped c.drop_key.ensures.absent)) in
     record { vector = vec; floor = done.floor; map = done.map; stock = done.stock }
 
 pub invariant_of-self : goal.invariant_of-self
