@@ -9,15 +9,19 @@ use Rattle.geo_link.specs.declared.fault.LinkError.{LinkError}
 use Rattle.geo_site.specs.declared.refusal.SendError.{SendError}
 use Rattle.geo_site.specs.declared.refusal.SendError.TheVariants as sends
 use Rattle.geo_station.specs.Calls.{SendsBy}
-use Rattle.geo_station.specs.Seats.{Seated, trimmed}
+use Rattle.geo_station.specs.Seats.{Seated}
 use Rattle.geo_station.specs.declared.refusal.CallError.TheVariants.{SeatSpent, Site}
+
+-- the seat has let go of the calls that it kept
+abbrev pub emptied : Seated → Seated
+emptied seat = record seat { calls = []; forgot = true }
 
 -- the site made a parcel for the peer, and its link took it
 pub record Took {K : Type 0} (puts : K → Parcel → K → Type 0) (old new : Peer K) (seat after : Seated) : Type 0 where
   pub parcel : Parcel
   pub ranges : InRange parcel
   pub addressee : parcel.to ≡ old.site
-  pub sends : SendsBy (trimmed seat) after old.site (Ok parcel)
+  pub sends : SendsBy (emptied seat) after old.site (Ok parcel)
   pub put : puts old.link parcel new.link
   pub site : new.site ≡ old.site
 
@@ -26,14 +30,14 @@ pub record LinkFailed {K : Type 0} (put_fails : K → Parcel → LinkError → K
   pub parcel : Parcel
   pub ranges : InRange parcel
   pub addressee : parcel.to ≡ old.site
-  pub sends : SendsBy (trimmed seat) after old.site (Ok parcel)
+  pub sends : SendsBy (emptied seat) after old.site (Ok parcel)
   pub why : LinkError
   pub failed : put_fails old.link parcel why new.link
   pub site : new.site ≡ old.site
 
 -- the site knows no such peer
 pub record IsUnknown {K : Type 0} (old new : Peer K) (seat after : Seated) : Type 0 where
-  pub sends : SendsBy (trimmed seat) after old.site (Err (Site sends.NoSuchSite))
+  pub sends : SendsBy (emptied seat) after old.site (Err (Site sends.NoSuchSite))
   pub same : new ≡ old
 
 -- what becomes of a peer in a round, by whether a parcel was put
@@ -54,8 +58,8 @@ ServedAll puts put_fails olds news seat after count = ⊥
 
 -- why no parcel could be made for a peer
 abbrev pub Unserved : GossipFault → ℕ → Seated → Seated → Type 0
-Unserved faults.Memory site seat after = SendsBy (trimmed seat) after site (Err (Site sends.Memory))
-Unserved faults.SeatSpent site seat after = SendsBy (trimmed seat) after site (Err SeatSpent)
+Unserved faults.Memory site seat after = SendsBy (emptied seat) after site (Err (Site sends.Memory))
+Unserved faults.SeatSpent site seat after = SendsBy (emptied seat) after site (Err SeatSpent)
 
 -- a round ends early: the peers before one are served, for that one no parcel can be made, and the others stay
 pub record StopsEarly {K : Type 0} (puts : K → Parcel → K → Type 0) (put_fails : K → Parcel → LinkError → K

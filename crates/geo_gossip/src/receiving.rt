@@ -18,13 +18,13 @@ fn taken<R: Wait, L: Ledger>(
 ) -> bool
     ensures { seat.old.steps + (if result then 1 else 0) ≤ seat.new.steps }
 {
-    seat.trim();
+    seat.forget();
     station.take(rt, alloc, seat, parcel).is_ok()
 }
 
 /// Has the site take the parcels that come over a link, until the link is closed, and tells how many it took. A parcel that the
 /// site refuses is dropped: what it told comes again in a later one. So does what a damaged frame told, and a link that fails
-/// is closed for good.
+/// is closed for good. Of its calls the seat keeps the last alone, since each has its parcel.
 pub fn receive<R: Wait, L: Ledger, K: Link>(
     rt: &R,
     alloc: Global,

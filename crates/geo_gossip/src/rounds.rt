@@ -30,7 +30,8 @@ fn serve<R: Wait, L: Ledger, K: Link>(
     ensures unserved { IfErr result (λ why. Unserved why peer.old.site seat.old seat.new) }
     ensures stays { IfErr result (λ _. peer.new ≡ peer.old) }
 {
-    seat.trim();
+    // A parcel may be as large as all that the site knows.
+    seat.forget();
     match station.send(rt, alloc, seat, peer.site) {
         Ok(parcel) => Ok(peer.link.put(rt, alloc, parcel).is_ok()),
         Err(CallError::Site(SendError::NoSuchSite)) => Ok(false),
@@ -41,7 +42,8 @@ fn serve<R: Wait, L: Ledger, K: Link>(
 
 /// One round of gossip (Almeida et al. 2018): the site makes a parcel for each peer, in their order, of what it knows and hasn't
 /// heard that the peer knows, and the peer's link takes it. A link that fails is skipped, and its peer is sent all of it again in
-/// a later round; so is a peer that the station's site doesn't know. It tells how many parcels were put. A `put` may wait.
+/// a later round; so is a peer that the station's site doesn't know. It tells how many parcels were put. A `put` may wait. Of its
+/// calls the seat keeps the last alone.
 pub fn round<R: Wait, L: Ledger, K: Link>(
     rt: &R,
     alloc: Global,
