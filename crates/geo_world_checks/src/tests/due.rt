@@ -1,6 +1,7 @@
 //! What the plain program says of a reply.
 ghost use Rattle.std.specs.Prelude.{◌≤◌, ◌^◌};
 
+use geo_equal::Equal;
 use geo_grammar::{Found, Reply, Request, Stats};
 use geo_lattice::Twin;
 use geo_memcache::{Answer, Ask, Decision, Effect, ask_of, expiry_of};
@@ -142,27 +143,11 @@ fn decides_as_due(
 /// Whether the reply is the decision's, or that the map is full where it would be too full.
 fn decided_as_due(decision: &Decision, crowded: bool, reply: &Reply) -> bool {
     match (&decision.effect, &decision.answer) {
-        (Effect::Nothing, Answer::Reply(due)) => is_same(due, reply),
+        (Effect::Nothing, Answer::Reply(due)) => due.equals(reply),
         (_, Answer::Reply(due)) => match crowded {
             true => matches!(reply, Reply::MapFull),
-            false => is_same(due, reply),
+            false => due.equals(reply),
         },
-        _ => false,
-    }
-}
-
-/// Whether two replies to a change are the same.
-fn is_same(one: &Reply, other: &Reply) -> bool {
-    match (one, other) {
-        (Reply::Stored, Reply::Stored)
-        | (Reply::NotStored, Reply::NotStored)
-        | (Reply::Exists, Reply::Exists)
-        | (Reply::NotFound, Reply::NotFound)
-        | (Reply::Deleted, Reply::Deleted)
-        | (Reply::Touched, Reply::Touched)
-        | (Reply::NotANumber, Reply::NotANumber)
-        | (Reply::TooLarge, Reply::TooLarge) => true,
-        (Reply::Number(one), Reply::Number(other)) => one == other,
         _ => false,
     }
 }
