@@ -15,6 +15,7 @@ pub mod Arrived
 pub mod Stored
 pub mod Staying
 pub mod Retained
+pub mod Rewritten
 pub mod Renewed
 pub mod Standing
 pub mod Digests

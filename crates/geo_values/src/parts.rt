@@ -50,28 +50,6 @@ fn release(slabs: &mut Slabs, classes: &mut Vec<Segments>, item: Item)
     slabs.free(item.chunk);
 }
 
-/// Puts other bytes into the chunk of a key's item.
-fn rewrite(
-    items: &mut IndexMap<Key, Item, RandomState>,
-    slabs: &mut Slabs,
-    key: &Key,
-    blob: &Blob<'_>,
-)
-    requires there { IsSome (get same_key items.old key.now) }
-    requires held { IfSome (get same_key items.old key.now) (λ item. IsSome (held_in slabs.old item.chunk)) }
-    requires fits { IfSome (get same_key items.old key.now) (λ item. length blob.now ≤ chunk_bytes item.chunk.class) }
-    ensures items { IfSome (get same_key items.old key.now) (λ item. (q : List ℕ) → get same_key items.new q
-        ≡ cond (same_key q key.now) (Some (rewritten item blob.now)) (get same_key items.old q)) }
-    ensures slabs { IfSome (get same_key items.old key.now) (λ item. slabs.new
-        ≡ with_held slabs.old item.chunk.class item.chunk.number (Some blob.now)) }
-{
-    let Some(item) = items.get_mut(key) else {
-        unreachable!();
-    };
-    slabs.replace(&mut item.chunk, blob.bytes());
-    item.digest = blob.digest();
-}
-
 impl Parts {
     ghost use Rattle.geo_versions.specs.Maps.{Rising};
     ghost use Rattle.geo_slabs.specs.Storage.{IsFull, IsClassOf};
@@ -179,6 +157,22 @@ impl Parts {
         }
     }
 
+    /// Notes a hit on a key's item, if there is one. Where the item stands at this place it is not looked for.
+    pub(crate) fn hit_at(&mut self, place: usize, key: &Key)
+        requires classes { length self.old.classes.items ≡ class_count }
+        requires there { CanGoIfAny (links_in self.old) ((links_in self.old).item key.now) }
+        ensures hits { Hits (links_in self.old) (links_in self.new) ((links_in self.old).item key.now) }
+        ensures classes { length self.new.classes.items ≡ class_count }
+    {
+        if let Some((there, item)) = self.items.get_index(place) {
+            if there == key {
+                self.classes[item.class].hit(item.number);
+                return;
+            }
+        }
+        self.hit(key);
+    }
+
     /// Makes the move that is due in a class.
     pub(crate) fn juggle(&mut self, class: usize) -> Result<bool, AllocError>
         requires class { class < class_count }
@@ -247,14 +241,15 @@ impl Parts {
         ensures not_hot { OnErr result (IsNotHot (links_in self.old) key.now class) }
         ensures classes { length self.new.classes.items ≡ class_count }
     {
-        let Some(item) = self.items.get(key) else {
+        let Some(item) = self.items.get_mut(key) else {
             return Ok(false);
         };
         if item.class != class {
             return Ok(false);
         }
         self.classes[item.class].renew(item.number)?;
-        rewrite(&mut self.items, &mut self.slabs, key, blob);
+        self.slabs.replace(&mut item.chunk, blob.bytes());
+        item.digest = blob.digest();
         Ok(true)
     }
 

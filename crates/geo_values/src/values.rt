@@ -93,11 +93,20 @@ impl Values {
         ensures got { option_copied result ≡ with_digest digest.now ((stock_in self.now).held key.now) }
         ensures fits { IfSome result (λ bytes. length bytes.now ≤ page_bytes) }
     {
-        let item = self.parts.items.get(key)?;
+        let (_, bytes) = self.find(key, digest)?;
+        Some(bytes)
+    }
+
+    /// A key's bytes as [`Values::get`] gives them, and their place, by which [`Values::hit_at`] need not look for the key.
+    pub fn find(&self, key: &Key, digest: &Digest) -> Option<(usize, &[u8])>
+        ensures found { option_map (λ f. f.1.now) result ≡ with_digest digest.now ((stock_in self.now).held key.now) }
+        ensures fits { IfSome result (λ f. length f.1.now ≤ page_bytes) }
+    {
+        let (place, _, item) = self.parts.items.get_full(key)?;
         if item.digest != *digest {
             return None;
         }
-        Some(self.parts.slabs.bytes(&item.chunk))
+        Some((place, self.parts.slabs.bytes(&item.chunk)))
     }
 
     /// The SHA-256 and the length in bytes of what is held of each key, by rising key. Nothing is hashed.
@@ -114,6 +123,14 @@ impl Values {
         ensures absent { (stock_in self.old).held key.now ≡ None → Same (stock_in self.old) (stock_in self.new) }
     {
         self.parts.hit(key)
+    }
+
+    /// Notes a hit as [`Values::hit`] does, on a key that [`Values::find`] found at this place. At another place it is looked for.
+    pub fn hit_at(&mut self, place: usize, key: &Key)
+        ensures hit { Same (hit_at key.now (stock_in self.old)) (stock_in self.new) }
+        ensures absent { (stock_in self.old).held key.now ≡ None → Same (stock_in self.old) (stock_in self.new) }
+    {
+        self.parts.hit_at(place, key)
     }
 
     /// Drops a key, and tells whether it was held. Where it is not, nothing changes. It takes no memory.

@@ -72,13 +72,17 @@ fn fill(
     Ok(())
 }
 
-/// Shows whether the bytes of a blob are got by their digest.
+/// Shows whether the bytes of a blob are got and found by their digest.
 fn get(out: &mut String, values: &Values, name: u8, blob: &Blob<'_>) -> Result<(), AllocError> {
     let key = key(*out.allocator(), name)?;
-    match values.get(&key, &Digest::of(blob.bytes())) {
-        None => out.push_str(" none"),
-        Some(held) if held == blob.bytes() => out.push_str(" got"),
-        Some(_) => out.push_str(" other"),
+    let digest = Digest::of(blob.bytes());
+    let found = values.find(&key, &digest);
+    match values.get(&key, &digest) {
+        None if found.is_none() => out.push_str(" none"),
+        Some(held) if held == blob.bytes() && found.is_some_and(|(_, bytes)| bytes == held) => {
+            out.push_str(" got")
+        }
+        _ => out.push_str(" other"),
     }
 }
 
@@ -130,6 +134,10 @@ fn retain_length(values: &mut Values, length: usize) {
 fn change(values: &mut Values, alloc: Global, step: Step) -> Result<(), AllocError> {
     match step {
         Step::Hit(name) => hit(values, alloc, name),
+        Step::HitAt(name, place) => {
+            values.hit_at(place, &key(alloc, name)?);
+            Ok(())
+        }
         Step::RetainOtherBytes(byte, many) => {
             retain_other_bytes(values, &Digest::of(&bytes(alloc, byte, many)?));
             Ok(())

@@ -17,6 +17,8 @@ pub enum Step {
     DropKey(u8),
     /// A key is hit.
     Hit(u8),
+    /// A key is hit that may stand at this place.
+    HitAt(u8, usize),
     /// The largest class is juggled: whether an item moved.
     Juggle,
     /// All keys of the largest class are evicted, which shows them and a dash at the end.
@@ -112,6 +114,28 @@ const HIT: &[Step] = &[
     Step::Evict,
 ];
 
+/// A hit is on the key, whatever stands at the place.
+const HIT_AT: &[Step] = &[
+    Step::Fill("abc"),
+    Step::HitAt(b'a', 0),
+    Step::HitAt(b'z', 1),
+    Step::HitAt(b'a', 2),
+    Step::HitAt(b'z', 1),
+    Step::Juggle,
+    Step::Juggle,
+    Step::Evict,
+];
+
+/// Where no key stands at the place, the key is looked for.
+const HIT_NOWHERE: &[Step] = &[
+    Step::Fill("abc"),
+    Step::HitAt(b'a', 3),
+    Step::HitAt(b'a', 3),
+    Step::Juggle,
+    Step::Juggle,
+    Step::Evict,
+];
+
 /// A test sees key, digest and length. Of four, three differ from `k` in their key alone, in their bytes and in their length.
 const TESTED: &[Step] = &[
     Step::Store(b'a', 7, 3),
@@ -147,6 +171,8 @@ pub const ROWS: &[ValuesRow] = &[
     (15, ANOTHER, "---a1 held"),
     (17, MISSING, "--- dropped none++2ac-"),
     (17, HIT, ".---++bac-"),
+    (17, HIT_AT, "---++bac-"),
+    (17, HIT_NOWHERE, "---++bac-"),
     (15, TESTED, "----3 not2 not1 held"),
     (18, RETAINED, "------bdef-"),
 ];
