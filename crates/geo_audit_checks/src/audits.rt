@@ -5,13 +5,12 @@ ghost use Rattle.geo_audit.specs.Verdicts.{AreInOrder};
 use geo_audit::{Verdict, audit};
 use geo_chunks::Chunks;
 use geo_delta::Parcel;
+use geo_fixtures::opened;
 use geo_grammar::{Reply, Request, ValueBytes, Verb};
 use geo_history::{Answer, BoxedParcel, Event, History, Kept, Step};
 use geo_lattice::{Items, Twin};
-use geo_site::Setup;
 use geo_versions::{Digest, Key};
 use std::alloc::{AllocError, Global};
-use std::hash::RandomState;
 use std::test::Fail;
 
 /// A verdict without its schedule.
@@ -23,18 +22,6 @@ enum Told {
     Stuck(usize, usize),
     Wrong(u8, usize),
     LaterEra(u8),
-}
-
-fn opened(rt: &HostRuntime, site: u8) -> Result<Kept, Fail> {
-    let setup = Setup {
-        site,
-        sites: 2,
-        pages: 15,
-        max_records: 1000,
-        reap_after: 60,
-        hasher: RandomState::new(rt)?,
-    };
-    Ok(Kept::new(rt.alloc(), setup).ok().ok_or("no site")?)
 }
 
 fn act(alloc: Global, kept: &mut Kept, request: Request) -> Result<(), Fail> {
@@ -265,16 +252,16 @@ fn both(alloc: Global, one: Kept, two: Kept) -> Result<Vec<History>, Fail> {
 
 /// The histories of a key that both set.
 fn tied(rt: &HostRuntime) -> Result<Vec<History>, Fail> {
-    let mut one = opened(rt, 1)?;
-    let mut two = opened(rt, 2)?;
+    let mut one = opened(rt, rt.alloc(), 1, 2)?;
+    let mut two = opened(rt, rt.alloc(), 2, 2)?;
     tie(rt.alloc(), &mut one, &mut two)?;
     both(rt.alloc(), one, two)
 }
 
 /// The histories of a number that both counted up.
 fn counted(rt: &HostRuntime) -> Result<Vec<History>, Fail> {
-    let mut one = opened(rt, 1)?;
-    let mut two = opened(rt, 2)?;
+    let mut one = opened(rt, rt.alloc(), 1, 2)?;
+    let mut two = opened(rt, rt.alloc(), 2, 2)?;
     count(rt.alloc(), &mut one, &mut two)?;
     both(rt.alloc(), one, two)
 }
@@ -332,7 +319,7 @@ fn other_key(alloc: Global) -> Result<Key, Fail> {
 
 /// A site that set two keys.
 fn two_sets(rt: &HostRuntime, bytes: &[u8]) -> Result<Kept, Fail> {
-    let mut one = opened(rt, 1)?;
+    let mut one = opened(rt, rt.alloc(), 1, 2)?;
     let other = other_key(rt.alloc())?;
     set_key(rt.alloc(), &mut one, other, b"hi")?;
     set(rt.alloc(), &mut one, bytes)?;
@@ -360,7 +347,7 @@ fn evicting_last(alloc: Global, steps: &Chunks<Step>) -> Result<Chunks<Step>, Fa
 /// The histories of two keys that the first site set, of which the second is said to have evicted the first.
 fn evicted(rt: &HostRuntime, bytes: &[u8]) -> Result<Vec<History>, Fail> {
     let one = two_sets(rt, bytes)?;
-    let two = opened(rt, 2)?;
+    let two = opened(rt, rt.alloc(), 2, 2)?;
     let mut all = both(rt.alloc(), one, two)?;
     let first = all.get_mut(0).ok_or("no history")?;
     let steps = evicting_last(rt.alloc(), &first.steps)?;

@@ -1,41 +1,21 @@
 //! Rounds of gossip between two stations.
-ghost use Rattle.std.specs.Prelude.{◌≡◌, ℕ, [], IfOk};
+ghost use Rattle.std.specs.Prelude.{◌≡◌, ℕ, []};
 ghost use Rattle.geo_history.specs.Keeping.{opened_with};
 ghost use Rattle.geo_history.specs.Stories.{story_in};
 
+use geo_fixtures::opened;
 use geo_gossip::{Peer, receive, round};
 use geo_grammar::{Reply, Request, ValueBytes, Verb};
 use geo_history::Kept;
 use geo_lattice::Items;
 use geo_link::{MemoryLink, memory_link};
-use geo_site::Setup;
 use geo_station::{Seat, Station};
 use geo_versions::Key;
 use std::alloc::Global;
-use std::hash::RandomState;
 use std::marker::Brand;
 use std::sync::Wait;
 use std::sync::ledger::{Blank, Ledger};
 use std::test::Fail;
-
-/// A site of three that knows nothing.
-fn opened(rt: &HostRuntime, site: u8) -> Result<Kept, Fail>
-    ensures steps { IfOk result (λ kept. (story_in kept).steps ≡ []) }
-    ensures opening { IfOk result (λ kept. (seat : ℕ) → opened_with (story_in kept).opening seat ≡ 0) }
-{
-    let setup = Setup {
-        site,
-        sites: 3,
-        pages: 15,
-        max_records: 1000,
-        reap_after: 60,
-        hasher: RandomState::new(rt)?,
-    };
-    match Kept::new(rt.alloc(), setup) {
-        Ok(kept) => Ok(kept),
-        Err(_) => Err("no site".into()),
-    }
-}
 
 /// A station and a seat at it.
 fn station_of<L: Ledger>(
@@ -203,8 +183,8 @@ fn both<L: Ledger, R: Wait>(
 
 #[test]
 fn a_round_each_makes_two_sites_name_the_same(rt: HostRuntime) -> Result<(), Fail> {
-    let one = opened(&rt, 1)?;
-    let two = opened(&rt, 2)?;
+    let one = opened(&rt, rt.alloc(), 1, 3)?;
+    let two = opened(&rt, rt.alloc(), 2, 3)?;
     let seen = both::<Brand, _>(&rt, rt.alloc(), Blank::new(2), one, two)?;
     assert_eq!(rt; seen, [(1, 1, 258, 0), (1, 1, 258, 1)]);
     Ok(())

@@ -1,29 +1,12 @@
 //! What no clause says: that the calls succeed where there is memory, and what they answer and keep, worked out by hand.
 use crate::calls::{Call, answer_all, send, take};
 use crate::shown::show_steps;
+use geo_fixtures::{opened, setup_of};
 use geo_history::{History, Kept, MOST_STEPS};
 use geo_site::{Setup, SetupError};
 use geo_versions::{Digest, Key};
 use std::alloc::Global;
-use std::hash::RandomState;
 use std::test::Fail;
-
-/// What a site is told at its start; it keeps its writes for sixty seconds.
-fn setup_of(site: u8, sites: u8, hasher: RandomState) -> Setup {
-    Setup {
-        site,
-        sites,
-        pages: 15,
-        max_records: 1_000_000,
-        reap_after: 60,
-        hasher,
-    }
-}
-
-fn opened(rt: &HostRuntime, site: u8, sites: u8) -> Result<Kept, Fail> {
-    let setup = setup_of(site, sites, RandomState::new(rt)?);
-    Ok(Kept::new(rt.alloc(), setup).ok().ok_or("no site")?)
-}
 
 /// How many sites there are, calls at the first, and what they answer, behind which stand its steps.
 type Row = (u8, &'static [Call], &'static [u8]);
@@ -98,7 +81,7 @@ const ROWS: &[Row] = &[
 /// What calls at the first of so many sites answer, and its steps behind.
 fn answered(rt: &HostRuntime, sites: u8, calls: &[Call]) -> Result<Vec<u8>, Fail> {
     let mut out = Vec::new(rt.alloc());
-    let mut kept = opened(rt, 1, sites)?;
+    let mut kept = opened(rt, rt.alloc(), 1, sites)?;
     answer_all(rt.alloc(), &mut kept, calls, &mut out)?;
     show_steps(&mut out, kept.steps())?;
     Ok(out)
@@ -153,8 +136,8 @@ fn tie(alloc: Global, one: &mut Kept, two: &mut Kept, out: &mut Vec<u8>) -> Resu
 
 fn tied(rt: &HostRuntime) -> Result<Vec<u8>, Fail> {
     let mut out = Vec::new(rt.alloc());
-    let mut one = opened(rt, 1, 2)?;
-    let mut two = opened(rt, 2, 2)?;
+    let mut one = opened(rt, rt.alloc(), 1, 2)?;
+    let mut two = opened(rt, rt.alloc(), 2, 2)?;
     tie(rt.alloc(), &mut one, &mut two, &mut out)?;
     Ok(out)
 }
@@ -214,7 +197,7 @@ const APPENDS: &[Call] = &[
 
 fn begun(rt: &HostRuntime) -> Result<Vec<u8>, Fail> {
     let mut out = Vec::new(rt.alloc());
-    let mut kept = opened(rt, 2, 3)?;
+    let mut kept = opened(rt, rt.alloc(), 2, 3)?;
     answer_all(rt.alloc(), &mut kept, APPENDS, &mut out)?;
     show_left(rt.alloc(), &kept, &mut out)?;
     let history = kept.history();
@@ -228,15 +211,14 @@ fn begun(rt: &HostRuntime) -> Result<Vec<u8>, Fail> {
 #[test]
 fn a_history_tells_where_it_began(rt: HostRuntime) -> Result<(), Fail> {
     let text =
-        b"STORED\r\n\nSTORED\r\n\n\n3 0 fewer\n2 3 15 1000000 60; era 0, 0 counts, 3 steps\nmakes hi!";
+        b"STORED\r\n\nSTORED\r\n\n\n3 0 fewer\n2 3 15 1000 60; era 0, 0 counts, 3 steps\nmakes hi!";
     assert_eq!(rt; begun(&rt)?.as_slice(), text.as_slice());
     Ok(())
 }
 
 /// Why there is no such site.
 fn refused(rt: &HostRuntime, site: u8, sites: u8) -> Result<Option<SetupError>, Fail> {
-    let hasher = RandomState::new(rt)?;
-    Ok(Kept::new(rt.alloc(), setup_of(site, sites, hasher)).err())
+    Ok(Kept::new(rt.alloc(), setup_of(rt, site, sites)?).err())
 }
 
 #[test]

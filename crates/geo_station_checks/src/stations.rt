@@ -1,45 +1,21 @@
 //! What no clause says of stations: that their calls succeed where there is memory, what they answer, and the steps that are kept.
-ghost use Rattle.std.specs.Prelude.{◌≡◌, ◌≤◌, ◌^◌, ℕ, [], IfOk};
+ghost use Rattle.std.specs.Prelude.{◌≡◌, ◌≤◌, ◌^◌, ℕ, []};
 ghost use Rattle.geo_history.specs.Keeping.{opened_with};
 ghost use Rattle.geo_history.specs.Stories.{story_in};
 
 use crate::calls::request;
 use crate::shown::show_steps;
+use geo_fixtures::{opened, setup_of};
 use geo_grammar::push_reply;
 use geo_history::{History, Kept};
-use geo_site::{Setup, Site};
+use geo_site::Site;
 use geo_station::{Seat, Station, StationError, Unclosed};
 use std::alloc::Global;
-use std::hash::RandomState;
 use std::marker::Brand;
 use std::random::RandomSource;
 use std::sync::Wait;
 use std::sync::ledger::{Blank, Ledger};
 use std::test::Fail;
-
-/// What a site is told at its start; it keeps its writes for sixty seconds.
-fn setup_of(rt: &impl RandomSource, site: u8, sites: u8) -> Result<Setup, Fail> {
-    Ok(Setup {
-        site,
-        sites,
-        pages: 15,
-        max_records: 1_000_000,
-        reap_after: 60,
-        hasher: RandomState::new(rt)?,
-    })
-}
-
-/// The first of so many sites, which knows nothing.
-pub fn opened(rt: &impl RandomSource, alloc: Global, sites: u8) -> Result<Kept, Fail>
-    ensures steps { IfOk result (λ kept. (story_in kept).steps ≡ []) }
-    ensures opening { IfOk result (λ kept. (seat : ℕ) → opened_with (story_in kept).opening seat ≡ 0) }
-{
-    let setup = setup_of(rt, 1, sites)?;
-    match Kept::new(alloc, setup) {
-        Ok(kept) => Ok(kept),
-        Err(_) => Err("no site".into()),
-    }
-}
 
 /// Whether a station of one seat is refused.
 fn refuses_one<L: Ledger>(blank: Blank, kept: Kept) -> bool
@@ -54,7 +30,7 @@ fn refuses_one<L: Ledger>(blank: Blank, kept: Kept) -> bool
 
 #[test]
 fn one_seat_is_too_few(rt: HostRuntime) -> Result<(), Fail> {
-    let kept = opened(&rt, rt.alloc(), 1)?;
+    let kept = opened(&rt, rt.alloc(), 1, 1)?;
     assert!(rt; refuses_one::<Brand>(Blank::new(1), kept));
     Ok(())
 }
@@ -220,7 +196,7 @@ fn shown<R: Wait + RandomSource>(
 ) -> Result<Vec<u8>, Fail> {
     let mut out = Vec::new(alloc);
     let mut other = other_site(rt, alloc)?;
-    let kept = opened(rt, alloc, sites)?;
+    let kept = opened(rt, alloc, 1, sites)?;
     let history = carried::<Brand, _>(rt, alloc, Blank::new(2), kept, &mut other, calls, &mut out)?;
     show_era(&mut out, &history)?;
     show_steps(&mut out, &history.steps)?;

@@ -3,7 +3,8 @@ ghost use Rattle.std.specs.Prelude.{◌≡◌, ◌≤◌, ◌^◌, ℕ, []};
 ghost use Rattle.geo_history.specs.Keeping.{opened_with};
 ghost use Rattle.geo_history.specs.Stories.{story_in};
 
-use crate::stations::{act, closed, opened};
+use crate::stations::{act, closed};
+use geo_fixtures::opened;
 use geo_history::{Event, History, Kept};
 use geo_station::{Seat, Station};
 use std::alloc::Global;
@@ -124,7 +125,7 @@ fn shared<R: Threads + Wait + RandomSource + Sync>(
     rt: &R,
     alloc: Global,
 ) -> Result<([usize; 5], usize, usize), Fail> {
-    let kept = opened(rt, alloc, 1)?;
+    let kept = opened(rt, alloc, 1, 1)?;
     let (told, history) = day::<Brand, _>(rt, alloc, Blank::new(2), kept)?;
     Ok((told, history.steps.len(), count_commands(&history)))
 }

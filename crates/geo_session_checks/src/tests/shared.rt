@@ -4,14 +4,13 @@ ghost use Rattle.geo_history.specs.Keeping.{opened_with};
 ghost use Rattle.geo_history.specs.Stories.{story_in};
 
 use super::{each, run_by};
+use geo_fixtures::opened;
 use geo_history::Kept;
 use geo_session::clock::Clock;
 use geo_session::{Counted, Gate, OpenGate, SessionEnd};
-use geo_site::Setup;
 use geo_station::Station;
 use geo_tally::{Counter, Tally, TallySeat};
 use std::alloc::Global;
-use std::hash::RandomState;
 use std::marker::Brand;
 use std::rt;
 use std::sync::Wait;
@@ -50,25 +49,6 @@ impl Gate for Meeting {
             thread::sleep(rt, Duration::from_millis(1));
         }
         self.missed.store(1, Ordering::SeqCst);
-    }
-}
-
-/// A site that knows nothing.
-fn opened(rt: &HostRuntime) -> Result<Kept, Fail>
-    ensures steps { IfOk result (λ kept. (story_in kept).steps ≡ []) }
-    ensures opening { IfOk result (λ kept. (seat : ℕ) → opened_with (story_in kept).opening seat ≡ 0) }
-{
-    let setup = Setup {
-        site: 1,
-        sites: 1,
-        pages: 15,
-        max_records: 1000,
-        reap_after: 60,
-        hasher: RandomState::new(rt)?,
-    };
-    match Kept::new(rt.alloc(), setup) {
-        Ok(kept) => Ok(kept),
-        Err(_) => Err("no site".into()),
     }
 }
 
@@ -128,7 +108,7 @@ fn two_sessions_run_at_once(rt: HostRuntime) -> Result<(), Fail> {
         passes: AtomicU64::new(0),
         missed: AtomicU64::new(0),
     };
-    let kept = opened(&rt)?;
+    let kept = opened(&rt, rt.alloc(), 1, 1)?;
     let right = both::<Brand, _>(&rt, rt.alloc(), Blank::new(2), kept, &gate)?;
     assert_eq!(rt; right, (true, true));
     assert_eq!(rt; gate.missed.load(Ordering::SeqCst), 0);
@@ -165,7 +145,7 @@ fn counted<L: Ledger, R: Wait + rt::Clock>(
 
 #[test]
 fn requests_are_counted(rt: HostRuntime) -> Result<(), Fail> {
-    let kept = opened(&rt)?;
+    let kept = opened(&rt, rt.alloc(), 1, 1)?;
     let (written, requests, sessions) = counted::<Brand, _>(&rt, rt.alloc(), Blank::new(2), kept)?;
     assert_eq!(rt;
         written.as_slice(),
