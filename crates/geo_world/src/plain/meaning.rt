@@ -1,7 +1,7 @@
 //! What a set of operations means.
 ghost use Rattle.std.specs.Prelude.{◌≡◌, ℕ, length, None, Some, map, cond};
-ghost use Rattle.geo_records.specs.Operations.{latest as latest_of, floor_of, floor_joined, body_joined, expiry_joined, flush_of, body_of, expiry_of, newest, above, is_above, version_in, version_of as version_named};
-ghost use Rattle.geo_laws.specs.Registers.{by_both};
+ghost use Rattle.geo_records.specs.Operations.{latest as latest_of, floor_of, floor_joined, flush_of, body_of, expiry_of, newest, above, is_above, version_in, version_of as version_named};
+ghost use Rattle.geo_laws.specs.Registers.{by_both, newer};
 ghost use Rattle.geo_stamp.specs.Stamps.{stamp_cmp};
 ghost use Rattle.geo_records.specs.Bodies.{body_cmp};
 ghost use Rattle.std.specs.Ordering.{nat_cmp};
@@ -9,6 +9,7 @@ ghost use Rattle.geo_site.specs.Entries.{names};
 ghost use Rattle.geo_world.specs.Plain.{act_of, is_about, operation_of, operations_of};
 
 use crate::plain::operation::{Act, Operation};
+use geo_lattice::Exact;
 use geo_stamp::Stamp;
 use geo_versions::{Body, Digest, Key, Length, Version};
 
@@ -62,8 +63,12 @@ pub fn floor(ops: &[Operation]) -> Option<Stamp>
     }
 }
 
-fn greater_body(one: Option<(Stamp, Body)>, other: Option<(Stamp, Body)>) -> Option<(Stamp, Body)>
-    ensures { result ≡ body_joined one other }
+/// The greater of two registers, by stamp and then by content, of which each may be empty.
+fn greater<T: Exact + Drop>(
+    one: Option<(Stamp, T)>,
+    other: Option<(Stamp, T)>,
+) -> Option<(Stamp, T)>
+    ensures { result ≡ newer (by_both stamp_cmp T.order) one other }
 {
     match (one, other) {
         (None, other) => other,
@@ -98,20 +103,7 @@ fn newest_body(key: &Key, ops: &[Operation]) -> Option<(Stamp, Body)>
 {
     match ops {
         [] => None,
-        [op, rest @ ..] => greater_body(body_left(key, op), newest_body(key, rest)),
-    }
-}
-
-fn greater_expiry(one: Option<(Stamp, u64)>, other: Option<(Stamp, u64)>) -> Option<(Stamp, u64)>
-    ensures { result ≡ expiry_joined one other }
-{
-    match (one, other) {
-        (None, other) => other,
-        (one, None) => one,
-        (Some(one), Some(other)) => {
-            let order = one.0.cmp(&other.0).then(one.1.cmp(&other.1));
-            Some(if order.is_lt() { other } else { one })
-        }
+        [op, rest @ ..] => greater(body_left(key, op), newest_body(key, rest)),
     }
 }
 
@@ -132,7 +124,7 @@ fn newest_expiry(key: &Key, ops: &[Operation]) -> Option<(Stamp, u64)>
 {
     match ops {
         [] => None,
-        [op, rest @ ..] => greater_expiry(expiry_left(key, op), newest_expiry(key, rest)),
+        [op, rest @ ..] => greater(expiry_left(key, op), newest_expiry(key, rest)),
     }
 }
 
@@ -145,21 +137,15 @@ fn is_above_floor(floor: Option<Stamp>, stamp: Stamp) -> bool
     }
 }
 
-fn body_above(floor: &Option<Stamp>, left: Option<(Stamp, Body)>) -> Option<(Stamp, Body)>
+/// What a register holds, where that is above the floor.
+fn above_floor<T: Drop>(floor: &Option<Stamp>, left: Option<(Stamp, T)>) -> Option<(Stamp, T)>
     ensures { result ≡ above floor.now left }
 {
-    match left {
-        Some(left) if is_above_floor(*floor, left.0) => Some(left),
-        _ => None,
-    }
-}
-
-fn expiry_above(floor: &Option<Stamp>, left: Option<(Stamp, u64)>) -> Option<(Stamp, u64)>
-    ensures { result ≡ above floor.now left }
-{
-    match left {
-        Some(left) if is_above_floor(*floor, left.0) => Some(left),
-        _ => None,
+    let left = left?;
+    if is_above_floor(*floor, left.0) {
+        Some(left)
+    } else {
+        None
     }
 }
 
@@ -192,8 +178,8 @@ pub fn version_of(key: &Key, ops: &[Operation]) -> Option<Version>
     let lowest = floor(ops);
     let body = newest_body(key, ops);
     let expiry = newest_expiry(key, ops);
-    let winner = body_above(&lowest, body);
-    version_shown(winner, expiry_above(&lowest, expiry))
+    let winner = above_floor(&lowest, body);
+    version_shown(winner, above_floor(&lowest, expiry))
 }
 
 /// Whether a version names these bytes.
