@@ -1,5 +1,5 @@
 -- A round: a parcel for each other site, over the link that leads there.
-use Rattle.std.specs.Prelude.{◌≡◌, ◌⊎◌, ℕ, ◌+◌, ◌<◌, Bool, true, false, cond, List, [], ◌∷◌, length, take, drop, Ok, Err}
+use Rattle.std.specs.Prelude.{◌≡◌, ◌⊎◌, ℕ, ◌+◌, ◌<◌, ◌≤◌, Bool, true, false, cond, List, [], ◌∷◌, length, take, drop, Ok, Err}
 use Rattle.geo_delta.specs.Ranges.{InRange}
 use Rattle.geo_delta.specs.declared.parcel.Parcel.{Parcel}
 use Rattle.geo_gossip.specs.declared.fault.GossipFault.{GossipFault}
@@ -15,6 +15,10 @@ use Rattle.geo_station.specs.declared.refusal.CallError.TheVariants.{SeatSpent, 
 -- the seat has let go of the calls that it kept
 abbrev pub emptied : Seated → Seated
 emptied seat = record seat { calls = []; forgot = true }
+
+-- of its calls the seat keeps the last alone, once it made one
+abbrev pub KeepsLast : Seated → Seated → Type 0
+KeepsLast old new = (new ≡ old) ⊎ (length new.calls ≤ 1)
 
 -- the site made a parcel for the peer, and its link took it
 pub record Took {K : Type 0} (puts : K → Parcel → K → Type 0) (old new : Peer K) (seat after : Seated) : Type 0 where

@@ -1,5 +1,6 @@
 //! Taking what other sites send.
-ghost use Rattle.std.specs.Prelude.{◌≡◌, ◌+◌, ◌≤◌, true, false, if◌then◌else◌};
+ghost use Rattle.std.specs.Prelude.{◌+◌, ◌≤◌, length, if◌then◌else◌};
+ghost use Rattle.geo_gossip.specs.Rounds.{KeepsLast};
 
 use geo_delta::Parcel;
 use geo_link::{Link, LinkError};
@@ -16,7 +17,8 @@ fn taken<R: Wait, L: Ledger>(
     seat: &mut Seat<L>,
     parcel: Parcel,
 ) -> bool
-    ensures { seat.old.steps + (if result then 1 else 0) ≤ seat.new.steps }
+    ensures steps { seat.old.steps + (if result then 1 else 0) ≤ seat.new.steps }
+    ensures last { length seat.new.calls ≤ 1 }
 {
     seat.forget();
     station.take(rt, alloc, seat, parcel).is_ok()
@@ -32,7 +34,8 @@ pub fn receive<R: Wait, L: Ledger, K: Link>(
     seat: &mut Seat<L>,
     link: &mut K,
 ) -> usize
-    ensures { seat.old.steps + result ≤ seat.new.steps }
+    ensures steps { seat.old.steps + result ≤ seat.new.steps }
+    ensures last { KeepsLast seat.old seat.new }
 {
     let mut count = 0usize;
     for _ in rt.forever() {

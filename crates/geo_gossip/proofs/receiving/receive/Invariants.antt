@@ -1,8 +1,10 @@
 use Rattle.std.proofs.Common.{ℕ, ◌+◌, ◌≤◌}
+use Rattle.geo_gossip.specs.Rounds.{KeepsLast}
 use Rattle.geo_gossip.proofs.receiving.receive.Given as goal
 
--- each parcel that was taken is a step of the seat
+-- each parcel that was taken is a step of the seat, and the seat keeps its last call alone
 abbrev pub invariant-loop : goal.invariant-loop
 invariant-loop g l =
     (goal.iterator-loop g).can_next l.iterator' × (goal.iterator-loop g).is_finite l.iterator'
     × (l.fn.seat.steps + l.count ≤ l.seat.steps)
+    × KeepsLast l.fn.seat l.seat
