@@ -17,7 +17,7 @@ use Rattle.geo_grammar.specs.declared.reply.Reply.TheVariants.{OutOfMemory}
 use Rattle.geo_site.specs.declared.acted.Acted.{Acted}
 use Rattle.geo_site.specs.Entries.{is_stuck, is_done, made_on, due_acts}
 use Rattle.geo_site.specs.Machine.{SiteState, Same, visible_in}
-use Rattle.geo_site.specs.Sites.{state_in, heard_in, waiting_in, counts_in, clock_in, limits_of, issued_in, victim_in, Rests, Stays, Remains, FlushDoes, RequestDoesBy, ActDoes, ActTells, ActFullDoes, ReapDoes, SendDoes, TakeDoes}
+use Rattle.geo_site.specs.Sites.{state_in, heard_in, waiting_in, counts_in, clock_in, limits_of, issued_in, victim_in, twice, Rests, Stays, Remains, FlushDoes, RequestDoesBy, ActDoes, ActTells, ActFullDoes, ReapDoes, SendDoes, TakeDoes}
 use Rattle.geo_site.proofs.Stocking.{state_path, unchanged}
 use Rattle.std.proofs.lemmas.List.{append-nil}
 use Rattle.geo_history.specs.declared.step.Event.TheVariants.{Command, Evict, Send, Take, Remove, Tick, Reap}
@@ -170,9 +170,8 @@ refused_by : (b : Bool) (old mid new : Site) (now : ℕ) (request : Request) →
 refused_by true old mid new now request flush d = flush_still old mid new now flush d.1 d.2 d.3
 refused_by false old mid new now request flush d = flush_still old mid new now flush (d.refused refl) (d.counts, d.waiting) d.stays
 
-pub refused_act : (old mid new : Site) (now : ℕ) (request : Request) (wanted : ℕ) (e : AllocError) → FlushDoes old mid now → ActFullDoes mid new now request wanted (Err e) → FlushDoes old new now
-refused_act old mid new now request wanted e flush (inl d) = refused_by (is_stuck (waiting_in mid) (clock_in mid) now) old d.mid new now request (flush_again old mid d.mid now flush d.flush) d.does
-refused_act old mid new now request wanted e flush (inr d) = flush_still old mid new now flush d.1 d.2 d.3
+pub refused_act : (old mid new : Site) (now : ℕ) (request : Request) (wanted : Bool) (e : AllocError) → FlushDoes old mid now → ActFullDoes mid new now request wanted (Err e) → FlushDoes old new now
+refused_act old mid new now request wanted e flush d = refused_by (is_stuck (waiting_in mid) (clock_in mid) now) old d.mid new now request (flush_again old mid d.mid now flush d.flush) d.does
 
 -- the steps of both
 goes_both : (old mid new : Story) (seat now : ℕ) (event : Event) (answer : Answer) (victim : Option (List ℕ)) (made : Option (List ℕ × ℕ)) → GoesOn old mid (flush_steps old seat now) → GoesOn mid new (step_with seat (made_by mid seat + 1) event answer victim made ∷ [])
@@ -185,7 +184,7 @@ goes_both old mid new seat now event answer victim made one two = record {
 }
 
 module _ (old mid new : Story) (seat now : ℕ) (flush : FlushDoes old.site mid.site now) (first : GoesOn old mid (flush_steps old seat now)) where
-  pub acts_for : (request : Request) (wanted : ℕ) (acted : Acted) (replies : Reply × Reply) → ActTells mid.site new.site now request wanted acted → replies ≡ (acted.reply, acted.reply)
+  pub acts_for : (request : Request) (wanted : Bool) (acted : Acted) (replies : Reply × Reply) → ActTells mid.site new.site now request wanted acted → replies ≡ (acted.reply, acted.reply)
       → GoesOn mid new (step_with seat (made_by mid seat + 1) (Command now request) (Replied acted.reply) acted.victim acted.made ∷ []) → ActsFor old new seat now request replies
   acts_for request wanted acted replies tells are on =
       let d = tells.does in
@@ -222,23 +221,9 @@ few_flushes story now = by (is_flush_due story now)
     by true = omega arith
     by false = omega arith
 
--- the last two of two
-last_of_one : {A : Type 0} (xs : List A) (b r : A) → xs ++ b ∷ [] ≡ r ∷ [] → b ≡ r
-last_of_one [] b r h = cc
-last_of_one (x ∷ []) b r h = cc
-last_of_one (x ∷ y ∷ ys) b r h = cc
-
-last_of_two : {A : Type 0} (xs : List A) (a r s : A) → xs ++ a ∷ [] ≡ r ∷ s ∷ [] → (a ≡ s) × (xs ≡ r ∷ [])
-last_of_two [] a r s h = (cc, cc)
-last_of_two (x ∷ []) a r s h = (cc, cc)
-last_of_two (x ∷ y ∷ []) a r s h = (cc, cc)
-last_of_two (x ∷ y ∷ z ∷ zs) a r s h = (cc, cc)
-
-pub two_popped : (all less least : List Reply) (one two reply : Reply) → all ≡ reply ∷ reply ∷ [] → all ≡ less ++ one ∷ [] → less ≡ least ++ two ∷ [] → Rattle.std.proofs.Common.◌≡◌ {A = Reply × Reply} (one, two) (reply, reply)
-two_popped all less least one two reply is first second =
-    let last = last_of_two less one reply reply (sym first ∙ is) in
-    let next = last_of_one least two reply (sym second ∙ last.1) in
-    λ i. (last.0 i, next i)
+-- the copies of a reply are that reply
+pub two_copies : (two : Reply × Reply) (reply : Reply) (copies : Option (Reply × Reply)) → copies ≡ Some two → copies ≡ twice true reply → two ≡ (reply, reply)
+two_copies two reply copies some is = let both : Some two ≡ Some (reply, reply) = sym some ∙ is in cc
 
 -- all is left as it is
 pub leaves_same : (old new : Story) → new.site ≡ old.site → new.opening ≡ old.opening → new.steps ≡ old.steps → LeavesAll old new

@@ -97,23 +97,23 @@ impl Parts {
     {
         self.steps.ready(2)?;
         self.flush_due(seat, now);
-        let acted = match self.site.act_full(alloc, now, &request, 2) {
+        let acted = match self.site.act_full(alloc, now, &request, true) {
             Ok(acted) => acted,
             Err(refused) => return Err(refused),
         };
         let Acted {
             reply,
-            mut copies,
+            copies,
             victim,
             made,
         } = acted;
-        let (Some(one), Some(two)) = (copies.pop(), copies.pop()) else {
+        let Some(copies) = copies else {
             unreachable!();
         };
         request.forget_digest();
         let event = Event::Command { now, request };
         self.append(seat, event, Answer::Replied(reply), victim, made);
-        Ok((one, two))
+        Ok(copies)
     }
 
     /// Makes a parcel for another site.

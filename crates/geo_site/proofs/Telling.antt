@@ -1,6 +1,6 @@
 -- What is told beside a reply: copies, a victim, and what was made.
-use Rattle.std.proofs.Common.{◌≡◌, ℕ, ℤ, Bool, true, false, cond, List, [], ◌∷◌, Option, None, Some, refl, sym, ap, ◌∙◌, subst, inl, true≢false}
-use Rattle.std.specs.Prelude.{Result, Ok, Err, IfOk, replicate}
+use Rattle.std.proofs.Common.{◌≡◌, ℕ, ℤ, Bool, true, false, cond, List, [], ◌∷◌, Option, None, Some, refl, sym, ap, ◌∙◌, subst, true≢false}
+use Rattle.std.specs.Prelude.{Result, Ok, Err, IfOk}
 use Rattle.std.specs.declared.alloc.AllocError.{AllocError}
 use Rattle.geo_grammar.specs.declared.request.Request.{Request}
 use Rattle.geo_grammar.specs.declared.reply.Reply.TheVariants.{ClockEnded}
@@ -18,14 +18,14 @@ use Rattle.geo_memcache.specs.declared.decision.Decision.{Decision}
 use Rattle.geo_memcache.specs.declared.decision.Effect.{Effect}
 use Rattle.geo_site.specs.Entries.{acts_of, is_done, made_of, made_on, flushes_now, flush_acts}
 use Rattle.geo_site.specs.Machine.{visible_in}
-use Rattle.geo_site.specs.Sites.{state_in, issued_in, victim_in, reply_in, ActDoes, TellsBeside, TellsPlain, ActFullDoes}
+use Rattle.geo_site.specs.Sites.{state_in, issued_in, victim_in, reply_in, twice, ActDoes, TellsBeside, TellsPlain, ActFullDoes}
 use Rattle.geo_site.specs.Changes.{is_change, bytes_in, TellsChange, TellsEffect}
 
 -- what was answered, with what is told, is what a command does by its result
-pub full_does : (old new : Site) (now : ℕ) (request : Request) (wanted : ℕ) (result : Result Acted AllocError) (does : ActDoes old new now request (reply_in result))
+pub full_does : (old new : Site) (now : ℕ) (request : Request) (wanted : Bool) (result : Result Acted AllocError) (does : ActDoes old new now request (reply_in result))
     → IfOk result (TellsBeside does.mid wanted (issued_in does.mid now request) (made_on now (visible_in (state_in does.mid) now) request)) → ActFullDoes old new now request wanted result
 full_does old new now request wanted (Ok acted) does told = record { does = does; told = told }
-full_does old new now request wanted (Err refused) does told = inl does
+full_does old new now request wanted (Err refused) does told = does
 
 -- nothing is made by a delete, and nothing by a touch
 delete_makes : (present : Option Entry) → made_of (deletes present).1 ≡ None
@@ -37,7 +37,7 @@ touch_makes exptime now None = refl
 touch_makes exptime now (Some e) = refl
 
 -- what is told of a change is told of the request that asks for it
-pub change_told : (old : Site) (now : ℕ) (key : List ℕ) (ask : Ask) (noreply : Bool) (wanted : ℕ) (result : Result Acted AllocError) → is_change ask ≡ true
+pub change_told : (old : Site) (now : ℕ) (key : List ℕ) (ask : Ask) (noreply : Bool) (wanted : Bool) (result : Result Acted AllocError) → is_change ask ≡ true
     → IfOk result (TellsChange old wanted key (bytes_in ask) (decided (visible_in (state_in old) now key) now ask))
     → IfOk result (TellsBeside old wanted (issued_in old now (request_of key ask noreply)) (made_on now (visible_in (state_in old) now) (request_of key ask noreply)))
 change_told old now key (Store verb flags exptime unique bytes) noreply wanted result h told = told
@@ -52,7 +52,7 @@ neither : {A : Type 0} (t : Bool) (x : Option A) → x ≡ None → None ≡ con
 neither true x h = sym h
 neither false x h = refl
 
-pub plain_told : (site : Site) (wanted : ℕ) (acts : List Act) (acted : Acted) → victim_in site acts ≡ None → TellsPlain wanted acted → TellsBeside site wanted acts None acted
+pub plain_told : (site : Site) (wanted : Bool) (acts : List Act) (acted : Acted) → victim_in site acts ≡ None → TellsPlain wanted acted → TellsBeside site wanted acts None acted
 plain_told site wanted acts acted none told = record {
   said = told.said;
   copies = told.copies;
@@ -60,7 +60,7 @@ plain_told site wanted acts acted none told = record {
   made = told.made ∙ neither (is_done acted.reply) None refl;
 }
 
-pub each_plain_told : (site : Site) (wanted : ℕ) (acts : List Act) (result : Result Acted AllocError) → victim_in site acts ≡ None → IfOk result (TellsPlain wanted) → IfOk result (TellsBeside site wanted acts None)
+pub each_plain_told : (site : Site) (wanted : Bool) (acts : List Act) (result : Result Acted AllocError) → victim_in site acts ≡ None → IfOk result (TellsPlain wanted) → IfOk result (TellsBeside site wanted acts None)
 each_plain_told site wanted acts (Ok acted) none told = plain_told site wanted acts acted none told
 each_plain_told site wanted acts (Err refused) none told = told
 
@@ -73,7 +73,7 @@ flush_keeps site now delay = by (flushes_now delay now)
     by false = refl
 
 -- nothing is done where the clock has ended
-pub stuck_told : (site : Site) (wanted : ℕ) (now : ℕ) (request : Request) (acted : Acted) → acted.reply ≡ ClockEnded → TellsPlain wanted acted
+pub stuck_told : (site : Site) (wanted : Bool) (now : ℕ) (request : Request) (acted : Acted) → acted.reply ≡ ClockEnded → TellsPlain wanted acted
     → TellsBeside site wanted (issued_in site now request) (made_on now (visible_in (state_in site) now) request) acted
 stuck_told site wanted now request acted is told = record {
   said = told.said;
@@ -83,7 +83,7 @@ stuck_told site wanted now request acted is told = record {
 }
 
 -- what is told of an effect is told with the reply that was decided
-pub reply_told : (old : Site) (wanted : ℕ) (key bytes : List ℕ) (d : Decision) (effect : Effect) (beside : Beside) (acted : Acted) → is_done acted.reply ≡ true → acted.copies.items ≡ replicate wanted acted.reply
+pub reply_told : (old : Site) (wanted : Bool) (key bytes : List ℕ) (d : Decision) (effect : Effect) (beside : Beside) (acted : Acted) → is_done acted.reply ≡ true → acted.copies ≡ twice wanted acted.reply
     → acted.victim ≡ beside.victim → acted.made ≡ beside.made → TellsEffect old key bytes effect beside → effect ≡ d.effect → TellsChange old wanted key bytes d acted
 reply_told old wanted key bytes d effect beside acted done copies victim made told is = record {
   said = λ refused. true≢false (sym done ∙ ap is_done refused);

@@ -122,5 +122,5 @@ ChangeDoes old new key bytes decision said =
     ⊎ ((why : WriteError) × (said ≡ refusal_reply why) × EffectDoes old new key bytes decision.effect (Err why))
 
 -- and what is told of the change beside the reply
-abbrev pub TellsChange : Site → ℕ → List ℕ → List ℕ → Decision → Acted → Type 0
+abbrev pub TellsChange : Site → Bool → List ℕ → List ℕ → Decision → Acted → Type 0
 TellsChange old wanted key bytes decision acted = TellsBeside old wanted (acts_of key bytes decision.effect) (made_of decision.effect) acted

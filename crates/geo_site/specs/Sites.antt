@@ -1,5 +1,5 @@
 -- What a site of the code is, as a state of the machine, and what a parcel of the code brings.
-use Rattle.std.specs.Prelude.{IsTrue, ◌↔◌, ◌≡◌, ◌≢◌, ◌⊎◌, [], ◌∷◌, ℕ, ◌+◌, ◌-◌, ◌≤◌, ◌<◌, Bool, true, false, cond, not, ◌&&◌, ◌==◌, nat_le, List, length, Option, None, Some, IsSome, is_some, Result, Ok, Err, replicate}
+use Rattle.std.specs.Prelude.{IsTrue, ◌↔◌, ◌≡◌, ◌≢◌, ◌⊎◌, [], ◌∷◌, ℕ, ◌+◌, ◌-◌, ◌≤◌, ◌<◌, Bool, true, false, cond, not, ◌&&◌, ◌==◌, nat_le, List, length, Option, None, Some, IsSome, is_some, Result, Ok, Err}
 use Rattle.std.specs.List.{All, list_all}
 use Rattle.std.specs.declared.alloc.AllocError.{AllocError}
 use Rattle.geo_slabs.specs.Storage.{class_count, most_pages}
@@ -226,31 +226,34 @@ abbrev pub reply_in : Result Acted AllocError → Reply
 reply_in (Ok acted) = acted.reply
 reply_in (Err refused) = OutOfMemory
 
--- what is told beside a reply: so many copies of it, whose bytes went for what was stored, and what was made of older bytes
-pub record TellsBeside (site : Site) (wanted : ℕ) (acts : List Act) (bytes : Option (List ℕ × ℕ)) (acted : Acted) : Type 0 where
+-- the reply twice more, where that is wanted
+abbrev pub twice : Bool → Reply → Option (Reply × Reply)
+twice true reply = Some (reply, reply)
+twice false reply = None
+
+-- what is told beside a reply: the reply twice more, whose bytes went for what was stored, and what was made of older bytes
+pub record TellsBeside (site : Site) (wanted : Bool) (acts : List Act) (bytes : Option (List ℕ × ℕ)) (acted : Acted) : Type 0 where
   pub said : acted.reply ≡ OutOfMemory → ⊥
-  pub copies : acted.copies.items ≡ replicate wanted acted.reply
+  pub copies : acted.copies ≡ twice wanted acted.reply
   pub victim : acted.victim ≡ cond (is_done acted.reply) (victim_in site acts) None
   pub made : acted.made ≡ cond (is_done acted.reply) bytes None
 
 -- where nothing is stored
-pub record TellsPlain (wanted : ℕ) (acted : Acted) : Type 0 where
+pub record TellsPlain (wanted : Bool) (acted : Acted) : Type 0 where
   pub said : acted.reply ≡ OutOfMemory → ⊥
-  pub copies : acted.copies.items ≡ replicate wanted acted.reply
+  pub copies : acted.copies ≡ twice wanted acted.reply
   pub victim : acted.victim ≡ None
   pub made : acted.made ≡ None
 
--- what a command does and tells, with so many copies of its reply
-pub record ActTells (old new : Site) (now : ℕ) (request : Request) (wanted : ℕ) (acted : Acted) : Type 0 where
+-- what a command does and tells
+pub record ActTells (old new : Site) (now : ℕ) (request : Request) (wanted : Bool) (acted : Acted) : Type 0 where
   pub does : ActDoes old new now request acted.reply
   pub told : TellsBeside does.mid wanted (issued_in does.mid now request) (made_on now (visible_in (state_in does.mid) now) request) acted
 
--- by its result: where memory is wanted for what it does, the command is answered so; where it is wanted for the copies alone,
--- nothing changes
-abbrev pub ActFullDoes : Site → Site → ℕ → Request → ℕ → Result Acted AllocError → Type 0
+-- by its result: where memory is wanted, the command is answered so
+abbrev pub ActFullDoes : Site → Site → ℕ → Request → Bool → Result Acted AllocError → Type 0
 ActFullDoes old new now request wanted (Ok acted) = ActTells old new now request wanted acted
 ActFullDoes old new now request wanted (Err refused) = ActDoes old new now request OutOfMemory
-    ⊎ ((wanted ≢ 0) × Same (state_in old) (state_in new) × Rests old new × Stays old new)
 
 -- a tick is a due flush alone, and says whether there was one
 pub record TickDoes (old new : Site) (now : ℕ) (done : Bool) : Type 0 where

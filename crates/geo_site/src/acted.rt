@@ -1,8 +1,8 @@
 //! What a command leaves beside its reply.
-ghost use Rattle.std.specs.Prelude.{◌≡◌, ◌≢◌, ◌≤◌, ℕ, [], true, None, IfOk, IfErr, length, replicate};
+ghost use Rattle.std.specs.Prelude.{◌≡◌, true, None, IfOk};
 ghost use Rattle.geo_grammar.specs.Replies.{is_short};
 ghost use Rattle.geo_grammar.specs.declared.reply.Reply.TheVariants.{Values, OutOfMemory};
-ghost use Rattle.geo_site.specs.Sites.{TellsPlain};
+ghost use Rattle.geo_site.specs.Sites.{twice, TellsPlain};
 
 use geo_grammar::{Found, Reply, Shared};
 use geo_lattice::Twin;
@@ -14,8 +14,8 @@ use std::alloc::{AllocError, Global};
 pub struct Acted {
     /// The reply, which may be a refusal, but for want of memory.
     pub reply: Reply,
-    /// As many equal replies as were asked for.
-    pub copies: Vec<Reply>,
+    /// The reply twice more, where that was wanted.
+    pub copies: Option<(Reply, Reply)>,
     /// The key whose bytes were evicted for what the command stored, if any.
     pub victim: Option<Key>,
     /// The SHA-256, and the length in bytes, of what the command made of older bytes and stored (append, prepend, incr, decr).
@@ -42,72 +42,45 @@ impl Beside {
     }
 }
 
-/// Room for as many copies of a reply as are wanted.
-#[derive(Drop)]
-pub(crate) struct Copies {
-    wanted: usize,
-    room: Vec<Reply>,
-    ghost empty: { room.items ≡ [] },
-    ghost fits: { wanted ≤ room.cap },
+/// A reply that shows no values twice more, where that is wanted. It takes no memory.
+fn twice_short(with_copies: bool, reply: &Reply) -> Option<(Reply, Reply)>
+    requires short { is_short reply.now ≡ true }
+    ensures { result ≡ twice with_copies reply.now }
+{
+    if !with_copies {
+        return None;
+    }
+    match (reply.short_copy(), reply.short_copy()) {
+        (Some(one), Some(two)) => Some((one, two)),
+        _ => unreachable!(),
+    }
 }
 
-impl Copies {
-    /// Room for so many. None of them takes none.
-    pub(crate) fn new(alloc: Global, wanted: usize) -> Result<Copies, AllocError>
-        ensures room { IfOk result (λ copies. copies.wanted ≡ wanted) }
-        ensures memory { IfErr result (λ _. wanted ≢ 0) }
-    {
-        if wanted == 0 {
-            let room = Vec::new(alloc);
-            return Ok(Copies { wanted, room });
-        }
-        let room = Vec::with_capacity(alloc, wanted)?;
-        Ok(Copies { wanted, room })
+/// A reply that shows these values twice more, where that is wanted. All share the values.
+pub(crate) fn twice_values(
+    alloc: Global,
+    with_copies: bool,
+    found: &Shared<Found>,
+) -> Result<Option<(Reply, Reply)>, AllocError>
+    ensures { IfOk result (λ copies. copies ≡ twice with_copies (Values found.now)) }
+{
+    if !with_copies {
+        return Ok(None);
     }
-
-    /// Copies of a reply that shows no values. They take no memory.
-    pub(crate) fn of_short(self, reply: &Reply) -> Vec<Reply>
-        requires short { is_short reply.now ≡ true }
-        ensures { result.items ≡ replicate self.wanted reply.now }
-    {
-        let Copies { wanted, mut room } = self;
-        for _ in 0..wanted {
-            let Some(copy) = reply.short_copy() else {
-                unreachable!();
-            };
-            let Ok(()) = room.push(copy) else {
-                unreachable!();
-            };
-        }
-        room
-    }
-
-    /// Copies of a reply that shows these values, which they share.
-    pub(crate) fn of_values(
-        self,
-        alloc: Global,
-        found: &Shared<Found>,
-    ) -> Result<Vec<Reply>, AllocError>
-        ensures { IfOk result (λ all. all.items ≡ replicate self.wanted (Values found.now)) }
-    {
-        let Copies { wanted, mut room } = self;
-        for _ in 0..wanted {
-            room.push(Reply::Values(found.twin(alloc)?))?;
-        }
-        Ok(room)
-    }
+    let (one, two) = (found.twin(alloc)?, found.twin(alloc)?);
+    Ok(Some((Reply::Values(one), Reply::Values(two))))
 }
 
 impl Acted {
     /// A reply that shows no values, with what is told of its effect.
-    pub(crate) fn short(reply: Reply, beside: Beside, copies: Copies) -> Acted
+    pub(crate) fn short(reply: Reply, beside: Beside, with_copies: bool) -> Acted
         requires short { is_short reply ≡ true }
         ensures reply { result.reply ≡ reply }
-        ensures copies { result.copies.items ≡ replicate copies.wanted reply }
+        ensures copies { result.copies ≡ twice with_copies reply }
         ensures victim { result.victim ≡ beside.victim }
         ensures made { result.made ≡ beside.made }
     {
-        let copies = copies.of_short(&reply);
+        let copies = twice_short(with_copies, &reply);
         let Beside { victim, made } = beside;
         Acted {
             reply,
@@ -118,17 +91,17 @@ impl Acted {
     }
 
     /// A reply that shows no values to a request that stores nothing.
-    pub(crate) fn plain(reply: Reply, copies: Copies) -> Acted
+    pub(crate) fn plain(reply: Reply, with_copies: bool) -> Acted
         requires short { is_short reply ≡ true }
         requires said { reply ≡ OutOfMemory → ⊥ }
         ensures reply { result.reply ≡ reply }
-        ensures told { TellsPlain copies.wanted result }
+        ensures told { TellsPlain with_copies result }
     {
-        Acted::short(reply, Beside::nothing(), copies)
+        Acted::short(reply, Beside::nothing(), with_copies)
     }
 
     /// A reply that shows values.
-    pub(crate) fn values(found: Shared<Found>, copies: Vec<Reply>) -> Acted
+    pub(crate) fn values(found: Shared<Found>, copies: Option<(Reply, Reply)>) -> Acted
         ensures reply { result.reply ≡ Values found }
         ensures copies { result.copies ≡ copies }
         ensures victim { result.victim ≡ None }

@@ -10,7 +10,8 @@ ghost use Rattle.geo_site.specs.Machine.{clock_of, visible_in};
 ghost use Rattle.geo_site.specs.Sites.{state_in, touched_in, HasIssued, Rests, Stays, FetchTouchDoes, TellsPlain, reply_in};
 ghost use Rattle.geo_site.specs.Changes.{next_stamp_of, HasRecord, HasBody};
 
-use crate::acted::{Acted, Copies};
+use crate::acted::{Acted, twice_values};
+use crate::fetch::Places;
 use crate::notes::note;
 use crate::reap::earlier;
 use crate::site::Site;
@@ -64,7 +65,7 @@ impl Site {
         count
     }
 
-    /// What a fetch of these keys shows that touches them.
+    /// What a fetch of these keys shows that touches them, and where it stands.
     fn found_to_touch(
         &self,
         alloc: Global,
@@ -72,19 +73,21 @@ impl Site {
         expiry: u64,
         keys: &[Key],
         numbers: bool,
-    ) -> Result<Vec<Found>, AllocError>
-        ensures { IfOk result (λ all. all.items ≡ touched_in self.now now expiry keys.now numbers) }
+    ) -> Result<(Vec<Found>, Places), AllocError>
+        ensures { IfOk result (λ found. found.0.items ≡ touched_in self.now now expiry keys.now numbers) }
     {
         let mut all = Vec::new(alloc);
+        let mut places = Places::new(alloc);
         for (index, key) in keys.iter().enumerate() {
             if !self.is_found(now, expiry, &keys[..index], key) {
                 continue;
             }
-            if let Some(found) = self.look(alloc, now, key, numbers)? {
+            if let Some((place, found)) = self.look(alloc, now, key, numbers)? {
+                places.push(place)?;
                 all.push(found)?;
             }
         }
-        Ok(all)
+        Ok((all, places))
     }
 
     /// Whether stamps are left for so many operations.
@@ -131,20 +134,20 @@ impl Site {
         expiry: u64,
         keys: &[Key],
         numbers: bool,
-        copies: Copies,
+        with_copies: bool,
     ) -> Result<Acted, AllocError>
         ensures does { FetchTouchDoes self.old self.new now expiry keys.now numbers (reply_in result) }
-        ensures told { IfOk result (TellsPlain copies.wanted) }
+        ensures told { IfOk result (TellsPlain with_copies) }
         ensures rests { Rests self.old self.new }
         ensures stays { Stays self.old self.new }
     {
         if !self.can_touch(now, expiry, keys) {
-            return Ok(Acted::plain(Reply::ClockEnded, copies));
+            return Ok(Acted::plain(Reply::ClockEnded, with_copies));
         }
-        let all = self.found_to_touch(alloc, now, expiry, keys, numbers)?;
+        let (all, places) = self.found_to_touch(alloc, now, expiry, keys, numbers)?;
         let found = Shared::of(alloc, all)?;
-        let copies = copies.of_values(alloc, &found)?;
-        self.note_hits(found.as_slice());
+        let copies = twice_values(alloc, with_copies, &found)?;
+        self.note_hits(found.as_slice(), &places);
         self.renew_all(expiry, found.as_slice());
         Ok(Acted::values(found, copies))
     }

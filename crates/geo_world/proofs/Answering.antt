@@ -213,11 +213,6 @@ module _ (sites : List Site) (parcels : List Parcel) (w : Known) (agrees : Agree
         by ClockEnded d = after does.mid does.flush (flushed w s now) (agrees_still (slice_set sites k does.mid) parcels (flushed w s now) (between does.mid does.flush) k s at_number (there_still does.mid does.flush) does.mid new (found_still does.mid does.flush) does.stays d.1 does.rests)
         by Memory d = absurd d
 
--- where no copies are wanted, memory was wanted for the command itself
-pub for_itself : (old new : Site) (now : ℕ) (request : Request) → ActDoes old new now request OutOfMemory ⊎ ((◌≢◌ {A = ℕ} 0 0) × Same (state_in old) (state_in new) × Rests old new × Stays old new) → ActDoes old new now request OutOfMemory
-for_itself old new now request (inl does) = does
-for_itself old new now request (inr copies) = absurd (copies.0 refl)
-
 -- ---- an eviction
 none_held : (o : Option (List ℕ)) → is_some o ≡ false → o ≡ None
 none_held None h = refl

@@ -24,7 +24,7 @@ impl World {
         ensures as_many { length self.new.sites.items ≡ length self.old.sites.items }
     {
         let at = &mut self.sites[site as usize - 1];
-        match at.act_full(alloc, now, request, 0) {
+        match at.act_full(alloc, now, request, false) {
             Ok(acted) => Trace::Replied(acted.reply, acted.victim),
             Err(_) => Trace::Replied(Reply::OutOfMemory, None),
         }

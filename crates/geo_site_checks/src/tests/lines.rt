@@ -149,25 +149,25 @@ fn begin(alloc: Global, site: &mut Site, text: &str, out: &mut Vec<u8>) -> Resul
     out.extend_from_slice(first)
 }
 
-/// A request with so many copies of its reply.
+/// A request, and its reply twice more where there are to be copies.
 fn act_full(
     alloc: Global,
     site: &mut Site,
-    copies: usize,
+    copies: &str,
     request: &Request,
     out: &mut Vec<u8>,
 ) -> Result<(), AllocError> {
-    let acted = site.act_full(alloc, NOW, request, copies)?;
+    let acted = site.act_full(alloc, NOW, request, copies == "twice")?;
     push_acted(alloc, out, request, &acted)
 }
 
-/// `full COPIES TEXT`: the reply, its copies, and what is told beside them.
+/// `full once TEXT`, `full twice TEXT`: the reply, its copies where it is to be told twice more, and what is told beside them.
 fn full(alloc: Global, site: &mut Site, rest: &str, out: &mut Vec<u8>) -> Result<(), AllocError> {
     let (copies, text) = cut(rest);
     let items = Reader::new(alloc).feed(text.as_bytes())?;
     for item in &items {
         if let Item::Request(request) = item {
-            act_full(alloc, site, number(copies) as usize, request, out)?;
+            act_full(alloc, site, copies, request, out)?;
         }
     }
     Ok(())
@@ -209,11 +209,11 @@ fn store(alloc: Global, site: &mut Site, rest: &str, out: &mut Vec<u8>) -> Resul
     }
 }
 
-/// `fill COPIES VERB KEY COUNT`: its reply to it, with copies, and what is told beside them.
+/// `fill once VERB KEY COUNT`, `fill twice ..`: its reply to it, with copies, and what is told beside them.
 fn fill(alloc: Global, site: &mut Site, rest: &str, out: &mut Vec<u8>) -> Result<(), AllocError> {
     let (copies, rest) = cut(rest);
     match command(alloc, rest)? {
-        Some(request) => act_full(alloc, site, number(copies) as usize, &request, out),
+        Some(request) => act_full(alloc, site, copies, &request, out),
         None => push(out, "no key"),
     }
 }

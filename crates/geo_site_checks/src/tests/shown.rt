@@ -46,8 +46,9 @@ pub fn push_acted(
     acted: &Acted,
 ) -> Result<(), AllocError> {
     push_answer(out, request, &acted.reply)?;
-    for copy in &acted.copies {
-        push_answer(out, request, copy)?;
+    if let Some((one, two)) = &acted.copies {
+        push_answer(out, request, one)?;
+        push_answer(out, request, two)?;
     }
     if let Some(victim) = &acted.victim {
         push(out, "victim ")?;

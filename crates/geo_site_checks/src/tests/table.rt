@@ -31,10 +31,10 @@ pub const REPLIES: &[Scene] = &[
         pages: 16,
         records: 100,
         rows: &[
-            ("1 fill 0 set a 1048576", "STORED\r\n"),
-            ("1 fill 0 set b 1048576", "STORED\r\n"),
+            ("1 fill once set a 1048576", "STORED\r\n"),
+            ("1 fill once set b 1048576", "STORED\r\n"),
             (
-                "1 fill 2 set c 1048576",
+                "1 fill twice set c 1048576",
                 "STORED\r\nSTORED\r\nSTORED\r\nvictim a",
             ),
         ],
@@ -45,25 +45,25 @@ pub const REPLIES: &[Scene] = &[
         pages: 15,
         records: 100,
         rows: &[
-            ("1 full 0 set a 0 0 1\r\n9\r\n", "STORED\r\n"),
+            ("1 full once set a 0 0 1\r\n9\r\n", "STORED\r\n"),
             (
-                "1 full 0 incr a 1\r\n",
+                "1 full once incr a 1\r\n",
                 "10\r\nmade 2 4a44dc15364204a80fe80e9039455cc1608281820fe2b24f1e5233ade6af1dd5",
             ),
             (
-                "1 full 0 decr a 3\r\n",
+                "1 full once decr a 3\r\n",
                 "7\r\nmade 1 7902699be42c8a8e46fbbb4501726517e86b22c56a189f7625a6da49081b2451",
             ),
             (
-                "1 full 0 append a 0 0 1\r\n8\r\n",
+                "1 full once append a 0 0 1\r\n8\r\n",
                 "STORED\r\nmade 2 349c41201b62db851192665c504b350ff98c6b45fb62a8a2161f78b6534d8de9",
             ),
             (
-                "1 full 0 prepend a 0 0 1\r\n6\r\n",
+                "1 full once prepend a 0 0 1\r\n6\r\n",
                 "STORED\r\nmade 3 cebe3d9d614ba5c19f633566104315854a11353a333bf96f16b5afa0e90abdc4",
             ),
-            ("1 full 0 incr b 1\r\n", "NOT_FOUND\r\n"),
-            ("1 full 0 delete a\r\n", "DELETED\r\n"),
+            ("1 full once incr b 1\r\n", "NOT_FOUND\r\n"),
+            ("1 full once delete a\r\n", "DELETED\r\n"),
         ],
     },
     // Each copy shows what the reply shows, and a get counts once.
@@ -75,9 +75,9 @@ pub const REPLIES: &[Scene] = &[
             ("1 say set a 0 0 2\r\nhi\r\n", "STORED\r\n"),
             ("1 say set c 0 0 3\r\nyou\r\n", "STORED\r\n"),
             (
-                "1 full 3 get a b c\r\n",
+                "1 full twice get a b c\r\n",
                 "VALUE a 0 2\r\nhi\r\nVALUE c 0 3\r\nyou\r\nEND\r\nVALUE a 0 2\r\nhi\r\nVALUE c 0 3\r\nyou\r\nEND\r\n\
-                 VALUE a 0 2\r\nhi\r\nVALUE c 0 3\r\nyou\r\nEND\r\nVALUE a 0 2\r\nhi\r\nVALUE c 0 3\r\nyou\r\nEND\r\n",
+                 VALUE a 0 2\r\nhi\r\nVALUE c 0 3\r\nyou\r\nEND\r\n",
             ),
             (
                 "1 say stats\r\n",
@@ -94,7 +94,7 @@ pub const REPLIES: &[Scene] = &[
         rows: &[
             ("1 say set a 0 0 1\r\n1\r\n", "STORED\r\n"),
             (
-                "1 full 2 set b 0 0 1\r\n2\r\n",
+                "1 full twice set b 0 0 1\r\n2\r\n",
                 "SERVER_ERROR version map full\r\nSERVER_ERROR version map full\r\nSERVER_ERROR version map full\r\n",
             ),
         ],

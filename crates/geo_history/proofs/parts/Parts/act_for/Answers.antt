@@ -1,9 +1,9 @@
-use Rattle.std.proofs.Common.{◌≡◌, ◌+◌, ◌<◌, ◌≤◌, ◌++◌, ◌∷◌, [], ℕ, refl, ap, subst, sym, ◌∙◌, List, arith, inr}
+use Rattle.std.proofs.Common.{true, ◌≡◌, ◌+◌, ◌<◌, ◌≤◌, ◌++◌, ◌∷◌, [], ℕ, refl, ap, subst, sym, ◌∙◌, List, arith, inr}
 use Rattle.geo_history.specs.Keeping.{Story, story_of, made_by, flush_count, most_steps, ActForDoes, ActsFor, DoesNothing, GoesOn, flush_steps, step_with}
 use Rattle.geo_history.specs.declared.step.Event.TheVariants.{Command}
 use Rattle.geo_history.specs.declared.step.Answer.TheVariants.{Replied}
 use Rattle.geo_grammar.specs.declared.request.Request.{Request}
-use Rattle.geo_history.proofs.Calls.{refused_act, acts_for, made_after, few_flushes, two_popped}
+use Rattle.geo_history.proofs.Calls.{refused_act, acts_for, made_after, few_flushes, two_copies}
 use Rattle.geo_history.proofs.parts.Parts.act_for.Goals as goal
 
 pub returns-in-Err-clause-does : goal.returns-in-Err-clause-does
@@ -14,7 +14,7 @@ returns-in-Err-clause-does c =
     let last : Story = record { site = c.act_full.new.self; opening = c.flush_due.new.self.opening; steps = c.flush_due.new.self.steps.items } in
     subst (λ (s : Story). DoesNothing s last c.args.seat c.args.now) same
     (inr (record {
-      flush = refused_act now.site c.flush_due.new.self.site c.act_full.new.self c.args.now c.args.request 2 c.in-Err.refused c.flush_due.ensures.flush c.in-Err.ensures.does;
+      flush = refused_act now.site c.flush_due.new.self.site c.act_full.new.self c.args.now c.args.request true c.in-Err.refused c.flush_due.ensures.flush c.in-Err.ensures.does;
       goes_on = record { opening = c.flush_due.ensures.opening; more = c.flush_due.ensures.steps };
     }))
 
@@ -43,9 +43,8 @@ returns-clause-does c =
     let last : Story = story_of c.append.new.self in
     let whole : Story = record { site = c.act_full.new.self; opening = last.opening; steps = last.steps } in
     let there : whole ≡ last = λ i. record { site = sym c.append.ensures.site i; opening = last.opening; steps = last.steps } in
-    subst (λ (s : Story). ActsFor s last c.args.seat c.args.now c.args.request (c.in-Some-Some.one, c.in-Some-Some.two)) same
-    (subst (λ (s : Story). ActsFor first s c.args.seat c.args.now c.args.request (c.in-Some-Some.one, c.in-Some-Some.two)) there
+    subst (λ (s : Story). ActsFor s last c.args.seat c.args.now c.args.request c.in-Some.copies) same
+    (subst (λ (s : Story). ActsFor first s c.args.seat c.args.now c.args.request c.in-Some.copies) there
     (acts_for first (story_of c.flush_due.new.self) whole c.args.seat c.args.now c.flush_due.ensures.flush (record { opening = c.flush_due.ensures.opening; more = c.flush_due.ensures.steps })
-    c.args.request 2 c.in-Ok.acted (c.in-Some-Some.one, c.in-Some-Some.two) tells
-    (two_popped c.in-Ok.acted.copies.items c.pop.new.self.items c.pop-2.new.self.items c.in-Some-Some.one c.in-Some-Some.two c.in-Ok.acted.reply tells.told.copies c.in-Some-Some.ensures.items c.in-Some-Some.ensures'.items)
+    c.args.request true c.in-Ok.acted c.in-Some.copies tells (two_copies c.in-Some.copies c.in-Ok.acted.reply c.in-Ok.acted.copies c.in-Some.is tells.told.copies)
     (record { opening = c.append.ensures.opening; more = c.append.ensures.steps ∙ ap (λ (r : Request). before.steps ++ step_with c.args.seat (made_by before c.args.seat + 1) (Command c.args.now r) (Replied c.in-Ok.acted.reply) c.in-Ok.acted.victim c.in-Ok.acted.made ∷ []) c.forget_digest.ensures })))

@@ -1,8 +1,7 @@
 use Rattle.std.proofs.Common.{◌≡◌, true, false, refl, sym, ap, ◌∙◌, subst}
-use Rattle.std.specs.Prelude.{IfOk}
-use Rattle.geo_site.specs.Entries.{is_due, is_stuck, made_on}
-use Rattle.geo_site.specs.Machine.{IsRecordCount, IsHeldCount, visible_in}
-use Rattle.geo_site.specs.Sites.{state_in, clock_in, waiting_in, issued_in, reply_in, RequestDoesBy, ActDoes, TellsBeside, TellsPlain}
+use Rattle.geo_site.specs.Entries.{is_due, is_stuck}
+use Rattle.geo_site.specs.Machine.{IsRecordCount, IsHeldCount}
+use Rattle.geo_site.specs.Sites.{state_in, clock_in, waiting_in, reply_in, RequestDoesBy, ActDoes}
 use Rattle.geo_site.proofs.Acting.{unchanged}
 use Rattle.geo_site.proofs.Due.{due_after}
 use Rattle.geo_site.proofs.Telling.{full_does, stuck_told}
@@ -23,7 +22,7 @@ returns-then-has_due_flush c =
       held = subst (λ n. IsHeldCount (state_in mid).stock.held n) c.items-items.ensures.count c.items-items.ensures.held;
       does = subst (λ t. RequestDoesBy t mid mid now request c.plain.result.reply) (sym stuck) (said, unchanged (state_in mid), (refl, refl), (refl, refl, refl));
     } in
-    record { does = record { does = does; told = stuck_told mid c.args.copies now request c.plain.result said (subst (λ n. TellsPlain n c.plain.result) c.in_ok-copies.ensures.room c.plain.ensures.told) } }
+    record { does = record { does = does; told = stuck_told mid c.args.with_copies now request c.plain.result said c.plain.ensures.told } }
 
 pub returns : goal.returns
 returns c =
@@ -48,5 +47,4 @@ returns c =
         stays = c.answer.ensures.stays;
       });
     } in
-    let told = subst (λ wanted. IfOk c.answer.result (TellsBeside mid wanted (issued_in mid now request) (made_on now (visible_in (state_in mid) now) request))) c.in_ok-copies.ensures.room c.answer.ensures.told in
-    record { does = full_does old new now request c.args.copies c.answer.result does told }
+    record { does = full_does old new now request c.args.with_copies c.answer.result does c.answer.ensures.told }

@@ -96,8 +96,8 @@ returns-in-Some-clause-told c =
     let noreply : Bool = is_noreply c.args.request.now in
     let asked : c.args.request.now ≡ request_of c.in-Some.key.now c.in-Some.ask noreply = c.in-Some.ensures.asks in
     let change : is_change c.in-Some.ask ≡ true = one_changes c.in-Some.key.now c.in-Some.ask noreply (ap is_of_one_key (sym asked) ∙ sym c.in-Some.ensures.one_key) in
-    subst (λ (r : Request). IfOk c.change.result (TellsBeside s c.args.copies.wanted (issued_in s c.args.now r) (made_on c.args.now (visible_in (state_in s) c.args.now) r))) (sym asked)
-    (change_told s c.args.now c.in-Some.key.now c.in-Some.ask noreply c.args.copies.wanted c.change.result change c.change.ensures.told)
+    subst (λ (r : Request). IfOk c.change.result (TellsBeside s c.args.with_copies (issued_in s c.args.now r) (made_on c.args.now (visible_in (state_in s) c.args.now) r))) (sym asked)
+    (change_told s c.args.now c.in-Some.key.now c.in-Some.ask noreply c.args.with_copies c.change.result change c.change.ensures.told)
 
 pub returns-in-FetchTouch-clause-told : goal.returns-in-FetchTouch-clause-told
 returns-in-FetchTouch-clause-told c =
@@ -105,8 +105,8 @@ returns-in-FetchTouch-clause-told c =
     let now = c.args.now in
     let expiry = expiry_at c.in-FetchTouch.exptime now in
     let touches = touches_of expiry (touched_in s now expiry c.in-FetchTouch.keys c.in-FetchTouch.numbers) in
-    subst (λ (r : Request). IfOk c.fetch_touch.result (TellsBeside s c.args.copies.wanted (issued_in s now r) (made_on now (visible_in (state_in s) now) r))) (sym c.in-FetchTouch.is)
-    (each_plain_told s c.args.copies.wanted touches c.fetch_touch.result (touches_keep s expiry (touched_in s now expiry c.in-FetchTouch.keys c.in-FetchTouch.numbers)) c.fetch_touch.ensures.told)
+    subst (λ (r : Request). IfOk c.fetch_touch.result (TellsBeside s c.args.with_copies (issued_in s now r) (made_on now (visible_in (state_in s) now) r))) (sym c.in-FetchTouch.is)
+    (each_plain_told s c.args.with_copies touches c.fetch_touch.result (touches_keep s expiry (touched_in s now expiry c.in-FetchTouch.keys c.in-FetchTouch.numbers)) c.fetch_touch.ensures.told)
 
 pub returns-in-FlushAll-clause-done : goal.returns-in-FlushAll-clause-done
 returns-in-FlushAll-clause-done c =
@@ -126,5 +126,5 @@ pub returns-in-FlushAll-clause-told : goal.returns-in-FlushAll-clause-told
 returns-in-FlushAll-clause-told c =
     let s = c.args.self.now in
     let now = c.args.now in
-    subst (λ (r : Request). TellsBeside s c.args.copies.wanted (issued_in s now r) (made_on now (visible_in (state_in s) now) r) c.plain.result) (sym c.in-FlushAll.is)
-    (plain_told s c.args.copies.wanted (flush_acts c.in-FlushAll.delay now) c.plain.result (flush_keeps s now c.in-FlushAll.delay) c.plain.ensures.told)
+    subst (λ (r : Request). TellsBeside s c.args.with_copies (issued_in s now r) (made_on now (visible_in (state_in s) now) r) c.plain.result) (sym c.in-FlushAll.is)
+    (plain_told s c.args.with_copies (flush_acts c.in-FlushAll.delay now) c.plain.result (flush_keeps s now c.in-FlushAll.delay) c.plain.ensures.told)

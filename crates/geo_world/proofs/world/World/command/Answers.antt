@@ -2,7 +2,7 @@ use Rattle.std.proofs.Common.{◌-◌, None, length, refl, arith}
 use Rattle.geo_grammar.specs.declared.reply.Reply.TheVariants.{OutOfMemory}
 use Rattle.geo_world.proofs.Alone.{does_alone}
 use Rattle.geo_world.proofs.Worlds.{there_is, read_is}
-use Rattle.geo_world.proofs.Answering.{command_lawful, command_agrees, for_itself}
+use Rattle.geo_world.proofs.Answering.{command_lawful, command_agrees}
 use Rattle.geo_world.proofs.Keeping.{keep_command, owes_command}
 use Rattle.geo_world.proofs.world.World.command.Goals as goal
 
@@ -33,7 +33,7 @@ returns-in-Err-clause-lawful c = λ w agrees.
     let lo = there.first in
     let hi = there.last in
     let got = read_is c.args.self.now.sites.items (c.args.site - 1) c.index_mut-at.result.now (omega arith) c.index_mut-at.ensures.value in
-    command_lawful _ _ w agrees (c.args.site - 1) c.args.site c.args.now (omega arith) hi c.index_mut-at.result.now c.act_full.new.self got c.args.request.now OutOfMemory None (for_itself c.index_mut-at.result.now c.act_full.new.self c.args.now c.args.request.now c.in-Err.ensures.does) refl
+    command_lawful _ _ w agrees (c.args.site - 1) c.args.site c.args.now (omega arith) hi c.index_mut-at.result.now c.act_full.new.self got c.args.request.now OutOfMemory None c.in-Err.ensures.does refl
 
 pub returns-in-Err-clause-kept : goal.returns-in-Err-clause-kept
 returns-in-Err-clause-kept c = λ w agrees.
@@ -42,7 +42,7 @@ returns-in-Err-clause-kept c = λ w agrees.
     let lo = there.first in
     let hi = there.last in
     let got = read_is c.args.self.now.sites.items (c.args.site - 1) c.index_mut-at.result.now (omega arith) c.index_mut-at.ensures.value in
-    command_agrees _ _ w agrees (c.args.site - 1) c.args.site c.args.now (omega arith) hi c.index_mut-at.result.now c.act_full.new.self got c.args.request.now OutOfMemory None (for_itself c.index_mut-at.result.now c.act_full.new.self c.args.now c.args.request.now c.in-Err.ensures.does) refl
+    command_agrees _ _ w agrees (c.args.site - 1) c.args.site c.args.now (omega arith) hi c.index_mut-at.result.now c.act_full.new.self got c.args.request.now OutOfMemory None c.in-Err.ensures.does refl
 
 pub returns-in-Ok-clause-alone : goal.returns-in-Ok-clause-alone
 returns-in-Ok-clause-alone c = does_alone c.args.self.now.sites.items c.args.site c.act_full.new.self (there_is (length c.args.self.now.sites.items) c.args.site c.requires.there).first _ _ refl tt
@@ -66,4 +66,4 @@ returns-in-Err-clause-tables c = λ w all agrees keep.
     let lo = there.first in
     let hi = there.last in
     let got = read_is c.args.self.now.sites.items (c.args.site - 1) c.index_mut-at.result.now (omega arith) c.index_mut-at.ensures.value in
-    (owes_command _ _ w agrees all keep (c.args.site - 1) c.args.site c.args.now (omega arith) hi c.index_mut-at.result.now c.act_full.new.self got c.args.request.now OutOfMemory (for_itself c.index_mut-at.result.now c.act_full.new.self c.args.now c.args.request.now c.in-Err.ensures.does), keep_command _ _ w agrees all keep (c.args.site - 1) c.args.site c.args.now (omega arith) hi c.index_mut-at.result.now c.act_full.new.self got c.args.request.now OutOfMemory None (for_itself c.index_mut-at.result.now c.act_full.new.self c.args.now c.args.request.now c.in-Err.ensures.does))
+    (owes_command _ _ w agrees all keep (c.args.site - 1) c.args.site c.args.now (omega arith) hi c.index_mut-at.result.now c.act_full.new.self got c.args.request.now OutOfMemory c.in-Err.ensures.does, keep_command _ _ w agrees all keep (c.args.site - 1) c.args.site c.args.now (omega arith) hi c.index_mut-at.result.now c.act_full.new.self got c.args.request.now OutOfMemory None c.in-Err.ensures.does)
