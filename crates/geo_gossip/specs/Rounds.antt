@@ -1,10 +1,11 @@
 -- A round: a parcel for each other site, over the link that leads there.
-use Rattle.std.specs.Prelude.{◌≡◌, ◌⊎◌, ℕ, ◌+◌, ◌<◌, ◌≤◌, Bool, true, false, cond, List, [], ◌∷◌, length, take, drop, Ok, Err}
+use Rattle.std.specs.Prelude.{◌≡◌, ◌≢◌, ◌⊎◌, ℕ, ◌+◌, ◌<◌, ◌≤◌, Bool, true, false, cond, List, [], ◌∷◌, length, take, drop, Ok, Err}
 use Rattle.geo_delta.specs.Ranges.{InRange}
 use Rattle.geo_delta.specs.declared.parcel.Parcel.{Parcel}
 use Rattle.geo_gossip.specs.declared.fault.GossipFault.{GossipFault}
 use Rattle.geo_gossip.specs.declared.fault.GossipFault.TheVariants as faults
 use Rattle.geo_gossip.specs.declared.rounds.Peer.{Peer}
+use Rattle.geo_history.specs.Keeping.{most_steps}
 use Rattle.geo_link.specs.declared.fault.LinkError.{LinkError}
 use Rattle.geo_site.specs.declared.refusal.SendError.{SendError}
 use Rattle.geo_site.specs.declared.refusal.SendError.TheVariants as sends
@@ -60,10 +61,10 @@ ServedAll puts put_fails (old ∷ olds) (new ∷ news) seat after count =
     × (count ≡ cond put 1 0 + more)
 ServedAll puts put_fails olds news seat after count = ⊥
 
--- why no parcel could be made for a peer
+-- why no parcel could be made for a peer: a seat is spent once it has made all its steps, and no sooner
 abbrev pub Unserved : GossipFault → ℕ → Seated → Seated → Type 0
-Unserved faults.Memory site seat after = SendsBy (emptied seat) after site (Err (Site sends.Memory))
-Unserved faults.SeatSpent site seat after = SendsBy (emptied seat) after site (Err SeatSpent)
+Unserved faults.Memory site seat after = SendsBy (emptied seat) after site (Err (Site sends.Memory)) × (seat.steps ≢ most_steps)
+Unserved faults.SeatSpent site seat after = SendsBy (emptied seat) after site (Err SeatSpent) × (most_steps ≤ seat.steps)
 
 -- a round ends early: the peers before one are served, for that one no parcel can be made, and the others stay
 pub record StopsEarly {K : Type 0} (puts : K → Parcel → K → Type 0) (put_fails : K → Parcel → LinkError → K
