@@ -1,8 +1,12 @@
-//! Checks of configurations and of the server, worked by hand: what is told of a text, what clients of a cluster read, and what is told
-//! at its end.
+//! Checks of sessions, crowds, configurations and the server, worked by hand: what clients read, devices that fail, connections that
+//! are ready by fits and starts, what is told of a text, and what is told at a cluster's end.
 #![tactic(auto)]
 
 #[cfg(test)]
+mod crowd;
+#[cfg(test)]
 mod servers;
+#[cfg(test)]
+mod session;
 #[cfg(test)]
 mod settings;

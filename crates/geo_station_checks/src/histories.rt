@@ -2,7 +2,7 @@
 use crate::calls::{Call, answer_all, send, take};
 use crate::shown::show_steps;
 use geo_fixtures::{opened, setup_of};
-use geo_history::{History, Kept, MOST_STEPS};
+use geo_history::{History, Kept};
 use geo_site::{Setup, SetupError};
 use geo_versions::{Digest, Key};
 use std::alloc::Global;
@@ -81,7 +81,7 @@ const ROWS: &[Row] = &[
 /// What calls at the first of so many sites answer, and its steps behind.
 fn answered(rt: &HostRuntime, sites: u8, calls: &[Call]) -> Result<Vec<u8>, Fail> {
     let mut out = Vec::new(rt.alloc());
-    let mut kept = opened(rt, rt.alloc(), 1, sites)?;
+    let mut kept = opened(rt, rt.alloc(), 1, sites).ok_or("no site")?;
     answer_all(rt.alloc(), &mut kept, calls, &mut out)?;
     show_steps(&mut out, kept.steps())?;
     Ok(out)
@@ -134,12 +134,15 @@ fn tie(alloc: Global, one: &mut Kept, two: &mut Kept, out: &mut Vec<u8>) -> Resu
     show_steps(out, one.steps()).map_err(|refused| refused.into())
 }
 
-fn tied(rt: &HostRuntime) -> Result<Vec<u8>, Fail> {
-    let mut out = Vec::new(rt.alloc());
-    let mut one = opened(rt, rt.alloc(), 1, 2)?;
-    let mut two = opened(rt, rt.alloc(), 2, 2)?;
-    tie(rt.alloc(), &mut one, &mut two, &mut out)?;
-    Ok(out)
+/// The same with a second site that is opened for it.
+fn tie_anew(rt: &HostRuntime, one: &mut Kept, out: &mut Vec<u8>) -> Result<(), Fail> {
+    let mut two = opened(rt, rt.alloc(), 2, 2).ok_or("no site")?;
+    tie(rt.alloc(), one, &mut two, out)
+}
+
+fn tied(rt: &HostRuntime, out: &mut Vec<u8>) -> Result<(), Fail> {
+    let mut one = opened(rt, rt.alloc(), 1, 2).ok_or("no site")?;
+    tie_anew(rt, &mut one, out)
 }
 
 #[test]
@@ -151,7 +154,9 @@ fn two_sites_keep_what_they_told_each_other(rt: HostRuntime) -> Result<(), Fail>
           seat 0 step 1: act at 100; STORED\r\n\n\
           seat 0 step 2: send to 2; sent to 2\n\
           seat 0 step 3: take from 2; Taken { rose: true, dropped: 1 }\n";
-    assert_eq!(rt; tied(&rt)?.as_slice(), text.as_slice());
+    let mut out = Vec::new(rt.alloc());
+    tied(&rt, &mut out)?;
+    assert_eq!(rt; out.as_slice(), text.as_slice());
     Ok(())
 }
 
@@ -176,11 +181,10 @@ fn show_opening(alloc: Global, history: &History, out: &mut Vec<u8>) -> Result<(
     Ok(out.extend_from_slice(text.as_bytes())?)
 }
 
-/// How many steps fewer than all two seats have left.
+/// How many steps two seats have left, of 2^48 each.
 fn show_left(alloc: Global, kept: &Kept, out: &mut Vec<u8>) -> Result<(), Fail> {
-    let first = MOST_STEPS.saturating_sub(kept.left(0));
-    let second = MOST_STEPS.saturating_sub(kept.left(1));
-    Ok(out.extend_from_slice(format!(in alloc; "{first} {second} fewer\n")?.as_bytes())?)
+    let (first, second) = (kept.left(0), kept.left(1));
+    Ok(out.extend_from_slice(format!(in alloc; "{first} {second} left\n")?.as_bytes())?)
 }
 
 /// Whether the second step of three tells the digest of what it made.
@@ -197,7 +201,7 @@ const APPENDS: &[Call] = &[
 
 fn begun(rt: &HostRuntime) -> Result<Vec<u8>, Fail> {
     let mut out = Vec::new(rt.alloc());
-    let mut kept = opened(rt, rt.alloc(), 2, 3)?;
+    let mut kept = opened(rt, rt.alloc(), 2, 3).ok_or("no site")?;
     answer_all(rt.alloc(), &mut kept, APPENDS, &mut out)?;
     show_left(rt.alloc(), &kept, &mut out)?;
     let history = kept.history();
@@ -210,15 +214,16 @@ fn begun(rt: &HostRuntime) -> Result<Vec<u8>, Fail> {
 
 #[test]
 fn a_history_tells_where_it_began(rt: HostRuntime) -> Result<(), Fail> {
-    let text =
-        b"STORED\r\n\nSTORED\r\n\n\n3 0 fewer\n2 3 15 1000 60; era 0, 0 counts, 3 steps\nmakes hi!";
+    let text = b"STORED\r\n\nSTORED\r\n\n\n281474976710653 281474976710656 left\n\
+          2 3 15 1000 60; era 0, 0 counts, 3 steps\nmakes hi!";
     assert_eq!(rt; begun(&rt)?.as_slice(), text.as_slice());
     Ok(())
 }
 
 /// Why there is no such site.
 fn refused(rt: &HostRuntime, site: u8, sites: u8) -> Result<Option<SetupError>, Fail> {
-    Ok(Kept::new(rt.alloc(), setup_of(rt, site, sites)?).err())
+    let setup = setup_of(rt, site, sites).ok_or("no setup")?;
+    Ok(Kept::new(rt.alloc(), setup).err())
 }
 
 #[test]

@@ -1,11 +1,17 @@
-//! Checks of histories and stations, worked by hand: that their calls succeed where there is memory, what they answer and keep, and
-//! that threads can share a station.
+//! Checks of histories, stations, audits, links and rounds, worked by hand: that their calls succeed where there is memory, what they
+//! answer and keep, that threads can share a station, and what is found of histories that hands altered.
 #![tactic(auto)]
 
+#[cfg(test)]
+mod audits;
 #[cfg(test)]
 mod calls;
 #[cfg(test)]
 mod histories;
+#[cfg(test)]
+mod links;
+#[cfg(test)]
+mod rounds;
 #[cfg(test)]
 mod shown;
 #[cfg(test)]

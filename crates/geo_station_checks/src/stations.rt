@@ -11,11 +11,12 @@ use geo_history::{History, Kept};
 use geo_site::Site;
 use geo_station::{Seat, Station, StationError, Unclosed};
 use std::alloc::Global;
+use std::fmt::Debug;
 use std::marker::Brand;
+use std::process::Abort;
 use std::random::RandomSource;
 use std::sync::Wait;
 use std::sync::ledger::{Blank, Ledger};
-use std::test::Fail;
 
 /// Whether a station of one seat is refused.
 fn refuses_one<L: Ledger>(blank: Blank, kept: Kept) -> bool
@@ -29,10 +30,9 @@ fn refuses_one<L: Ledger>(blank: Blank, kept: Kept) -> bool
 }
 
 #[test]
-fn one_seat_is_too_few(rt: HostRuntime) -> Result<(), Fail> {
-    let kept = opened(&rt, rt.alloc(), 1, 1)?;
+fn one_seat_is_too_few(rt: HostRuntime) {
+    let kept = opened(&rt, rt.alloc(), 1, 1).expect(&rt, "a site");
     assert!(rt; refuses_one::<Brand>(Blank::new(1), kept));
-    Ok(())
 }
 
 /// A call by a station's first seat.
@@ -69,15 +69,18 @@ fn exchange<L: Ledger>(
     station: &Station<L>,
     seat: &mut Seat<L>,
     other: &mut Site,
-) -> Result<(), Fail> {
-    let parcel = other.send(alloc, 1).ok().ok_or("no parcel")?;
-    let own = station.send(rt, alloc, seat, 2).ok().ok_or("no parcel")?;
-    let _taken = other.take(alloc, own).ok().ok_or("not taken")?;
-    let _told = station
-        .take(rt, alloc, seat, parcel)
-        .ok()
-        .ok_or("not taken")?;
-    Ok(())
+) -> Option<()> {
+    let parcel = other.send(alloc, 1).ok()?;
+    let own = station.send(rt, alloc, seat, 2).ok()?;
+    let _taken = other.take(alloc, own).ok()?;
+    let _told = station.take(rt, alloc, seat, parcel).ok()?;
+    Some(())
+}
+
+/// Writes what is told on a line of its own.
+fn say(alloc: Global, out: &mut Vec<u8>, told: &impl Debug) -> Option<()> {
+    let text = format!(in alloc; "{told:?}\n").ok()?;
+    out.extend_from_slice(text.as_bytes()).ok()
 }
 
 /// Carries out a call, and writes what it answers.
@@ -89,60 +92,66 @@ fn answer<L: Ledger>(
     other: &mut Site,
     call: Call,
     out: &mut Vec<u8>,
-) -> Result<(), Fail> {
+) -> Option<()> {
     match call {
-        Call::Act(text) => Ok(act(rt, alloc, station, seat, text, out).ok_or("no answer")?),
+        Call::Act(text) => act(rt, alloc, station, seat, text, out),
         Call::Exchange => exchange(rt, alloc, station, seat, other),
-        Call::Maintain => {
-            let done = station.maintain(rt, alloc, seat, 211).ok().ok_or("spent")?;
-            Ok(out.extend_from_slice(format!(in alloc; "{done:?}\n")?.as_bytes())?)
-        }
-        Call::Renew(after) => {
-            let renewed = station.renew(rt, alloc, after)?.is_some();
-            Ok(out.extend_from_slice(format!(in alloc; "{renewed}\n")?.as_bytes())?)
-        }
-        Call::Send(to) => {
-            let why = station.send(rt, alloc, seat, to).err();
-            Ok(out.extend_from_slice(format!(in alloc; "{why:?}\n")?.as_bytes())?)
-        }
+        Call::Maintain => say(alloc, out, &station.maintain(rt, alloc, seat, 211).ok()?),
+        Call::Renew(after) => say(alloc, out, &station.renew(rt, alloc, after).ok()?.is_some()),
+        Call::Send(to) => say(alloc, out, &station.send(rt, alloc, seat, to).err()),
     }
 }
 
 /// The history of a station that is closed with its two seats.
 pub fn closed<L: Ledger>(
+    rt: &impl Abort,
     alloc: Global,
     station: Station<L>,
     one: Seat<L>,
     two: Seat<L>,
-) -> Result<History, Fail> {
+) -> History {
     let mut seats = Vec::new(alloc);
-    seats.push(one)?;
-    seats.push(two)?;
-    Ok(station.close(seats).ok().ok_or("not closed")?)
+    seats.push(one).expect(rt, "memory");
+    seats.push(two).expect(rt, "memory");
+    station.close(seats).ok().expect(rt, "it closes")
 }
 
 /// The history of a station that isn't closed with one of its seats, and why not, but with both.
 fn closed_at_last<L: Ledger>(
+    rt: &impl Abort,
     alloc: Global,
     station: Station<L>,
     one: Seat<L>,
     two: Seat<L>,
     out: &mut Vec<u8>,
-) -> Result<History, Fail> {
+) -> History {
     let mut seats = Vec::new(alloc);
-    seats.push(one)?;
+    seats.push(one).expect(rt, "memory");
     let Unclosed {
         why,
         station,
         mut seats,
-    } = station.close(seats).err().ok_or("closed")?;
-    out.extend_from_slice(format!(in alloc; "{why:?}\n")?.as_bytes())?;
-    let one = seats.pop().ok_or("no seat came back")?;
-    closed(alloc, station, one, two)
+    } = station.close(seats).err().expect(rt, "a seat is missing");
+    say(alloc, out, &why).expect(rt, "memory");
+    let one = seats.pop().expect(rt, "the seat comes back");
+    closed(rt, alloc, station, one, two)
+}
+
+/// Writes how many calls a seat keeps, and whether there is another seat.
+fn show_seats<L: Ledger>(
+    rt: &impl Wait,
+    alloc: Global,
+    station: &Station<L>,
+    seat: &Seat<L>,
+    out: &mut Vec<u8>,
+) -> Option<()> {
+    let (count, another) = (seat.calls().len(), station.seat(rt, alloc).is_ok());
+    let text = format!(in alloc; "{count} calls, {another}, ").ok()?;
+    out.extend_from_slice(text.as_bytes()).ok()
 }
 
 /// Carries out calls by the first of two seats, counts those that it keeps, asks for a third seat, and closes the station.
-fn carried<L: Ledger, R: Wait>(
+fn carried<L: Ledger, R: Wait + Abort>(
     rt: &R,
     alloc: Global,
     blank: Blank,
@@ -150,57 +159,57 @@ fn carried<L: Ledger, R: Wait>(
     other: &mut Site,
     calls: &[Call],
     out: &mut Vec<u8>,
-) -> Result<History, Fail>
+) -> History
     requires name { blank.name ≡ L.name }
     requires parts { blank.parts ≡ L.parts }
     requires two { blank.parts ≡ 2 }
     requires steps { (story_in kept).steps ≡ [] }
     requires opening { (seat : ℕ) → opened_with (story_in kept).opening seat ≡ 0 }
 {
-    let station = Station::<L>::new(blank, kept, 2).ok().ok_or("no station")?;
-    let mut one = station.seat(rt, alloc).ok().ok_or("no seat")?;
-    let two = station.seat(rt, alloc).ok().ok_or("no seat")?;
+    let station = Station::<L>::new(blank, kept, 2)
+        .ok()
+        .expect(rt, "a station");
+    let mut one = station.seat(rt, alloc).ok().expect(rt, "a seat");
+    let two = station.seat(rt, alloc).ok().expect(rt, "another");
     for call in calls {
-        answer(rt, alloc, &station, &mut one, other, *call, out)?;
+        answer(rt, alloc, &station, &mut one, other, *call, out).expect(rt, "an answer");
     }
-    let (count, third) = (one.calls().len(), station.seat(rt, alloc).is_ok());
-    out.extend_from_slice(format!(in alloc; "{count} calls, {third}, ")?.as_bytes())?;
-    closed_at_last(alloc, station, one, two, out)
+    show_seats(rt, alloc, &station, &one, out).expect(rt, "memory");
+    closed_at_last(rt, alloc, station, one, two, out)
 }
 
 /// The second site, which set a key that the station sets too.
-fn other_site(rt: &impl RandomSource, alloc: Global) -> Result<Site, Fail> {
-    let setup = setup_of(rt, 2, 2)?;
-    let mut site = Site::new(alloc, setup).ok().ok_or("no site")?;
-    let request = request(alloc, b"set a 0 0 2\r\nyo\r\n").ok_or("no request")?;
+fn other_site(rt: &impl RandomSource, alloc: Global) -> Option<Site> {
+    let request = request(alloc, b"set a 0 0 2\r\nyo\r\n")?;
+    let mut site = Site::new(alloc, setup_of(rt, 2, 2)?).ok()?;
     let _stored = site.act(alloc, 100, &request);
-    Ok(site)
+    Some(site)
 }
 
 /// The history's era, if it isn't the first, and how many steps the first seat had made before.
-fn show_era(out: &mut Vec<u8>, history: &History) -> Result<(), Fail> {
+fn show_era(out: &mut Vec<u8>, history: &History) -> Option<()> {
     let alloc = *out.allocator();
     let (era, before) = (history.opening.era, history.opening.counts.first());
     if let Some(before) = before {
-        out.extend_from_slice(format!(in alloc; "era {era} behind {before}\n")?.as_bytes())?;
+        let text = format!(in alloc; "era {era} behind {before}\n").ok()?;
+        out.extend_from_slice(text.as_bytes()).ok()?;
     }
-    Ok(())
+    Some(())
 }
 
 /// What the calls answer, how many the seat keeps, whether there is a third seat, why one is too few to close, and the steps.
-fn shown<R: Wait + RandomSource>(
+fn shown<R: Wait + Abort + RandomSource>(
     rt: &R,
     alloc: Global,
     sites: u8,
     calls: &[Call],
-) -> Result<Vec<u8>, Fail> {
-    let mut out = Vec::new(alloc);
-    let mut other = other_site(rt, alloc)?;
-    let kept = opened(rt, alloc, 1, sites)?;
-    let history = carried::<Brand, _>(rt, alloc, Blank::new(2), kept, &mut other, calls, &mut out)?;
-    show_era(&mut out, &history)?;
-    show_steps(&mut out, &history.steps)?;
-    Ok(out)
+    out: &mut Vec<u8>,
+) {
+    let mut other = other_site(rt, alloc).expect(rt, "another site");
+    let kept = opened(rt, alloc, 1, sites).expect(rt, "a site");
+    let history = carried::<Brand, _>(rt, alloc, Blank::new(2), kept, &mut other, calls, out);
+    show_era(out, &history).expect(rt, "memory");
+    show_steps(out, &history.steps).expect(rt, "memory");
 }
 
 /// How many sites there are, the calls, and what is shown.
@@ -262,9 +271,10 @@ const ROWS: &[(u8, &[Call], &[u8])] = &[
 ];
 
 #[test]
-fn a_station_closes_with_the_steps_of_its_seats(rt: HostRuntime) -> Result<(), Fail> {
+fn a_station_closes_with_the_steps_of_its_seats(rt: HostRuntime) {
     for (sites, calls, text) in ROWS {
-        assert_eq!(rt; shown(&rt, rt.alloc(), *sites, calls)?.as_slice(), *text);
+        let mut out = Vec::new(rt.alloc());
+        shown(&rt, rt.alloc(), *sites, calls, &mut out);
+        assert_eq!(rt; out.as_slice(), *text);
     }
-    Ok(())
 }

@@ -9,10 +9,10 @@ use geo_history::{Event, History, Kept};
 use geo_station::{Seat, Station};
 use std::alloc::Global;
 use std::marker::Brand;
+use std::process::Abort;
 use std::random::RandomSource;
 use std::sync::Wait;
 use std::sync::ledger::{Blank, Ledger};
-use std::test::Fail;
 use std::thread::{Threads, join};
 
 /// Sets a key and gets it, and tells whether both were answered as they should be.
@@ -79,21 +79,23 @@ fn forget_and_act<L: Ledger>(
 
 /// How often two threads are answered right, how many calls their seats keep, how many the first keeps that forgot them and made
 /// two more; and the history.
-fn day<L: Ledger + Send + Sync, R: Threads + Wait + Sync>(
+fn day<L: Ledger + Send + Sync, R: Threads + Wait + Abort + Sync>(
     rt: &R,
     alloc: Global,
     blank: Blank,
     kept: Kept,
-) -> Result<([usize; 5], History), Fail>
+) -> ([usize; 5], History)
     requires name { blank.name ≡ L.name }
     requires parts { blank.parts ≡ L.parts }
     requires two { blank.parts ≡ 2 }
     requires steps { (story_in kept).steps ≡ [] }
     requires opening { (seat : ℕ) → opened_with (story_in kept).opening seat ≡ 0 }
 {
-    let station = Station::<L>::new(blank, kept, 2).ok().ok_or("no station")?;
-    let one = station.seat(rt, alloc).ok().ok_or("no seat")?;
-    let two = station.seat(rt, alloc).ok().ok_or("no seat")?;
+    let station = Station::<L>::new(blank, kept, 2)
+        .ok()
+        .expect(rt, "a station");
+    let one = station.seat(rt, alloc).ok().expect(rt, "a seat");
+    let two = station.seat(rt, alloc).ok().expect(rt, "another");
     let shared = &station;
     let (one, two) = join(
         rt,
@@ -103,9 +105,9 @@ fn day<L: Ledger + Send + Sync, R: Threads + Wait + Sync>(
     let (mut first, right) = one;
     let (second, other_right) = two;
     let (calls, other_calls) = (first.calls().len(), second.calls().len());
-    let last = forget_and_act(rt, alloc, &station, &mut first).ok_or("no answer")?;
+    let last = forget_and_act(rt, alloc, &station, &mut first).expect(rt, "an answer");
     let told = [right, other_right, calls, other_calls, last];
-    Ok((told, closed(alloc, station, first, second)?))
+    (told, closed(rt, alloc, station, first, second))
 }
 
 /// How many steps are requests at the moment 100.
@@ -121,20 +123,17 @@ fn count_commands(history: &History) -> usize {
 }
 
 /// What the threads are told, and how many steps there are and how many of them are requests.
-fn shared<R: Threads + Wait + RandomSource + Sync>(
+fn shared<R: Threads + Wait + Abort + RandomSource + Sync>(
     rt: &R,
     alloc: Global,
-) -> Result<([usize; 5], usize, usize), Fail> {
-    let kept = opened(rt, alloc, 1, 1)?;
-    let (told, history) = day::<Brand, _>(rt, alloc, Blank::new(2), kept)?;
-    Ok((told, history.steps.len(), count_commands(&history)))
+) -> ([usize; 5], usize, usize) {
+    let kept = opened(rt, alloc, 1, 1).expect(rt, "a site");
+    let (told, history) = day::<Brand, _>(rt, alloc, Blank::new(2), kept);
+    (told, history.steps.len(), count_commands(&history))
 }
 
 #[test]
-fn two_threads_are_told_what_the_history_has(rt: HostRuntime) -> Result<(), Fail> {
-    assert_eq!(rt;
-        shared(&rt, rt.alloc())?,
-        ([100, 100, 200, 200, 2], 402, 402)
-    );
-    Ok(())
+fn two_threads_are_told_what_the_history_has(rt: HostRuntime) {
+    let wanted = ([100, 100, 200, 200, 2], 402, 402);
+    assert_eq!(rt; shared(&rt, rt.alloc()), wanted);
 }

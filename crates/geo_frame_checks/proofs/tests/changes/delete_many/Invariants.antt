@@ -1,6 +1,0 @@
-use Rattle.geo_versions.specs.Maps.{record_in}
-use Rattle.geo_delta.specs.Changes.{Traced, nothing_pending}
-use Rattle.geo_frame_checks.proofs.tests.changes.delete_many.Given as goal
-
-abbrev pub invariant-loop-number : goal.invariant-loop-number
-invariant-loop-number l = Traced nothing_pending (record_in l.site.versions) l.site.changes

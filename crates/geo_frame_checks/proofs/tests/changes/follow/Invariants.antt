@@ -1,6 +1,0 @@
-use Rattle.geo_versions.specs.Maps.{record_in}
-use Rattle.geo_delta.specs.Changes.{Traced, nothing_pending}
-use Rattle.geo_frame_checks.proofs.tests.changes.follow.Given as goal
-
-abbrev pub invariant-loop-op : goal.invariant-loop-op
-invariant-loop-op l = Traced nothing_pending (record_in l.site.versions) l.site.changes

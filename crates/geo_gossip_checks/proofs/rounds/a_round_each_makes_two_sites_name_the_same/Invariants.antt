@@ -1,4 +1,0 @@
-use Rattle.geo_gossip_checks.proofs.rounds.a_round_each_makes_two_sites_name_the_same.Given as goal
-
-abbrev pub ghosts-both : goal.ghosts-both
-ghosts-both g a = record { name = a.blank.name; parts = a.blank.parts }

@@ -1,4 +1,0 @@
-use Rattle.geo_session_checks.proofs.tests.shared.requests_are_counted.Given as goal
-
-abbrev pub ghosts-counted : goal.ghosts-counted
-ghosts-counted g a = record { name = a.blank.name; parts = a.blank.parts }

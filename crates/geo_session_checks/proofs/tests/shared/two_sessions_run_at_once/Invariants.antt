@@ -1,4 +1,0 @@
-use Rattle.geo_session_checks.proofs.tests.shared.two_sessions_run_at_once.Given as goal
-
-abbrev pub ghosts-both : goal.ghosts-both
-ghosts-both g a = record { name = a.blank.name; parts = a.blank.parts }
