@@ -39,7 +39,7 @@ const PAGES: [(usize, Option<SlabsError>); 3] = [
 ];
 
 fn slabs_of(alloc: Global, pages: usize) -> Result<Slabs, AllocError> {
-    Slabs::new(alloc, pages).map_err(|_| AllocError)
+    Slabs::new(alloc, pages).ok().ok_or(AllocError)
 }
 
 /// Puts values until one finds no room, and tells how many were put.
@@ -64,17 +64,19 @@ fn kept(alloc: Global, pages: usize, length: usize) -> Result<usize, AllocError>
 }
 
 #[test]
-fn values_find_room_by_their_lengths(rt: HostRuntime) -> Result<(), Fail> {
+fn values_find_room_by_their_lengths(rt: HostRuntime) {
     for (length, class) in CLASSES {
-        assert_eq!(rt; class_of(length.min(PAGE)), class, "{length}");
+        let is_class = class_of(length.min(PAGE)) == class;
+        assert!(rt; is_class, "{length}");
     }
     for (pages, error) in PAGES {
-        assert_eq!(rt; Slabs::new(rt.alloc(), pages).err(), error, "{pages}");
+        let is_told = Slabs::new(rt.alloc(), pages).err() == error;
+        assert!(rt; is_told, "{pages}");
     }
     for (pages, length, many) in KEPT {
-        assert_eq!(rt; kept(rt.alloc(), pages, length)?, many, "{length}");
+        let are_kept = kept(rt.alloc(), pages, length).expect(&rt, "memory") == many;
+        assert!(rt; are_kept, "{length}");
     }
-    Ok(())
 }
 
 /// Puts bytes into a class that has a free chunk.
