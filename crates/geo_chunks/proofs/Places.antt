@@ -3,9 +3,8 @@ use Rattle.std.proofs.Common.{◌≡◌, ℕ, zero, suc, ◌+◌, ◌*◌, ◌/�
 use Rattle.std.proofs.Math.Dec.{ltb}
 use Rattle.std.proofs.lemmas.Bool.{ltb-true, ltb-false}
 use Rattle.std.proofs.lemmas.Option.{slice_get_past, slice_get_read}
-use Rattle.std.specs.List.{All}
 use Rattle.std.specs.declared.alloc.Global.{Global}
-use Rattle.geo_chunks.specs.Chunking.{most_in_chunk, joined, AllEven}
+use Rattle.geo_chunks.specs.Chunking.{joined, AllEven}
 
 even_first : {T : Type 0} (v : Vec T Global) (vs : List (Vec T Global)) → AllEven (v ∷ vs) → length v.items ≡ 256
 even_first v vs even = even 0 v (omega arith)

@@ -1,7 +1,7 @@
 -- A round that has served some peers goes on with the next.
 use Rattle.std.proofs.Common.{◌≡◌, ℕ, ◌+◌, ◌<◌, ◌≤◌, Bool, true, false, cond, List, [], ◌∷◌, ◌++◌, length, take, drop, refl, sym, ◌∙◌, subst, ap, arith}
 use Rattle.std.proofs.Math.ListN.{set, get_or}
-use Rattle.std.proofs.lemmas.List.{take_more, take_more_set, drop_more, drop-set, drop-set-lt, length-set, get_or-drop}
+use Rattle.std.proofs.lemmas.List.{take_more, take_more_set, drop_more, drop-set-lt, length-set, get_or-drop}
 use Rattle.geo_delta.specs.declared.parcel.Parcel.{Parcel}
 use Rattle.geo_gossip.specs.Rounds.{Served, ServedAll}
 use Rattle.geo_gossip.specs.declared.rounds.Peer.{Peer}

@@ -7,7 +7,6 @@ use Rattle.geo_gossip.specs.declared.fault.GossipFault.TheVariants as faults
 use Rattle.geo_gossip.specs.declared.rounds.Peer.{Peer}
 use Rattle.geo_history.specs.Keeping.{most_steps}
 use Rattle.geo_link.specs.declared.fault.LinkError.{LinkError}
-use Rattle.geo_site.specs.declared.refusal.SendError.{SendError}
 use Rattle.geo_site.specs.declared.refusal.SendError.TheVariants as sends
 use Rattle.geo_station.specs.Calls.{SendsBy}
 use Rattle.geo_station.specs.Seats.{Seated}

@@ -1,5 +1,5 @@
 -- What each call leaves of a site with its history is one again.
-use Rattle.std.proofs.Common.{◌≡◌, ◌≢◌, ◌⊎◌, inl, inr, ℕ, ◌+◌, Bool, true, false, cond, List, [], ◌∷◌, ◌++◌, length, Option, None, Some, Result, Ok, Err, refl, ap, sym, ◌∙◌, subst, subst₂, ◌<◌, ◌≤◌, arith, append_assoc}
+use Rattle.std.proofs.Common.{◌≡◌, ◌≢◌, inl, inr, ℕ, ◌+◌, Bool, true, false, cond, List, [], ◌∷◌, ◌++◌, Option, None, Some, Result, Ok, Err, refl, ap, sym, ◌∙◌, subst, subst₂, ◌<◌, ◌≤◌, arith, append_assoc}
 use Rattle.std.specs.declared.alloc.AllocError.{AllocError}
 use Rattle.geo_delta.specs.declared.parcel.Parcel.{Parcel}
 use Rattle.geo_grammar.specs.declared.request.Request.{Request}
@@ -20,16 +20,16 @@ use Rattle.geo_site.specs.Machine.{SiteState, Same, visible_in}
 use Rattle.geo_site.specs.Sites.{state_in, heard_in, waiting_in, counts_in, clock_in, limits_of, issued_in, victim_in, twice, Rests, Stays, Remains, FlushDoes, RequestDoesBy, ActDoes, ActTells, ActFullDoes, ReapDoes, SendDoes, TakeDoes}
 use Rattle.geo_site.proofs.Stocking.{state_path, unchanged}
 use Rattle.std.proofs.lemmas.List.{append-nil}
-use Rattle.geo_history.specs.declared.step.Event.TheVariants.{Command, Evict, Send, Take, Remove, Tick, Reap}
+use Rattle.geo_history.specs.declared.step.Event.TheVariants.{Command, Evict, Send, Take, Remove, Reap}
 use Rattle.geo_history.specs.declared.step.Event.{Event}
 use Rattle.geo_history.specs.declared.step.Step.{Step}
 use Rattle.geo_history.specs.declared.step.Answer.{Answer}
-use Rattle.geo_history.specs.declared.step.Answer.TheVariants.{Replied, Evicted, Sent, SendRefused, Taken as Took, TakeRefused, Removed, Ticked, Reaped, ReapRefused}
-use Rattle.geo_history.specs.Standings.{Who, who_in, standing_in}
-use Rattle.geo_history.specs.Keeping.{Story, most_steps, made_by, step_with, step_of, is_flush_due, flush_count, flush_steps, number_after, IsKept, GoesOn, ReapsFor, FlushesAlone, DoesNothing, LeavesAll, ActsFor, ActForDoes, SendForDoes, TakesFor, RefusedFor, TakeForDoes, RemoveForDoes, EvictForDoes, TickForDoes, ReapForDoes, JuggleForDoes}
-use Rattle.geo_history.proofs.Issuing.{standing_at, stands_same, flush_again, stuck_same}
+use Rattle.geo_history.specs.declared.step.Answer.TheVariants.{Replied, Evicted, Sent, SendRefused, Taken as Took, TakeRefused, Removed, Reaped, ReapRefused}
+use Rattle.geo_history.specs.Standings.{who_in, standing_in}
+use Rattle.geo_history.specs.Keeping.{Story, most_steps, made_by, step_with, step_of, is_flush_due, flush_count, flush_steps, number_after, IsKept, GoesOn, ReapsFor, DoesNothing, LeavesAll, ActsFor, ActForDoes, SendForDoes, TakesFor, RefusedFor, TakeForDoes, RemoveForDoes, EvictForDoes, TickForDoes, ReapForDoes, JuggleForDoes}
+use Rattle.geo_history.proofs.Issuing.{stands_same, flush_again, stuck_same}
 use Rattle.geo_history.proofs.Leading.{command_leads, send_leads, unsent_leads, take_leads, untaken_leads, remove_leads, evict_leads, reap_leads, unreaped_leads}
-use Rattle.geo_history.proofs.Keeps.{made_flushed, kept_more, kept_still, kept_after, flush_kept, nothing_kept}
+use Rattle.geo_history.proofs.Keeps.{made_flushed, kept_more, kept_still, kept_after, flush_kept}
 
 -- it is the same site, and its history is still one
 pub record Goes (old new : Story) : Type 0 where

@@ -1,6 +1,5 @@
 -- A new era keeps what a site with its history is.
-use Rattle.std.proofs.Common.{◌≡◌, ℕ, ◌+◌, ◌<◌, ◌≤◌, List, [], length, Option, None, Some, Result, Ok, Err, refl, sym, ap, subst, ◌∙◌, arith, sum_by}
-use Rattle.std.proofs.Math.Logic.{∥∥₁_map}
+use Rattle.std.proofs.Common.{◌≡◌, ℕ, ◌<◌, ◌≤◌, List, length, Option, None, Some, Result, Ok, Err, refl, sym, ap, subst, ◌∙◌, arith}
 use Rattle.std.proofs.lemmas.Grind.{merely}
 use Rattle.std.specs.declared.alloc.AllocError.{AllocError}
 use Rattle.geo_site.specs.declared.site.Site.{Site}
@@ -10,7 +9,7 @@ use Rattle.geo_history.specs.declared.history.History.{History}
 use Rattle.geo_history.specs.declared.step.Step.{Step}
 use Rattle.geo_history.specs.Standings.{who_in, standing_in, Describes}
 use Rattle.geo_history.specs.Replays.{steps_of}
-use Rattle.geo_history.specs.Keeping.{Story, most_seats, most_steps, opened_with, opened_total, made_in, made_by, IsCounted, Keeps, IsKept}
+use Rattle.geo_history.specs.Keeping.{Story, most_seats, most_steps, made_in, made_by, IsCounted, Keeps, IsKept}
 use Rattle.geo_history.specs.Stories.{Renews, NewEraDoes}
 
 described : (site : Site) (state : SiteState) → IsStateOf site state → Describes state (standing_in site)

@@ -1,20 +1,18 @@
 -- What a site's calls make of what it stands at: the machine with its stock of values, seen without the order in which bytes go.
-use Rattle.std.proofs.Common.{◌≡◌, ℕ, ◌+◌, Bool, true, false, cond, ◌&&◌, not, List, [], ◌∷◌, length, Option, None, Some, refl, sym, ap, ◌∙◌, subst, subst₂}
-use Rattle.geo_stamp.specs.Stamps.{Moment}
-use Rattle.geo_stamp.specs.Vectors.{raised, vector_joined, greatest_of}
+use Rattle.std.proofs.Common.{◌≡◌, ℕ, Bool, true, false, cond, ◌&&◌, not, List, [], ◌∷◌, Option, None, refl, sym, ap, ◌∙◌, subst}
+use Rattle.geo_stamp.specs.Vectors.{greatest_of}
 use Rattle.geo_stamp.specs.Acks.{heard}
-use Rattle.geo_records.specs.Keys.{same_key}
-use Rattle.geo_records.specs.Operations.{Act, Record, floor_joined, body_of, expiry_of, flush_of, version_in}
+use Rattle.geo_records.specs.Operations.{Act, version_in}
 use Rattle.geo_records.specs.Operations.Act.{Flush}
 use Rattle.geo_delta.specs.declared.parcel.Parcel.{Parcel}
 use Rattle.geo_site.specs.declared.site.Site.{Site}
-use Rattle.geo_site.specs.Entries.{Held, Counts, named_by, is_due, lacks, flushes_due, is_stuck, due_acts, waits_on}
+use Rattle.geo_site.specs.Entries.{Counts, named_by, is_due, lacks, flushes_due, is_stuck, due_acts, waits_on}
 use Rattle.geo_site.specs.Machine as machine
 use Rattle.geo_site.specs.Machine.{SiteState, Delta, Same, act_held, without, victim_by, clock_of, next_operation, map_after, act_stock, accessed, sifted_delta, removed}
-use Rattle.geo_site.specs.Sites.{state_in, heard_in, waiting_in, counts_in, clock_in, limits_of, delta_of, HasIssued, Stays, FlushDoes}
-use Rattle.geo_site.proofs.Stocking.{state_path, state_then, unchanged, settled_held, act_held_is}
+use Rattle.geo_site.specs.Sites.{state_in, heard_in, waiting_in, counts_in, clock_in, delta_of, FlushDoes}
+use Rattle.geo_site.proofs.Stocking.{state_path, settled_held, act_held_is}
 use Rattle.geo_site.proofs.Victims.{AreQuiet, GoesFor, one_quiet, hit_held}
-use Rattle.geo_history.specs.Standings.{Who, who_in, Standing, standing_in, clock_at, horizon_at, map_with, floor_with, held_by, issue, issue_all, lets_go, waits, counts_as, flushed, takes, removes}
+use Rattle.geo_history.specs.Standings.{Who, who_in, Standing, standing_in, horizon_at, held_by, issue, issue_all, lets_go, waits, counts_as, flushed, takes}
 
 -- a state of the machine with what stands beside it
 abbrev pub standing_at : SiteState → List (List ℕ) → Option ℕ → Counts → Standing

@@ -1,38 +1,27 @@
 -- One more step keeps what a site with its history is, and so does each call.
-use Rattle.std.proofs.Common.{◌≡◌, ◌≢◌, ◌⊎◌, inl, inr, ℕ, zero, suc, ◌+◌, ◌<◌, ◌≤◌, ◌==◌, ◌&&◌, Bool, true, false, cond, List, [], ◌∷◌, ◌++◌, length, Option, None, Some, Ok, Err, refl, ap, sym, ◌∙◌, subst, arith, slice_index_or, slice_set, replicate, sum_by, length-append, append_assoc, if◌then◌else◌}
+use Rattle.std.proofs.Common.{◌≡◌, inl, inr, ℕ, zero, suc, ◌+◌, ◌<◌, ◌≤◌, ◌==◌, Bool, true, false, cond, List, [], ◌∷◌, ◌++◌, length, Option, None, refl, ap, sym, ◌∙◌, subst, arith, slice_index_or, slice_set, replicate, sum_by, length-append, append_assoc, if◌then◌else◌}
 use Rattle.std.proofs.lemmas.List.{append-nil, get_or-replicate, get_or-set_same, get_or-set_other, length-set, length-replicate}
 use Rattle.std.proofs.lemmas.List.Folds.{sum_by-replicate}
 use Rattle.std.proofs.lemmas.List.Sums.{sum_by-set}
 use Rattle.std.proofs.lemmas.Bool.Decides.{nat_tests}
-use Rattle.geo_versions.specs.Maps.{listed_at}
 use Rattle.geo_stamp.specs.Vectors.{zeros}
-use Rattle.geo_delta.specs.declared.parcel.Parcel.{Parcel}
-use Rattle.geo_grammar.specs.declared.request.Request.{Request}
-use Rattle.geo_grammar.specs.declared.reply.Reply.{Reply}
-use Rattle.geo_grammar.specs.declared.reply.Reply.TheVariants.{OutOfMemory}
 use Rattle.geo_site.specs.declared.site.Site.{Site}
-use Rattle.geo_site.specs.declared.setup.Setup.{Setup}
-use Rattle.geo_site.specs.declared.exchange.Taken.{Taken}
-use Rattle.geo_site.specs.declared.exchange.Refused.{Refused}
-use Rattle.geo_site.specs.declared.refusal.SendError.TheVariants.{NoSuchSite}
-use Rattle.geo_site.specs.declared.refusal.TakeError.TheVariants as takes
-use Rattle.geo_site.specs.declared.refusal.ReapError.TheVariants.{ClockEnded}
 use Rattle.geo_stamp.specs.Acks.{none_heard}
 use Rattle.geo_site.specs.declared.state.SiteState.{SiteState}
-use Rattle.geo_site.specs.Entries.{flushes_due, is_done, made_on, none_counted}
-use Rattle.geo_site.specs.Machine.{Same, fresh, visible_in, IsRecordCount, IsHeldCount}
+use Rattle.geo_site.specs.Entries.{none_counted}
+use Rattle.geo_site.specs.Machine.{Same, fresh}
 use Rattle.geo_site.specs.Sites.{state_in, heard_in, counts_in, waiting_in, clock_in, victim_in, issued_in, record_count, held_count, Stays, Remains, FlushDoes, ActDoes}
 use Rattle.geo_history.specs.declared.history.Opening.{Opening}
 use Rattle.geo_history.specs.declared.step.Event.{Event}
-use Rattle.geo_history.specs.declared.step.Event.TheVariants.{Tick, Command}
+use Rattle.geo_history.specs.declared.step.Event.TheVariants.{Tick}
 use Rattle.geo_history.specs.declared.step.Answer.{Answer}
-use Rattle.geo_history.specs.declared.step.Answer.TheVariants.{Ticked, Replied}
+use Rattle.geo_history.specs.declared.step.Answer.TheVariants.{Ticked}
 use Rattle.geo_history.specs.declared.step.Step.{Step}
 use Rattle.geo_history.specs.Standings.{Who, who_in, Standing, standing_in, nothing_yet, Describes}
 use Rattle.geo_history.specs.Replays.{StepsTo, Replays, steps_of, is_numbered}
-use Rattle.geo_history.specs.Keeping.{Story, most_steps, most_seats, opened_with, opened_total, made_in, made_by, IsCounted, Keeps, IsKept, step_with, step_of, GoesOn, is_flush_due, flush_count, flush_steps, number_after, FlushesAlone, DoesNothing, ActsFor}
+use Rattle.geo_history.specs.Keeping.{Story, most_steps, most_seats, opened_with, made_in, made_by, IsCounted, Keeps, IsKept, step_with, step_of, GoesOn, is_flush_due, flush_count, flush_steps, number_after, FlushesAlone, DoesNothing}
 use Rattle.geo_history.proofs.Issuing.{stands_same, undue_stands}
-use Rattle.geo_history.proofs.Leading.{flush_leads, command_leads}
+use Rattle.geo_history.proofs.Leading.{flush_leads}
 
 -- an element that is there, whatever stands for one that is not
 pub get_or_any : (xs : List ℕ) (i d e : ℕ) → i < length xs → slice_index_or xs i d ≡ slice_index_or xs i e

@@ -1,5 +1,5 @@
 -- Each call at a site leads from where it stands to where it stands then, with the answer that the call gave.
-use Rattle.std.proofs.Common.{◌≡◌, ◌≢◌, ◌⊎◌, ℕ, ◌+◌, ◌≤◌, Bool, true, false, cond, not, List, [], ◌∷◌, length, Option, None, Some, Ok, Err, refl, sym, ap, ◌∙◌, subst, subst₂, inl, inr, true≢false}
+use Rattle.std.proofs.Common.{◌≡◌, ◌≢◌, ◌⊎◌, ℕ, Bool, true, false, cond, List, [], Option, None, Some, Ok, Err, refl, sym, ap, ◌∙◌, subst, inl, inr, true≢false}
 use Rattle.std.specs.Prelude.{is_some}
 use Rattle.std.specs.Cmp.Lexicographic.{same_text}
 use Rattle.geo_records.specs.Keys.{same_key}
@@ -16,18 +16,16 @@ use Rattle.geo_site.specs.declared.refusal.SendError.TheVariants.{NoSuchSite}
 use Rattle.geo_site.specs.declared.refusal.TakeError.{TakeError}
 use Rattle.geo_site.specs.declared.refusal.TakeError.TheVariants as takes
 use Rattle.geo_site.specs.declared.refusal.ReapError.TheVariants.{ClockEnded}
-use Rattle.geo_site.specs.Entries.{Counts, issued, accesses, counted, evicted_on, waits_after, flushes_due, is_stuck, is_reapable, reap_acts, lacks, owed, made_on, is_done}
+use Rattle.geo_site.specs.Entries.{Counts, accesses, counted, evicted_on, waits_after, flushes_due, is_stuck, is_reapable, reap_acts, owed, made_on, is_done}
 use Rattle.geo_site.specs.Machine as machine
 use Rattle.geo_site.specs.Machine.{SiteState, Same, accessed, visible_in, removed, without, is_victim, IsRecordCount, IsHeldCount}
 use Rattle.geo_site.specs.Schedule.{VictimOf}
 use Rattle.geo_site.specs.Sites.{state_in, heard_in, waiting_in, counts_in, clock_in, basis_in, record_count, held_count, issued_in, victim_in, horizon_in, HasIssued, HasIssuedAfter, FirstVictimFits, Rests, Stays, Remains, FlushDoes, RequestDoes, RequestDoesBy, ActDoes, ReapDoes, TakeDoes, RemoveDoes, EvictDoes, SendDoes, IsSent as SiteSends}
-use Rattle.geo_site.proofs.Stocking.{state_path, unchanged}
-use Rattle.geo_site.proofs.Victims.{AreQuiet, one_quiet, quiet_goes, request_goes, victim_fits}
+use Rattle.geo_site.proofs.Victims.{one_quiet, request_goes, victim_fits}
 use Rattle.geo_history.specs.declared.step.Event.TheVariants.{Command, Evict, Send, Take, Remove, Tick, Reap}
 use Rattle.geo_history.specs.declared.step.Answer.TheVariants.{Replied, Evicted, Sent, SendRefused, Taken as Took, TakeRefused, Removed, Ticked, Reaped, ReapRefused}
-use Rattle.geo_history.specs.Standings.{Who, who_in, Standing, standing_in, clock_at, visible_at, basis_at, issued_at, issue_all, lets_go, waits, counts_as, flushed, carries_out, evicts, reaped_at}
-use Rattle.geo_history.specs.Standings as standings
-use Rattle.geo_history.specs.Replays.{Requested, Stuck, Commanded, Undue, Takes, RefusesFor, IsSent, SendRefuses, TellsTake, Drops, Leads, StepsTo}
+use Rattle.geo_history.specs.Standings.{who_in, Standing, standing_in, issue_all, lets_go, carries_out, evicts}
+use Rattle.geo_history.specs.Replays.{Requested, Commanded, RefusesFor, IsSent, StepsTo}
 use Rattle.geo_history.proofs.Issuing.{standing_at, stands_same, quiet_stands, goes_stands, accessed_stands, beside, flush_stands, none_due, stuck_same, take_stands}
 
 -- ---- a flush that is due

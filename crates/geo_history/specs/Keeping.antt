@@ -1,5 +1,5 @@
 -- A site with its history, and what each call leaves of both.
-use Rattle.std.specs.Prelude.{◌≡◌, ◌≢◌, ◌⊎◌, ℕ, ◌+◌, ◌≤◌, ◌<◌, ◌^◌, Bool, true, false, cond, List, [], ◌∷◌, ◌++◌, length, Option, None, Some, Result, Ok, Err, slice_index_or, sum_by}
+use Rattle.std.specs.Prelude.{◌≡◌, ◌≢◌, ◌⊎◌, ℕ, ◌+◌, ◌≤◌, ◌<◌, Bool, true, cond, List, [], ◌∷◌, ◌++◌, length, Option, None, Result, Ok, Err, slice_index_or, sum_by}
 use Rattle.std.specs.declared.alloc.AllocError.{AllocError}
 use Rattle.geo_delta.specs.declared.parcel.Parcel.{Parcel}
 use Rattle.geo_grammar.specs.declared.request.Request.{Request}
@@ -15,9 +15,9 @@ use Rattle.geo_site.specs.declared.refusal.TakeError.{TakeError}
 use Rattle.geo_site.specs.declared.refusal.TakeError.TheVariants as takes
 use Rattle.geo_site.specs.declared.refusal.ReapError.{ReapError}
 use Rattle.geo_site.specs.declared.refusal.ReapError.TheVariants as reaps
-use Rattle.geo_site.specs.Entries.{flushes_due, is_done, issued, made_on}
+use Rattle.geo_site.specs.Entries.{flushes_due, is_done, made_on}
 use Rattle.geo_site.specs.Machine.{Same, visible_in, IsRecordCount, IsHeldCount}
-use Rattle.geo_site.specs.Sites.{state_in, record_count, held_count, waiting_in, clock_in, victim_in, issued_in, ActDoes, FlushDoes, OpenDoes, SendDoes, TakeDoes, RemoveDoes, EvictDoes, ReapDoes, ReapResult, JuggleDoes, Rests, Stays, Remains}
+use Rattle.geo_site.specs.Sites.{state_in, record_count, held_count, waiting_in, clock_in, victim_in, issued_in, ActDoes, FlushDoes, OpenDoes, SendDoes, TakeDoes, RemoveDoes, EvictDoes, ReapDoes, JuggleDoes, Rests, Stays, Remains}
 use Rattle.geo_history.specs.declared.history.Opening.{Opening}
 use Rattle.geo_history.specs.declared.parts.Parts.{Parts}
 use Rattle.geo_history.specs.declared.step.Event.{Event}
@@ -25,7 +25,7 @@ use Rattle.geo_history.specs.declared.step.Event.TheVariants.{Command, Evict, Se
 use Rattle.geo_history.specs.declared.step.Answer.{Answer}
 use Rattle.geo_history.specs.declared.step.Answer.TheVariants.{Replied, Evicted, Sent, SendRefused, Taken as Took, TakeRefused, Removed, Ticked, Reaped, ReapRefused}
 use Rattle.geo_history.specs.declared.step.Step.{Step}
-use Rattle.geo_history.specs.Standings.{Who, who_in, who_of, Standing, standing_in, nothing_yet, Describes}
+use Rattle.geo_history.specs.Standings.{Who, who_in, Standing, standing_in, nothing_yet, Describes}
 use Rattle.geo_history.specs.Replays.{Replays, steps_of, is_numbered}
 
 -- the most steps of a seat, and how many seats there are

@@ -1,5 +1,5 @@
 -- Steps of a site one after the other: what each may answer where the site stands, and where it leads.
-use Rattle.std.specs.Prelude.{IsTrue, ◌↔◌, ◌≡◌, ◌≢◌, ℕ, ◌+◌, ◌≤◌, ◌<◌, ◌==◌, ◌&&◌, Bool, true, false, cond, if◌then◌else◌, List, [], ◌∷◌, ◌++◌, length, Option, None, Some, is_some}
+use Rattle.std.specs.Prelude.{IsTrue, ◌↔◌, ◌≡◌, ◌≢◌, ℕ, ◌+◌, ◌≤◌, ◌==◌, ◌&&◌, Bool, true, false, cond, if◌then◌else◌, List, [], ◌∷◌, length, Option, None, is_some}
 use Rattle.std.specs.List.{All}
 use Rattle.geo_stamp.specs.Acks.{row_of}
 use Rattle.geo_stamp.specs.Vectors.{vector_joined}
@@ -25,7 +25,7 @@ use Rattle.geo_history.specs.declared.step.Event.TheVariants.{Command, Evict, Se
 use Rattle.geo_history.specs.declared.step.Answer.{Answer}
 use Rattle.geo_history.specs.declared.step.Answer.TheVariants.{Replied, Evicted, Sent, SendRefused, Taken as Took, TakeRefused, Removed, Ticked, Reaped, ReapRefused}
 use Rattle.geo_history.specs.declared.step.Step.{Step}
-use Rattle.geo_history.specs.Standings.{Who, Standing, clock_at, visible_at, basis_at, issued_at, issue_all, lets_go, flushed, carries_out, takes as taken, removes, evicts, reaped_at}
+use Rattle.geo_history.specs.Standings.{Who, Standing, clock_at, visible_at, basis_at, issued_at, issue_all, flushed, carries_out, takes as taken, removes, evicts, reaped_at}
 
 -- a request where no flush is due: the reply is the one that is owed, and never want of memory
 pub record Requested (who : Who) (old new : Standing) (now : ℕ) (request : Request) (reply : Reply) (victim : Option (List ℕ))

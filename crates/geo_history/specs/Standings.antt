@@ -1,6 +1,6 @@
 -- What a site stands at: all that it knows, keeps, holds and counts, but for the order in which its bytes would go. Each event is one
 -- step of it, given whose bytes went.
-use Rattle.std.specs.Prelude.{◌≡◌, ◌≢◌, ℕ, ◌+◌, Bool, true, false, cond, nat_le, List, [], ◌∷◌, length, Option, None, Some, option_map}
+use Rattle.std.specs.Prelude.{◌≡◌, ℕ, ◌+◌, nat_le, List, [], ◌∷◌, Option, None, Some, option_map}
 use Rattle.geo_stamp.specs.Stamps.{Moment}
 use Rattle.geo_stamp.specs.Vectors.{zeros, greatest_of, raised, vector_joined}
 use Rattle.geo_stamp.specs.Acks.{none_heard, heard, horizon_of}

@@ -1,6 +1,6 @@
-use Rattle.std.proofs.Common.{◌≡◌, ◌∙◌, ◌≤◌, [], ap, refl, subst, arith, IsOk}
+use Rattle.std.proofs.Common.{◌≡◌, ◌∙◌, [], ap, refl, arith}
 use Rattle.std.proofs.lemmas.Result.{err_from_is_err_and}
-use Rattle.geo_frame.specs.Reading.{records_at, key_at, last_key}
+use Rattle.geo_frame.specs.Reading.{records_at, last_key}
 use Rattle.geo_frame.proofs.Loops.{records_start, records_go_on, records_end, records_done}
 use Rattle.geo_frame.proofs.Memory.{first_of_record, first_on, first_read}
 use Rattle.geo_frame.proofs.record.take_records.Goals as goal

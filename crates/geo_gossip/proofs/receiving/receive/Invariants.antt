@@ -1,4 +1,4 @@
-use Rattle.std.proofs.Common.{ℕ, ◌+◌, ◌≤◌}
+use Rattle.std.proofs.Common.{◌+◌, ◌≤◌}
 use Rattle.geo_gossip.specs.Rounds.{KeepsLast}
 use Rattle.geo_gossip.proofs.receiving.receive.Given as goal
 

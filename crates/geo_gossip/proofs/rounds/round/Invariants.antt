@@ -1,4 +1,3 @@
-use Rattle.std.proofs.Common.{◌≡◌}
 use Rattle.geo_gossip.proofs.Going.{Goes}
 use Rattle.geo_gossip.proofs.rounds.round.Given as goal
 

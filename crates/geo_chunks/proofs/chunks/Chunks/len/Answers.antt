@@ -1,4 +1,4 @@
-use Rattle.std.proofs.Common.{◌≡◌, ◌∙◌, ◌+◌, ◌*◌, length, ◌++◌, refl, sym, ap, arith, length-append}
+use Rattle.std.proofs.Common.{◌≡◌, ◌∙◌, ◌+◌, ◌*◌, length, ◌++◌, ap, arith, length-append}
 use Rattle.geo_chunks.specs.Chunking.{Chunked, joined}
 use Rattle.geo_chunks.proofs.Places.{joined_length}
 use Rattle.geo_chunks.proofs.chunks.Chunks.len.Goals as goal

@@ -1,4 +1,4 @@
-use Rattle.std.proofs.Common.{◌≡◌, ◌∙◌, ◌++◌, ◌∷◌, [], Some, refl, sym, ap, subst, Vec}
+use Rattle.std.proofs.Common.{◌≡◌, ◌∙◌, ◌++◌, ◌∷◌, [], Some, sym, ap, subst, Vec}
 use Rattle.std.specs.declared.alloc.Global.{Global}
 use Rattle.geo_chunks.specs.Chunking.{Chunked, IsSpare}
 use Rattle.geo_chunks.proofs.Places.{one_more}

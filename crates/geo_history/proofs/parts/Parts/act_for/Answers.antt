@@ -1,5 +1,5 @@
-use Rattle.std.proofs.Common.{true, ◌≡◌, ◌+◌, ◌<◌, ◌≤◌, ◌++◌, ◌∷◌, [], ℕ, refl, ap, subst, sym, ◌∙◌, List, arith, inr}
-use Rattle.geo_history.specs.Keeping.{Story, story_of, made_by, flush_count, most_steps, ActForDoes, ActsFor, DoesNothing, GoesOn, flush_steps, step_with}
+use Rattle.std.proofs.Common.{true, ◌≡◌, ◌+◌, ◌≤◌, ◌++◌, ◌∷◌, [], ap, subst, sym, ◌∙◌, arith, inr}
+use Rattle.geo_history.specs.Keeping.{Story, story_of, made_by, flush_count, most_steps, ActsFor, DoesNothing, step_with}
 use Rattle.geo_history.specs.declared.step.Event.TheVariants.{Command}
 use Rattle.geo_history.specs.declared.step.Answer.TheVariants.{Replied}
 use Rattle.geo_grammar.specs.declared.request.Request.{Request}

@@ -1,4 +1,4 @@
-use Rattle.std.proofs.Common.{◌≡◌, ◌+◌, ◌<◌, ◌++◌, ◌∷◌, [], ℕ, rules, refl, ap, subst, sym, ◌∙◌, List, length, slice_set}
+use Rattle.std.proofs.Common.{◌≡◌, ◌+◌, ◌<◌, ◌++◌, ◌∷◌, [], rules, ap, subst, sym, ◌∙◌, List, length, slice_set}
 use Rattle.geo_history.specs.Keeping.{IsCounted, made_in, step_with}
 use Rattle.geo_history.specs.declared.step.Step.{Step}
 use Rattle.geo_history.proofs.Keeps.{get_or_any, counted_more}
