@@ -4,7 +4,7 @@ ghost use Rattle.std.specs.List.{All};
 ghost use Rattle.geo_versions.specs.Maps.{Rising, floor_in, listed_at, rec_means, record_in, since};
 ghost use Rattle.geo_delta.specs.Changes.{Traced, nothing_pending};
 
-use crate::changes::Changes;
+use crate::buffer::Buffer;
 use crate::parcel::Parcel;
 use geo_lattice::Items;
 use geo_stamp::Vector;
@@ -16,7 +16,7 @@ use std::alloc::{AllocError, Global};
 fn lacking(
     alloc: Global,
     versions: &Versions,
-    changes: &Changes,
+    changes: &Buffer,
     base: &Vector,
 ) -> Result<Vec<(Key, Rec)>, AllocError>
     requires traced { Traced nothing_pending (record_in versions.now) changes.now }
@@ -35,7 +35,7 @@ fn lacking(
 pub fn cut(
     alloc: Global,
     versions: &Versions,
-    changes: &Changes,
+    changes: &Buffer,
     from: u8,
     to: u8,
     base: &Vector,

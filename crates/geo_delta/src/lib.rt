@@ -4,12 +4,14 @@
 //! stands on versions and stamps, and knows nothing of held values, requests or links.
 #![tactic(auto)]
 
-mod changes;
+mod buffer;
 mod cutting;
+mod lookup;
 mod parcel;
 mod ranges;
 
-pub use changes::{Changes, MOST_CHANGES};
+pub use buffer::{Buffer, MOST_CHANGES};
 pub use cutting::cut;
+pub use lookup::Lookup;
 pub use parcel::Parcel;
 pub use ranges::stays_in_range;

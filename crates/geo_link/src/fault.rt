@@ -12,7 +12,7 @@ pub enum LinkError {
     #[error("the link is closed")]
     Closed,
     /// What came is no frame. The link has ended.
-    #[error("a frame is refused: {0:?}")]
+    #[error("a frame is refused: {0}")]
     Frame(FrameFault),
     /// A read or a write failed. The link has ended.
     #[error("a read or a write failed")]

@@ -12,7 +12,7 @@ ghost use Rattle.geo_site.specs.Machine.{Numbered, HasRows, Covers, Settled, End
 
 use crate::refusal::SetupError;
 use crate::setup::{Limits, MOST_RECORDS, Setup};
-use geo_delta::Changes;
+use geo_delta::Buffer;
 use geo_slabs::{CLASSES, MOST_PAGES, Slabs};
 use geo_stamp::{Acks, MOST_SITES, Stamp, Vector};
 use geo_values::Values;
@@ -31,7 +31,7 @@ pub struct Site {
     pub(crate) heard: Acks,
     pub(crate) versions: Versions,
     /// The keys whose records changed last, with what it knew then.
-    pub(crate) changes: Changes,
+    pub(crate) changes: Buffer,
     pub(crate) values: Values,
     pub(crate) hits: u64,
     pub(crate) misses: u64,
@@ -89,7 +89,7 @@ impl Site {
         let Ok(hasher) = setup.hasher.clone() else {
             return Err(SetupError::Memory);
         };
-        let Ok(changes) = Changes::new(alloc, setup.sites as usize) else {
+        let Ok(changes) = Buffer::new(alloc, setup.sites as usize) else {
             return Err(SetupError::Memory);
         };
         let Ok(values) = fresh_values(alloc, hasher, setup.pages as usize) else {

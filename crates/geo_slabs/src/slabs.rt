@@ -6,6 +6,7 @@ ghost use Rattle.geo_slabs.specs.Storage.{class_count, chunk_bytes, chunks_a_pag
 use crate::class::{Class, PAGE_BYTES};
 use std::alloc::{AllocError, Global};
 use std::marker::Model;
+use thiserror::Error;
 
 /// How many slab classes there are. Class c has chunks of 64 * 2^c bytes.
 pub const CLASSES: usize = 15;
@@ -14,13 +15,16 @@ pub const CLASSES: usize = 15;
 pub const MOST_PAGES: usize = 65_536;
 
 /// Why there are no slabs.
-#[derive(Clone, Copy, Debug, PartialEq, Eq)]
+#[derive(Clone, Copy, Debug, PartialEq, Eq, Error)]
 pub enum SlabsError {
     /// Fewer than 15 pages: each class has one.
+    #[error("fewer than 15 pages")]
     TooFewPages,
     /// More than 65,536 pages.
+    #[error("more than 65536 pages")]
     TooManyPages,
     /// Memory was wanted and refused.
+    #[error("memory was refused")]
     Memory,
 }
 

@@ -7,7 +7,7 @@ ghost use Rattle.geo_tally.specs.Counts.{place_of};
 pub enum Counter {
     /// Client sessions that ended.
     Sessions,
-    /// Requests of clients that were answered.
+    /// Requests of clients that were put to a site, also the one that a spent seat did not answer.
     Requests,
     /// Sessions that ended by a fault.
     Faults,

@@ -4,7 +4,7 @@ ghost use Rattle.geo_versions.specs.Maps.{record_in};
 ghost use Rattle.geo_delta.specs.Changes.{KnowsBut, Traced, nothing_pending};
 
 use super::show::{frame, push_number, push_parcel};
-use geo_delta::{Changes, Parcel, cut};
+use geo_delta::{Buffer, Parcel, cut};
 use geo_lattice::Twin;
 use geo_stamp::{Stamp, Vector};
 use geo_versions::{Body, Digest, Key, Length, Rec, Versions};
@@ -20,7 +20,7 @@ use table::Op;
 #[derive(Drop)]
 struct Site {
     versions: Versions,
-    changes: Changes,
+    changes: Buffer,
     vector: Vector,
 }
 
@@ -30,7 +30,7 @@ fn new_site(rt: &HostRuntime) -> Result<Site, Fail>
     let alloc = rt.alloc();
     Ok(Site {
         versions: Versions::new(alloc, RandomState::new(rt)?),
-        changes: Changes::new(alloc, 2)?,
+        changes: Buffer::new(alloc, 2)?,
         vector: Vector::new(2),
     })
 }

@@ -1,7 +1,7 @@
 use Rattle.std.proofs.Common.{sym, ap, ◌∙◌, arith, [], ◌∷◌, ◌++◌}
 use Rattle.geo_delta.proofs.Spans.{keys_more, there}
-use Rattle.geo_delta.proofs.changes.Changes.keys_from.Goals.{in-Some+in_ok-twin+in_ok-push, in_default}
-use Rattle.geo_delta.proofs.changes.Changes.keys_from.Goals as goal
+use Rattle.geo_delta.proofs.buffer.Buffer.keys_from.Goals.{in-Some+in_ok-twin+in_ok-push, in_default}
+use Rattle.geo_delta.proofs.buffer.Buffer.keys_from.Goals as goal
 
 pub loop-i-preserved : goal.loop-i-preserved
 loop-i-preserved c =

@@ -2,7 +2,7 @@ use Rattle.std.proofs.Common.{◌-◌, sym, ap, ◌∙◌, refl}
 use Rattle.geo_stamp.specs.Vectors.{vector_joined}
 use Rattle.geo_delta.specs.Changes.{Ring, known_after}
 use Rattle.geo_delta.proofs.Spans.{known_back}
-use Rattle.geo_delta.proofs.changes.Changes.first_news.Goals as goal
+use Rattle.geo_delta.proofs.buffer.Buffer.first_news.Goals as goal
 
 pub returns-then-covers-clause-covered : goal.returns-then-covers-clause-covered
 returns-then-covers-clause-covered c =

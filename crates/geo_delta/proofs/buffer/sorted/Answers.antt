@@ -9,7 +9,7 @@ use Rattle.std.specs.List.Sorted.{IsStrictlySortedBy}
 use Rattle.std.specs.Ordering.{nat_cmp}
 use Rattle.geo_records.specs.Keys.{same_key}
 use Rattle.geo_delta.proofs.Sorting.{dedup_keeps}
-use Rattle.geo_delta.proofs.changes.sorted.Goals as goal
+use Rattle.geo_delta.proofs.buffer.sorted.Goals as goal
 
 pub returns-clause-rising : goal.returns-clause-rising
 returns-clause-rising c =

@@ -4,16 +4,16 @@ use Rattle.std.specs.List.Sorted.{IsStrictlySortedBy}
 use Rattle.std.specs.Cmp.Lexicographic.{slice_cmp}
 use Rattle.std.specs.Ordering.{nat_cmp}
 use Rattle.geo_records.specs.Keys.{same_key}
-use Rattle.geo_versions.specs.Maps.{Rising, rec_means, record_in, since, listed_at}
+use Rattle.geo_versions.specs.Maps.{Rising, rec_means, since, listed_at}
 use Rattle.geo_records.specs.Operations.{Record}
 use Rattle.geo_delta.proofs.News.{found_is_news, one_more, none_more, news_rise, news_at, news_filled}
 use Rattle.geo_lattice.proofs.Showing.{rest_more, rest_none}
-use Rattle.geo_delta.proofs.changes.looked_up.Goals as goal
+use Rattle.geo_delta.proofs.buffer.looked_up.Goals as goal
 
 pub loop-key-preserved-in-Continue-1 : goal.loop-key-preserved-in-Continue-1
-loop-key-preserved-in-Continue-1 c =
+loop-key-preserved-in-Continue-1 g c =
     let base = c.args.base.now in
-    let at = record_in c.args.versions.now in
+    let at = g.T.Lookup.record_of c.args.versions.now in
     let key = c.in-Some.key in
     let steps = c.in-Some.ensures.steps.0 in
     record {
@@ -23,9 +23,9 @@ loop-key-preserved-in-Continue-1 c =
     }
 
 pub loop-key-preserved-in_default : goal.loop-key-preserved-in_default
-loop-key-preserved-in_default c =
+loop-key-preserved-in_default g c =
     let base = c.args.base.now in
-    let at = record_in c.args.versions.now in
+    let at = g.T.Lookup.record_of c.args.versions.now in
     let key = c.in-Some.key in
     let steps = c.in-Some.ensures.steps.0 in
     record {
@@ -35,9 +35,9 @@ loop-key-preserved-in_default c =
     }
 
 pub loop-key-preserved : goal.loop-key-preserved
-loop-key-preserved c =
+loop-key-preserved g c =
     let base = c.args.base.now in
-    let at = record_in c.args.versions.now in
+    let at = g.T.Lookup.record_of c.args.versions.now in
     let key = c.in-Some.key in
     let steps = c.in-Some.ensures.steps.0 in
     record {
@@ -47,15 +47,15 @@ loop-key-preserved c =
     }
 
 pub returns-clause-rising : goal.returns-clause-rising
-returns-clause-rising c =
+returns-clause-rising g c =
     let none : c.loop-key.yielded ≡ c.args.keys.items = rest_none _ _ _ c.loop-key.invariant.rest (sym c.loop-key.invariant.left ∙ c.in-None.ensures.steps.0) ∙ c.into_iter-key-iterator.ensures.into_iter_gives.0 in
-    subst Rising (sym c.loop-key.invariant.all) (news_rise c.args.base.now (record_in c.args.versions.now) c.loop-key.yielded (subst (IsStrictlySortedBy (slice_cmp nat_cmp)) (sym none) c.requires))
+    subst Rising (sym c.loop-key.invariant.all) (news_rise c.args.base.now (g.T.Lookup.record_of c.args.versions.now) c.loop-key.yielded (subst (IsStrictlySortedBy (slice_cmp nat_cmp)) (sym none) c.requires))
 
 pub returns-clause-records : goal.returns-clause-records
-returns-clause-records c = λ q.
+returns-clause-records g c = λ q.
     let none : c.loop-key.yielded ≡ c.args.keys.items = rest_none _ _ _ c.loop-key.invariant.rest (sym c.loop-key.invariant.left ∙ c.in-None.ensures.steps.0) ∙ c.into_iter-key-iterator.ensures.into_iter_gives.0 in
-    ap (λ es. listed_at es q) c.loop-key.invariant.all ∙ news_at c.args.base.now (record_in c.args.versions.now) c.loop-key.yielded q
-    ∙ ap (λ ks. cond {A = Record} (list_any (same_key q) ks) (since c.args.base.now (record_in c.args.versions.now q)) (None, None)) none
+    ap (λ es. listed_at es q) c.loop-key.invariant.all ∙ news_at c.args.base.now (g.T.Lookup.record_of c.args.versions.now) c.loop-key.yielded q
+    ∙ ap (λ ks. cond {A = Record} (list_any (same_key q) ks) (since c.args.base.now (g.T.Lookup.record_of c.args.versions.now q)) (None, None)) none
 
 pub returns-clause-filled : goal.returns-clause-filled
-returns-clause-filled c = subst (All (λ e. rec_means e.1 ≡ (None, None) → ⊥)) (sym c.loop-key.invariant.all) (news_filled c.args.base.now (record_in c.args.versions.now) c.loop-key.yielded)
+returns-clause-filled g c = subst (All (λ e. rec_means e.1 ≡ (None, None) → ⊥)) (sym c.loop-key.invariant.all) (news_filled c.args.base.now (g.T.Lookup.record_of c.args.versions.now) c.loop-key.yielded)

@@ -7,14 +7,15 @@ ghost use Rattle.std.specs.Cmp.Lexicographic.{slice_cmp};
 ghost use Rattle.geo_lattice.specs.Maps.{meaning_or};
 ghost use Rattle.geo_stamp.specs.Vectors.{vector_joined};
 ghost use Rattle.geo_records.specs.Keys.{IsShortKey, same_key};
-ghost use Rattle.geo_versions.specs.Maps.{Rising, is_unknown, listed_at, rec_means, record_in, since};
+ghost use Rattle.geo_versions.specs.Maps.{Rising, is_unknown, listed_at, rec_means, since};
 ghost use Rattle.geo_records.specs.Operations.{Record, Register};
 ghost use Rattle.geo_delta.specs.Changes.{Noted, Traced, KnowsBut, emptied, first_ring, has_change, known_after, noted, nothing_pending};
 
+use crate::lookup::Lookup;
 use circular_buffer::HeapCircularBuffer;
 use geo_lattice::{Exact, Lattice, Lww, Pair, Twin};
 use geo_stamp::{Stamp, Vector};
-use geo_versions::{Key, Rec, Versions};
+use geo_versions::{Key, Rec};
 use std::alloc::{AllocError, Global};
 use std::marker::Model;
 
@@ -22,15 +23,15 @@ use std::marker::Model;
 pub const MOST_CHANGES: usize = 4096;
 
 /// The newest changes of a site, its own or taken in a parcel: of each the key, and what the site knew after it. The oldest of
-/// more than 4,096 falls out; [`Changes::reach`] is what was known after it. What a vector lacks that covers the reach is found
+/// more than 4,096 falls out; [`Buffer::reach`] is what was known after it. What a vector lacks that covers the reach is found
 /// by the changes alone, without passing over all records.
 #[derive(Drop)]
-pub struct Changes {
+pub struct Buffer {
     ring: HeapCircularBuffer<(Key, Vector)>,
     reach: Vector,
 }
 
-impl Model for Changes {
+impl Model for Buffer {
     ghost use Rattle.std.specs.Prelude.{◌≡◌};
     ghost use Rattle.geo_delta.specs.Changes.{Ring, ring_code, most_changes};
 
@@ -43,20 +44,20 @@ impl Model for Changes {
     ghost invariant = { λ c. c.ring.capacity ≡ most_changes };
 }
 
-impl Changes {
+impl Buffer {
     /// No changes, of this many sites, 0 to 16. All memory that the ring wants is taken here.
-    pub fn new(alloc: Global, sites: usize) -> Result<Changes, AllocError>
+    pub fn new(alloc: Global, sites: usize) -> Result<Buffer, AllocError>
         requires { sites ≤ 16 }
         ensures { IfOk result (λ changes. changes ≡ first_ring sites) }
     {
-        Ok(Changes {
+        Ok(Buffer {
             ring: HeapCircularBuffer::with_capacity(alloc, MOST_CHANGES)?,
             reach: Vector::new(sites),
         })
     }
 
     /// Notes that a key was changed, and what is known after that. Where the copy of the key found no memory no change is kept,
-    /// as after [`Changes::lose`], and the answer is false; the copy of a short key takes none.
+    /// as after [`Buffer::lose`], and the answer is false; the copy of a short key takes none.
     pub fn note(&mut self, key: &Key, after: &Vector) -> bool
         ensures kept { result ≡ true → self.new ≡ noted key.now after.now self.old }
         ensures lost { result ≡ false → self.new ≡ emptied after.now }
@@ -101,20 +102,20 @@ impl Changes {
         &self.reach
     }
 
-    /// Copies of the records of which the vector does not know some register, by rising key, as [`Versions::since`] gives them.
-    /// None exactly where the vector does not cover the reach, so that older changes count too. It looks up the keys of those
-    /// changes alone that came after the newest one that the vector covers.
-    pub fn recent(
+    /// Copies of the records of which the vector does not know some register, by rising key. None exactly where the vector does
+    /// not cover the reach, so that older changes count too. It looks up the keys of those changes alone that came after the newest
+    /// one that the vector covers.
+    pub fn recent<T: Lookup>(
         &self,
         alloc: Global,
-        versions: &Versions,
+        versions: &T,
         base: &Vector,
     ) -> Result<Option<Vec<(Key, Rec)>>, AllocError>
-        requires traced { Traced nothing_pending (record_in versions.now) self.now }
+        requires traced { Traced nothing_pending (T.record_of versions.now) self.now }
         ensures reaches { IfOk result (λ found. IsSome found ↔ (vector_joined base.now self.now.reach ≡ base.now)) }
         ensures rising { IfOk result (λ found. IfSome found (λ all. Rising all.items)) }
         ensures records { IfOk result (λ found. IfSome found (λ all. (q : List ℕ)
-            → listed_at all.items q ≡ since base.now (record_in versions.now q))) }
+            → listed_at all.items q ≡ since base.now (T.record_of versions.now q))) }
         ensures filled { IfOk result (λ found. IfSome found (λ all. All (λ e. rec_means e.1 ≡ (None, None) → ⊥) all.items)) }
     {
         match self.first_news(base) {
@@ -182,8 +183,8 @@ fn is_news<V: Exact + Drop>(base: &Vector, register: &Lww<Stamp, V>) -> bool
 }
 
 /// The record of a key, where the vector does not know all of it.
-fn news_of(versions: &Versions, base: &Vector, key: &Key) -> Option<Rec>
-    ensures record { meaning_or (None, None) rec_means result ≡ since base.now (record_in versions.now key.now) }
+fn news_of<T: Lookup>(versions: &T, base: &Vector, key: &Key) -> Option<Rec>
+    ensures record { meaning_or (None, None) rec_means result ≡ since base.now (T.record_of versions.now key.now) }
     ensures filled { IfSome result (λ r. rec_means r ≡ (None, None) → ⊥) }
 {
     match versions.record(key) {
@@ -196,16 +197,16 @@ fn news_of(versions: &Versions, base: &Vector, key: &Key) -> Option<Rec>
 }
 
 /// The records of these keys of which the vector does not know all.
-fn looked_up(
+fn looked_up<T: Lookup>(
     alloc: Global,
-    versions: &Versions,
+    versions: &T,
     base: &Vector,
     keys: Vec<Key>,
 ) -> Result<Vec<(Key, Rec)>, AllocError>
     requires { IsStrictlySortedBy (slice_cmp nat_cmp) keys.items }
     ensures rising { IfOk result (λ all. Rising all.items) }
     ensures records { IfOk result (λ all. (q : List ℕ)
-        → listed_at all.items q ≡ cond {A = Record} (list_any (same_key q) keys.items) (since base.now (record_in versions.now q))
+        → listed_at all.items q ≡ cond {A = Record} (list_any (same_key q) keys.items) (since base.now (T.record_of versions.now q))
         (None, None)) }
     ensures filled { IfOk result (λ all. All (λ e. rec_means e.1 ≡ (None, None) → ⊥) all.items) }
 {

@@ -1,6 +1,6 @@
 use Rattle.std.proofs.Common.{◌≡◌, map, take, drop}
 use Rattle.geo_delta.proofs.Spans.{key_of}
-use Rattle.geo_delta.proofs.changes.Changes.keys_from.Given as goal
+use Rattle.geo_delta.proofs.buffer.Buffer.keys_from.Given as goal
 
 abbrev pub invariant-loop-i : goal.invariant-loop-i
 invariant-loop-i l = l.keys.items ≡ map key_of (drop l.first (take l.i l.self-inside.ring.items))
