@@ -59,6 +59,8 @@ pub struct Crowd<S: Stream + Drop> {
     // Those that can go on.
     listed: Vec<usize>,
     buffer: Vec<u8>,
+    // The streams of those that are over, until somebody fetches them.
+    left: Vec<S>,
 }
 
 impl<S: Stream + Drop> Crowd<S> {
@@ -75,6 +77,7 @@ impl<S: Stream + Drop> Crowd<S> {
             members: Slab::new(alloc),
             listed: Vec::new(alloc),
             buffer,
+            left: Vec::new(alloc),
         })
     }
 
@@ -154,9 +157,20 @@ impl<S: Stream + Drop> Crowd<S> {
             .turn(rt, self.alloc, backend, gate, self.buffer.as_mut_slice());
         member.is_listed = standing == Standing::Again;
         if matches!(standing, Standing::Over(_)) {
-            let _over = self.members.try_remove(number);
+            if let Some(member) = self.members.try_remove(number) {
+                // where memory is refused the stream is closed at once
+                let _ = self.left.push(member.carried.into_stream());
+            }
         }
         Some(standing)
+    }
+
+    /// The streams of the connections that were over since it was asked last, for whoever closes them.
+    pub fn take_left(&mut self) -> Vec<S>
+        ensures stand { Stand (at self.old) (at self.new) }
+        ensures due { due self.new ≡ due self.old }
+    {
+        mem::replace(&mut self.left, Vec::new(self.alloc))
     }
 
     /// One pass: each connection that can go on has one turn.

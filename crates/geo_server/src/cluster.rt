@@ -5,7 +5,8 @@ ghost use Rattle.geo_config.specs.Lawful.{IsLawful};
 
 use crate::fault::{ClusterFault, add};
 use crate::report::{report, verdict_word};
-use crate::site::{Crew, Ended, Fresh, Job, Shared, run_site};
+use crate::site::{Crew, Ended, Fresh, Job, Shared, posts, run_site};
+use crate::start::Start;
 use crate::wires::{Memory, Tcp, Wires};
 use geo_audit::audit;
 use geo_config::{Config, LinkKind, SiteConfig};
@@ -33,6 +34,9 @@ fn listen<R: Net<Stream = TcpStream, Listener = TcpListener>>(
 ) -> Result<TcpListener, ClusterFault> {
     match TcpListener::bind(rt, address) {
         Ok(listener) => Ok(listener),
+        Err(error) if ClusterFault::of_socket(&error) == ClusterFault::Descriptors => {
+            Err(ClusterFault::Descriptors)
+        }
         Err(_) => match format!(in alloc; "{address}") {
             Ok(address) => Err(ClusterFault::Listen(address)),
             Err(_) => Err(ClusterFault::Memory),
@@ -129,6 +133,7 @@ fn jobs<R: RandomSource, P: Drop, Q: Drop>(
                 peers: ends.peers,
                 froms: ends.froms,
             },
+            posts: posts(rt, alloc, site.workers)?,
             sessions: config.sessions,
             listener,
         };
@@ -142,6 +147,16 @@ fn workers_of(config: &Config) -> u64 {
     let mut all = 0u64;
     for site in config.sites.iter() {
         all = all.saturating_add(site.workers as u64);
+    }
+    all
+}
+
+/// How many threads all sites have: each those for its workers, gossip and maintenance, for a link from each other site, and the one
+/// that lets clients in.
+fn threads_of(config: &Config) -> u64 {
+    let mut all = workers_of(config);
+    for _site in config.sites.iter() {
+        all = all.saturating_add(config.sites.len() as u64 + 2);
     }
     all
 }
@@ -200,6 +215,7 @@ fn run<
     let stop = AtomicU64::new(0);
     let shared = Shared {
         gate,
+        start: Start::new(threads_of(config), &stop),
         working: AtomicU64::new(workers_of(config)),
         stop: &stop,
         every: Duration::from_millis(config.every),

@@ -112,7 +112,15 @@ fn maintain<R: Wait + rt::Clock, L: Ledger, G: Gate>(
 }
 
 impl<L: Ledger, P: Link + Drop, Q: Link + Drop> Duty<'_, L, P, Q> {
-    /// Does it to its end, and gives the station's seat back.
+    /// Gives the station's seat back, and does nothing.
+    fn into_seat(self) -> Seat<L> {
+        match self {
+            Duty::Serve(backend, _) => backend.into_seats().0,
+            Duty::Gossip(seat, _, _) | Duty::Maintain(seat) | Duty::Receive(seat, _) => seat,
+        }
+    }
+
+    /// Does it to its end, once all threads have begun, and gives the station's seat back.
     pub(crate) fn run<R: Wait + rt::Clock, G: Gate>(
         self,
         rt: &R,
@@ -120,6 +128,9 @@ impl<L: Ledger, P: Link + Drop, Q: Link + Drop> Duty<'_, L, P, Q> {
         shared: &Shared<'_, G>,
         station: &Station<L>,
     ) -> Seat<L> {
+        if !shared.start.comes(rt) {
+            return self.into_seat();
+        }
         match self {
             Duty::Serve(backend, worker) => serve_clients(rt, alloc, shared, backend, worker),
             Duty::Gossip(seat, counting, peers) => gossip(

@@ -9,6 +9,7 @@ use crate::clock::SystemClock;
 use crate::duty::{Counting, Duty};
 use crate::fault::{ClusterFault, add};
 use crate::mailbox::Mailbox;
+use crate::start::Start;
 use crate::worker::{HANDED_IN, Worker};
 use geo_gossip::Peer;
 use geo_history::{History, Kept};
@@ -18,6 +19,7 @@ use geo_station::{Seat, Station};
 use geo_tally::{Counter, Tally, TallySeat};
 use mio::{Poll, Waker};
 use std::alloc::{AllocError, Global};
+use std::io;
 use std::marker::Brand;
 use std::net::{Net, TcpListener, TcpStream};
 use std::rt;
@@ -32,6 +34,8 @@ use std::time::Duration;
 pub(crate) struct Shared<'a, G> {
     /// What all sessions pass.
     pub(crate) gate: &'a G,
+    /// By which all threads begin together.
+    pub(crate) start: Start<'a>,
     /// How many workers there are, of all sites, for whom clients may still come.
     pub(crate) working: AtomicU64,
     /// 1 once the cluster stops.
@@ -73,6 +77,7 @@ pub(crate) struct Fresh {
 pub(crate) struct Job<P, Q> {
     pub(crate) fresh: Fresh,
     pub(crate) crew: Crew<P, Q>,
+    pub(crate) posts: Posts,
     /// How many connections it accepts.
     pub(crate) sessions: u64,
     pub(crate) listener: TcpListener,
@@ -259,40 +264,69 @@ fn work<
     let Door { listener, sessions } = door;
     let ((), seats) = join(
         rt,
-        || { accept(rt, listener, sessions, mailboxes) },
-        || -> Result<Vec<Seat<L>>, AllocError> {
-            map_vec(
-                rt,
-                duties,
-                &|duty: Duty<'_, L, P, Q>| -> Seat<L> { duty.run(rt, alloc, shared, station) },
-            )
-        },
+        || { accept(rt, &shared.start, listener, sessions, mailboxes) },
+        || -> Result<Vec<Seat<L>>, AllocError> { all_run(rt, alloc, shared, station, duties) },
     );
     match seats {
+        Ok(_) if shared.start.lacks_threads() => Err(ClusterFault::Threads),
         Ok(seats) => Ok(seats),
         Err(_) => Err(ClusterFault::Memory),
     }
 }
 
-/// What waits for so many workers' sockets, and where each gets its clients.
-fn posts<R: Net>(
+/// Has each thread do its duty, and gives the seats back once all have ended. Where memory is wanted for them no site begins.
+fn all_run<
+    R: Threads + Wait + rt::Clock + Sync,
+    L: Ledger + Send + Sync,
+    P: Link + Send + Drop,
+    Q: Link + Send + Drop,
+    G: Gate,
+>(
     rt: &R,
     alloc: Global,
-    workers: usize,
-) -> Result<(Vec<Poll>, Vec<Mailbox>), ClusterFault> {
+    shared: &Shared<'_, G>,
+    station: &Station<L>,
+    duties: Vec<Duty<'_, L, P, Q>>,
+) -> Result<Vec<Seat<L>>, AllocError> {
+    let seats = map_vec(
+        rt,
+        duties,
+        &|duty: Duty<'_, L, P, Q>| -> Seat<L> { duty.run(rt, alloc, shared, station) },
+    );
+    if seats.is_err() {
+        shared.start.abandon();
+    }
+    seats
+}
+
+/// What waits for the workers' sockets, and where each gets its clients.
+#[derive(Drop)]
+pub(crate) struct Posts {
+    polls: Vec<Poll>,
+    mailboxes: Vec<Mailbox>,
+}
+
+/// What waits for the sockets of one worker, and where it gets its clients.
+fn post<R: Net>(rt: &R, alloc: Global) -> io::Result<(Poll, Mailbox)> {
+    let poll = Poll::new(rt)?;
+    let waker = Waker::new(poll.registry(), HANDED_IN)?;
+    Ok((poll, Mailbox::new(alloc, waker)))
+}
+
+/// What waits for so many workers' sockets, and where each gets its clients.
+pub(crate) fn posts<R: Net>(rt: &R, alloc: Global, workers: usize) -> Result<Posts, ClusterFault> {
     let mut polls = Vec::new(alloc);
     let mut mailboxes = Vec::new(alloc);
     for _worker in 0..workers {
-        let Ok(poll) = Poll::new(rt) else {
-            return Err(ClusterFault::Socket);
-        };
-        let Ok(waker) = Waker::new(poll.registry(), HANDED_IN) else {
-            return Err(ClusterFault::Socket);
-        };
-        add(&mut polls, poll)?;
-        add(&mut mailboxes, Mailbox::new(alloc, waker))?;
+        match post(rt, alloc) {
+            Ok((poll, mailbox)) => {
+                add(&mut polls, poll)?;
+                add(&mut mailboxes, mailbox)?;
+            }
+            Err(error) => return Err(ClusterFault::of_socket(&error)),
+        }
     }
-    Ok((polls, mailboxes))
+    Ok(Posts { polls, mailboxes })
 }
 
 /// A worker for each mailbox.
@@ -338,6 +372,7 @@ fn run_named<
     let Job {
         fresh,
         crew,
+        posts,
         sessions,
         listener,
     } = job;
@@ -348,12 +383,8 @@ fn run_named<
     let Ok((tally, counts)) = Tally::new(alloc, seats) else {
         return Err(ClusterFault::Memory);
     };
-    let Crew {
-        workers,
-        peers,
-        froms,
-    } = crew;
-    let (polls, mailboxes) = posts(rt, alloc, workers)?;
+    let Crew { peers, froms, .. } = crew;
+    let Posts { polls, mailboxes } = posts;
     let workers = workers_of(alloc, polls, mailboxes.as_slice())?;
     let given = Duties {
         station: &station,
@@ -377,7 +408,7 @@ fn run_named<
     Ok(Ended { history, sums })
 }
 
-/// Runs a site from its first client until the cluster stops.
+/// Runs a site from its first client until the cluster stops. Where it can't be put together no site begins.
 pub(crate) fn run_site<
     R: Net + Threads + Wait + rt::Clock + Sync,
     P: Link + Send + Drop,
@@ -385,5 +416,10 @@ pub(crate) fn run_site<
     G: Gate,
 >(rt: &R, alloc: Global, shared: &Shared<'_, G>, job: Job<P, Q>) -> Result<Ended, ClusterFault> {
     let seats = seats_of(&job);
-    run_named::<R, Brand, P, Q, G>(rt, alloc, shared, Blank::new(seats as u64), seats, job)
+    let ended =
+        run_named::<R, Brand, P, Q, G>(rt, alloc, shared, Blank::new(seats as u64), seats, job);
+    if ended.is_err() {
+        shared.start.abandon();
+    }
+    ended
 }

@@ -49,6 +49,16 @@ fn connected<R: Net<Stream = TcpStream, Listener = TcpListener>>(
     Err(io::Error::from(io::ErrorKind::AddrNotAvailable))
 }
 
+/// The links over both ends of a connection to a peer port.
+fn joined<R: Net<Stream = TcpStream, Listener = TcpListener>>(
+    rt: &R,
+    alloc: Global,
+    port: &TcpListener,
+) -> io::Result<(TcpLink, TcpLink)> {
+    let (putting, getting) = connected(rt, port)?;
+    Ok((link_over(alloc, putting)?, link_over(alloc, getting)?))
+}
+
 /// Both ends of a link that leads to a peer port: for the site that puts, and for the one whose port it is.
 pub(crate) fn tcp_link<'a, R: Net<Stream = TcpStream, Listener = TcpListener>>(
     rt: &R,
@@ -56,18 +66,17 @@ pub(crate) fn tcp_link<'a, R: Net<Stream = TcpStream, Listener = TcpListener>>(
     port: &'a TcpListener,
     stop: &'a AtomicU64,
 ) -> Result<(TcpLink, PeerPort<'a>), ClusterFault> {
-    let Ok((putting, getting)) = connected(rt, port) else {
-        return Err(ClusterFault::Socket);
-    };
-    let (Ok(putting), Ok(getting)) = (link_over(alloc, putting), link_over(alloc, getting)) else {
-        return Err(ClusterFault::Socket);
-    };
-    let port = PeerPort {
-        port,
-        stop,
-        current: Some(getting),
-    };
-    Ok((putting, port))
+    match joined(rt, alloc, port) {
+        Ok((putting, getting)) => {
+            let port = PeerPort {
+                port,
+                stop,
+                current: Some(getting),
+            };
+            Ok((putting, port))
+        }
+        Err(error) => Err(ClusterFault::of_socket(&error)),
+    }
 }
 
 /// The getting end of a link that leads to a peer port. Once its link is closed it takes from whoever else has connected to the

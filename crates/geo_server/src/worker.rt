@@ -1,4 +1,5 @@
 //! A thread that carries clients' connections.
+use crate::leaving::Leaving;
 use crate::mailbox::Mailbox;
 use crate::socket::Socket;
 use geo_crowd::{Carried, Crowd, Passed, Polling, Ready};
@@ -19,6 +20,9 @@ const EVENTS: usize = 256;
 /// For how many milliseconds a worker waits where nothing is ready, before it looks into its mailbox all the same.
 const PATIENCE: u64 = 1000;
 
+/// For how many milliseconds it waits where some connections that are over are still open.
+const BRIEFLY: u64 = 20;
+
 /// The sockets of a worker, as the system tells of them.
 #[derive(Drop)]
 struct Sockets {
@@ -28,11 +32,26 @@ struct Sockets {
     ready: Vec<Ready>,
     /// Whether clients may have been handed in since.
     is_called: bool,
+    /// Whether some connections that are over are still open.
+    has_leavers: bool,
+}
+
+impl Sockets {
+    /// For how many milliseconds to wait.
+    fn patience(&self, at_once: bool) -> u64 {
+        if at_once {
+            0
+        } else if self.has_leavers {
+            BRIEFLY
+        } else {
+            PATIENCE
+        }
+    }
 }
 
 impl Polling for Sockets {
     fn wait(&mut self, at_once: bool) {
-        let most = if at_once { 0 } else { PATIENCE };
+        let most = self.patience(at_once);
         // a signal ends the wait, and no more
         let _ = self
             .poll
@@ -65,6 +84,7 @@ impl Polling for Sockets {
 pub(crate) struct Worker<'a> {
     sockets: Sockets,
     crowd: Crowd<Socket>,
+    leaving: Leaving,
     mailbox: &'a Mailbox,
     /// Whether no more clients come.
     is_closed: bool,
@@ -81,10 +101,12 @@ impl<'a> Worker<'a> {
             events: Events::with_capacity(alloc, EVENTS)?,
             ready: Vec::with_capacity(alloc, EVENTS)?,
             is_called: false,
+            has_leavers: false,
         };
         Ok(Worker {
             sockets,
             crowd: Crowd::new(alloc)?,
+            leaving: Leaving::new(alloc),
             mailbox,
             is_closed: false,
         })
@@ -123,6 +145,16 @@ impl<'a> Worker<'a> {
         }
     }
 
+    /// Lets go of the connections that are over, once their clients have sent all.
+    fn let_go<R: Clock>(&mut self, rt: &R) {
+        for mut socket in self.crowd.take_left() {
+            let _ = socket.leave(self.sockets.poll.registry());
+            self.leaving.add(rt, socket);
+        }
+        self.leaving.go_on(rt);
+        self.sockets.has_leavers = !self.leaving.is_empty();
+    }
+
     /// Gives each connection that is ready its turn, and takes in who was handed in meanwhile. What ended is told.
     pub(crate) fn turn<R: Wait + Clock, B: Backend, G: Gate>(
         &mut self,
@@ -133,6 +165,7 @@ impl<'a> Worker<'a> {
     ) -> Passed {
         let passed = self.crowd.round(rt, &mut self.sockets, backend, gate);
         self.mailbox.have_ended(passed.ended);
+        self.let_go(rt);
         if self.sockets.is_called {
             self.take_in(rt, alloc);
         }
@@ -141,6 +174,6 @@ impl<'a> Worker<'a> {
 
     /// Whether no more clients come and all have ended.
     pub(crate) fn is_done(&self) -> bool {
-        self.is_closed && self.crowd.is_empty()
+        self.is_closed && self.crowd.is_empty() && self.leaving.is_empty()
     }
 }

@@ -21,7 +21,8 @@ fn refused<R: Eprint>(rt: &R, fault: ConfigFault) -> u8 {
     REFUSED
 }
 
-/// The status for how a cluster ended. An address that nobody can listen at is told on standard error.
+/// The status for how a cluster ended. What was wanted and can be mended by who runs it is told on standard error: an address that
+/// nobody can listen at, too few descriptors, too few threads.
 fn status_of<R: Eprint>(rt: &R, outcome: Result<(), ClusterFault>) -> u8 {
     match outcome {
         Ok(()) => 0,
@@ -31,6 +32,14 @@ fn status_of<R: Eprint>(rt: &R, outcome: Result<(), ClusterFault>) -> u8 {
             DEVICE_FAILED
         }
         Err(ClusterFault::Socket) => DEVICE_FAILED,
+        Err(ClusterFault::Descriptors) => {
+            let _told = eprintln!(rt; "{}", ClusterFault::Descriptors);
+            DEVICE_FAILED
+        }
+        Err(ClusterFault::Threads) => {
+            let _told = eprintln!(rt; "{}", ClusterFault::Threads);
+            NO_MEMORY
+        }
     }
 }
 
