@@ -14,3 +14,4 @@ pub mod Horizon
 pub mod Alone
 mod Coming
 mod Keeping
+mod Paging

@@ -17,7 +17,11 @@ use Rattle.geo_delta.specs.declared.parcel.Parcel.{Parcel}
 use Rattle.geo_world.specs.Agreement.{Stands, Agrees, nothing_about}
 use Rattle.geo_world.specs.Bounds.{Bounded, vectors, rows, IsAbove}
 use Rattle.geo_world.proofs.Bounding.{at_cases, at_place, bounded_nothing, none_row}
-use Rattle.geo_world.proofs.Worlds.{some_none, get_appended}
+use Rattle.geo_world.proofs.Worlds.{some_none, some_same, get_appended}
+use Rattle.std.proofs.Common.{◌<◌, Ok, get_or}
+use Rattle.std.proofs.lemmas.Option.{slice_get-get_or}
+use Rattle.geo_site.specs.Sites.{OpenDoes}
+use Rattle.geo_world.specs.Doing.{EachOpens}
 
 -- a site that knows nothing, and heard nothing
 pub record Silent (n number : ℕ) (site : Site) (limits : Limits) : Type 0 where
@@ -126,3 +130,15 @@ right false b h = absurd (true≢false (sym h))
 
 pub at_most_16 : (setups : List Setup) → are_setups setups ≡ true → length setups ≤ 16
 at_most_16 setups h = le_from (length setups) 16 (right (nat_le 1 (length setups)) (nat_le (length setups) 16) (left (nat_le 1 (length setups) && nat_le (length setups) 16) (are_numbered (length setups) 1 setups) h))
+
+-- one site more was opened
+pub opens_none : (setups : List Setup) (sites : List Site) → sites ≡ [] → EachOpens setups sites
+opens_none setups sites none k setup site at_setup at_site = absurd (some_none (sym at_site ∙ ap (λ (l : List Site). slice_get l k) none))
+
+pub opens_more : (setups : List Setup) (sites : List Site) (i : ℕ) (d : Setup) (x : Site) → length sites ≡ i → i < length setups → OpenDoes (get_or setups i d) (Ok x) → EachOpens setups sites → EachOpens setups (sites ++ x ∷ [])
+opens_more setups sites i d x len lt new each k setup site at_setup at_site = elim (get_appended sites x k site at_site) [
+  | inl old ↦ each k setup site at_setup old
+  | inr p ↦
+      let e : get_or setups i d ≡ setup = some_same (sym (slice_get-get_or setups i d lt) ∙ ap (slice_get setups) (sym (p.0 ∙ len)) ∙ at_setup) in
+      subst₂ (λ (s : Setup) (y : Site). OpenDoes s (Ok y)) e (sym p.1) new
+]

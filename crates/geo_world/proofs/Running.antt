@@ -8,21 +8,14 @@ use Rattle.geo_site.specs.declared.event.Event.{Event}
 use Rattle.geo_site.specs.declared.event.Trace.{Trace}
 use Rattle.geo_site.specs.Schedule.{Known, happens, known, Lawful, EachLawful}
 use Rattle.geo_site.proofs.Served.{lawful_more, known_more}
-use Rattle.geo_world.specs.There.{is_there, all_there, is_in_time, all_in_time, EachThere, IsMissing}
+use Rattle.geo_world.specs.There.{is_there, is_in_time, all_in_time, EachThere}
 use Rattle.geo_records.specs.Operations.{Operation, State, version_in, SameOperations}
 use Rattle.geo_versions.proofs.Meaning.{state_same}
 use Rattle.geo_site.specs.Sites.{state_in}
 use Rattle.geo_site.proofs.Steps.{state_version}
-use Rattle.std.specs.Prelude.{Err}
-use Rattle.std.proofs.lemmas.Option.{slice_get-get_or}
-use Rattle.geo_site.specs.declared.setup.Setup.{Setup}
-use Rattle.geo_world.specs.declared.outcome.WorldError.{WorldError}
-use Rattle.geo_world.specs.declared.outcome.WorldError.TheVariants.{Setups, BadEvent, Memory}
-use Rattle.geo_world.specs.declared.world.World.{World}
-use Rattle.geo_world.specs.Setups.{are_setups, start}
 use Rattle.geo_world.specs.Tables.{Tables, kept_after, kept, Keep, Tallies, EachTallies, Tabled}
 use Rattle.geo_world.specs.Running.{HasAllRun}
-use Rattle.geo_world.specs.Agreement.{SiteKnown, StepDoes, RunRefuses, Stands, Agrees, ShowsVersions, SameVersions}
+use Rattle.geo_world.specs.Agreement.{SiteKnown, Stands, Agrees, ShowsVersions, SameVersions}
 
 there_more : (n : ℕ) (w : Known) (es : List Event) (ts : List Trace) (e : Event) (t : Trace) → EachLawful w es ts → EachThere n w es ts → is_there n (length (known w es ts).sent) e ≡ true → EachThere n w (es ++ e ∷ []) (ts ++ t ∷ [])
 there_more n w [] [] e t h l p = (p, tt)
@@ -118,24 +111,3 @@ same_versions one other ks ls a b same =
       floor = a.floor ∙ ap (λ (s : State). s.0) e ∙ sym b.floor;
       versions = λ key. a.versions key ∙ ap (λ (s : State). version_in (s.1 key)) e ∙ sym (b.versions key);
     }
-
--- an event that is not there, or want of memory, ends the run
-pub step_refused : (old new : World) (none : Tables) (setups : List Setup) (events : List Event) (traces : List Trace) (index : ℕ) (event : Event) (why : WorldError) → are_setups setups ≡ true → all_there (length setups) 0 events ≡ true → length old.sites.items ≡ length setups → HasRun (start setups) none old.sites.items old.parcels.items events traces index → index < length events → event ≡ get_or events index event
-    → StepDoes old new event index (Err why) → RunRefuses setups events why
-step_refused old new none setups events traces index event Setups good named many run lt at does = absurd does
-step_refused old new none setups events traces index event (BadEvent i) good named many run lt at does = (
-  good,
-  inr (
-    named,
-    subst (IsMissing (length setups) (start setups) events) (sym does.0) (record {
-      traces = traces;
-      many = run.told;
-      lawful = run.lawful;
-      there = subst (λ n. EachThere n (start setups) (take index events) traces) many run.there;
-      event = event;
-      at = slice_get-get_or events index event lt ∙ ap Some (sym at);
-      missing = (λ j. is_there (sym many j) (run.agrees.as_many j) event) ∙ does.1;
-    }),
-  ),
-)
-step_refused old new none setups events traces index event Memory good named many run lt at does = (good, named)

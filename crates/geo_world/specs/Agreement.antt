@@ -1,5 +1,5 @@
 -- Sites and parcels of the code are what is known of them.
-use Rattle.std.specs.Prelude.{Result, Ok, Err, ◌≡◌, ◌≢◌, ◌⊎◌, ℕ, ◌+◌, ◌≤◌, true, false, List, [], length, Option, Some, None, slice_get, slice_index_or}
+use Rattle.std.specs.Prelude.{Result, Ok, Err, ◌≡◌, ◌≢◌, ℕ, ◌+◌, ◌≤◌, Bool, true, false, List, [], length, Option, Some, None, slice_get, slice_index_or}
 use Rattle.geo_stamp.specs.Acks.{row_of, with_own}
 use Rattle.geo_stamp.specs.Vectors.{entry_of}
 use Rattle.geo_stamp.specs.Stamps.{last_time}
@@ -8,20 +8,19 @@ use Rattle.geo_delta.specs.declared.parcel.Parcel.{Parcel}
 use Rattle.geo_site.specs.declared.site.Site.{Site}
 use Rattle.geo_site.specs.Entries.{Held, Counts, none_counted}
 use Rattle.geo_site.specs.Machine.{knows_floor}
-use Rattle.geo_site.specs.Sites.{state_in, counts_in, waiting_in, limits_of, heard_in, horizon_in, RemoveDoes, delta_of, knows_all}
+use Rattle.geo_site.specs.Sites.{state_in, counts_in, waiting_in, limits_of, heard_in, delta_of, knows_all}
 use Rattle.geo_site.specs.Schedule.{Known, StableAt, happens, Lawful}
 use Rattle.geo_site.specs.declared.setup.Setup.{Setup}
 use Rattle.geo_site.specs.declared.setup.Limits.{Limits}
 use Rattle.geo_site.specs.declared.event.Event.{Event}
 use Rattle.geo_site.specs.declared.event.Event.TheVariants.{Command, Evict, Send, Take, Remove, Tick, Reap}
 use Rattle.geo_site.specs.declared.event.Trace.{Trace}
-use Rattle.geo_site.specs.declared.event.Trace.TheVariants.{Removed}
 use Rattle.geo_site.specs.Agreement.{StateOf, DeltaOf}
 use Rattle.geo_world.specs.declared.outcome.WorldError.{WorldError}
 use Rattle.geo_world.specs.declared.outcome.WorldError.TheVariants.{Setups, BadEvent, Memory}
 use Rattle.geo_world.specs.declared.world.World.{World}
 use Rattle.geo_world.specs.Setups.{are_setups, start}
-use Rattle.geo_world.specs.There.{is_there, all_there, CannotCome, IsMissing}
+use Rattle.geo_world.specs.There.{is_there, all_there, CannotCome}
 use Rattle.geo_world.specs.Bounds.{Bounded, vectors, rows}
 
 -- what is known of one site
@@ -105,49 +104,34 @@ abbrev pub LeadsOn : World → World → Event → Trace → Type 0
 LeadsOn old new event trace =
     (w : Known) → Agrees old.sites.items old.parcels.items w → Agrees new.sites.items new.parcels.items (happens w event trace)
 
--- what a step does, by its result: it is lawful and keeps the agreement, or its event is not there
+-- two worlds have the same sites and parcels
+abbrev pub SameWorld : World → World → Type 0
+SameWorld old new = (new.sites.items ≡ old.sites.items) × (new.parcels.items ≡ old.parcels.items)
+
+-- a world asks for memory of its own for a parcel that is sent, and for the copy of one that is taken
+abbrev pub moves_parcel : Event → Bool
+moves_parcel (Command site now request) = false
+moves_parcel (Evict site key) = false
+moves_parcel (Send site to) = true
+moves_parcel (Take site parcel) = true
+moves_parcel (Remove site) = false
+moves_parcel (Tick site now) = false
+moves_parcel (Reap site now key) = false
+
+-- what a step does, by its result: it is lawful and keeps the agreement; or its event is not there, or memory was wanted for a parcel,
+-- and the world is as it was
 abbrev pub StepDoes : World → World → Event → ℕ → Result Trace WorldError → Type 0
 StepDoes old new event index (Ok trace) = (is_there (length old.sites.items) (length old.parcels.items) event ≡ true)
     × ((w : Known) → Agrees old.sites.items old.parcels.items w → Lawful w event trace
     × Agrees new.sites.items new.parcels.items (happens w event trace))
 StepDoes old new event index (Err Setups) = ⊥
 StepDoes old new event index (Err (BadEvent at)) = (at ≡ index)
-    × (is_there (length old.sites.items) (length old.parcels.items) event ≡ false)
-StepDoes old new event index (Err Memory) = is_there (length old.sites.items) (length old.parcels.items) event ≡ true
+    × (is_there (length old.sites.items) (length old.parcels.items) event ≡ false) × SameWorld old new
+StepDoes old new event index (Err Memory) = (is_there (length old.sites.items) (length old.parcels.items) event ≡ true)
+    × (moves_parcel event ≡ true) × SameWorld old new
 
--- the site of an event
-abbrev pub site_of : Event → ℕ
-site_of (Command site now request) = site
-site_of (Evict site key) = site
-site_of (Send site to) = site
-site_of (Take site parcel) = site
-site_of (Remove site) = site
-site_of (Tick site now) = site
-site_of (Reap site now key) = site
-
--- the site of this number drops by its own horizon what is left of deleted keys, and tells of both
-pub record RemovesAt (number : ℕ) (old new : List Site) (horizon count : ℕ) : Type 0 where
-  pub before : Site
-  pub after : Site
-  pub was : (k : ℕ) → number ≡ k + 1 → slice_get old k ≡ Some before
-  pub is : (k : ℕ) → number ≡ k + 1 → slice_get new k ≡ Some after
-  pub by : horizon ≡ horizon_in before
-  pub does : RemoveDoes before after count
-
-abbrev pub Removes : List Site → List Site → Event → Trace → Type 0
-Removes old new (Remove site) (Removed horizon count) = RemovesAt site old new horizon count
-Removes old new event trace = Unit {0}
-
--- an event changes no other site than its own, and a removal is made there
-pub record DoesAlone (old new : List Site) (event : Event) (trace : Trace) : Type 0 where
-  pub others : (k : ℕ) → site_of event ≢ k + 1 → slice_get new k ≡ slice_get old k
-  pub removes : Removes old new event trace
-
--- why a run has no outcome: an event cannot be there, or is not there since a send before it wanted memory; or memory was wanted where
--- each event can be there
+-- why a run has no outcome: an event cannot be there, whatever comes of those before it; or memory was wanted where each event can be
 abbrev pub RunRefuses : List Setup → List Event → WorldError → Type 0
 RunRefuses setups events Setups = are_setups setups ≡ false
-RunRefuses setups events (BadEvent index) = (are_setups setups ≡ true)
-    × (CannotCome (length setups) events index
-    ⊎ ((all_there (length setups) 0 events ≡ true) × IsMissing (length setups) (start setups) events index))
+RunRefuses setups events (BadEvent index) = (are_setups setups ≡ true) × CannotCome (length setups) events index
 RunRefuses setups events Memory = (are_setups setups ≡ true) × (all_there (length setups) 0 events ≡ true)

@@ -4,7 +4,7 @@ use Rattle.std.specs.List.{list_all}
 use Rattle.geo_site.specs.declared.event.Event.{Event}
 use Rattle.geo_site.specs.declared.event.Event.TheVariants.{Command, Evict, Send, Take, Remove, Tick, Reap}
 use Rattle.geo_site.specs.declared.event.Trace.{Trace}
-use Rattle.geo_site.specs.Schedule.{Known, happens, known, EachLawful}
+use Rattle.geo_site.specs.Schedule.{Known, happens}
 
 -- one of the sites
 abbrev pub is_site : ℕ → ℕ → Bool
@@ -70,13 +70,3 @@ EachThere sites w [] traces = Unit {0}
 EachThere sites w (event ∷ events) [] = Unit {0}
 EachThere sites w (event ∷ events) (trace ∷ traces) = (is_there sites (length w.sent) event ≡ true)
     × EachThere sites (happens w event trace) events traces
-
--- the event at the index is not there when it comes, after lawful traces of those before it
-pub record IsMissing (sites : ℕ) (first : Known) (events : List Event) (index : ℕ) : Type 0 where
-  pub traces : List Trace
-  pub many : length traces ≡ index
-  pub lawful : EachLawful first (take index events) traces
-  pub there : EachThere sites first (take index events) traces
-  pub event : Event
-  pub at : slice_get events index ≡ Some event
-  pub missing : is_there sites (length (known first (take index events) traces).sent) event ≡ false

@@ -2,6 +2,7 @@
 ghost use Rattle.std.specs.Prelude.{◌≡◌, length, IfOk};
 ghost use Rattle.geo_world.specs.Setups.{are_setups, is_setup};
 ghost use Rattle.geo_world.specs.Agreement.{WorldOpens};
+ghost use Rattle.geo_world.specs.Doing.{EachOpens};
 ghost use Rattle.geo_world.specs.Tables.{empty_tables, Keep};
 
 use crate::outcome::WorldError;
@@ -40,9 +41,10 @@ pub fn are_good(setups: &[Setup]) -> bool
 }
 
 impl World {
-    /// Sites that know nothing, and no parcel.
+    /// Sites that know nothing, each with the pages of its setup, and no parcel.
     pub fn open(alloc: Global, setups: Vec<Setup>) -> Result<World, WorldError>
         ensures opens { WorldOpens setups.items result }
+        ensures each { IfOk result (λ world. EachOpens setups.items world.sites.items) }
         ensures empty { IfOk result (λ world. Keep world.sites.items world.parcels.items (empty_tables (length setups.items))) }
     {
         if !are_good(&setups) {

@@ -8,6 +8,7 @@ ghost use Rattle.geo_world.specs.Setups.{are_setups, start};
 ghost use Rattle.geo_world.specs.There.{is_in_time, all_in_time, EachThere};
 ghost use Rattle.geo_world.specs.Tables.{empty_tables, kept, Keep, EachTallies};
 ghost use Rattle.geo_world.specs.Agreement.{Agrees, ShowsVersions, SameVersions, RunRefuses};
+ghost use Rattle.geo_world.specs.Doing.{RunsAlone, HavePages};
 
 use crate::open::are_good;
 use crate::outcome::{Outcome, WorldError};
@@ -51,8 +52,11 @@ pub fn are_in_time(events: &[Event]) -> bool
 /// that it knows, whatever was evicted, so that sites which know the same operations hold equal versions. Bytes in a reply are what
 /// the operation wrote whose stamp the version has, unless two values that were written have one SHA-256.
 ///
+/// Each event does at its site what that site's own call says, and changes no other: bytes go by themselves only where their slab
+/// class is full, and each site keeps the pages that its setup tells.
+///
 /// An event that names a site or a parcel that cannot be there is told before anything is done, so that want of memory never takes
-/// its place. A parcel may also be missing because its send wanted memory.
+/// its place. Where a parcel is missing because its send wanted memory, the run wanted it.
 pub fn run_schedule(
     alloc: Global,
     setups: Vec<Setup>,
@@ -75,6 +79,8 @@ pub fn run_schedule(
         ((known (start setups.items) events.now o.traces.items).at (k + 1)) → SameVersions one other) }
     ensures served { IfOk result (λ o. NoCollision (known (start setups.items) events.now o.traces.items)
         → AllServe (start setups.items) events.now o.traces.items) }
+    ensures alone { IfOk result (λ o. RunsAlone setups.items events.now o.traces.items o.sites.items) }
+    ensures pages { IfOk result (λ o. HavePages setups.items o.sites.items) }
     ensures refused { IfErr result (RunRefuses setups.items events.now) }
 {
     if !are_good(&setups) {
@@ -86,7 +92,10 @@ pub fn run_schedule(
     let mut world = World::open(alloc, setups)?;
     let mut traces = Vec::new(alloc);
     for (index, event) in events.iter().enumerate() {
-        let trace = world.step(alloc, event, index)?;
+        // Each event can be there: one that is not lacks a parcel whose send wanted memory.
+        let Ok(trace) = world.step(alloc, event, index) else {
+            return Err(WorldError::Memory);
+        };
         if traces.push(trace).is_err() {
             return Err(WorldError::Memory);
         }

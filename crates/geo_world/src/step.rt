@@ -1,7 +1,8 @@
 //! One event.
-ghost use Rattle.std.specs.Prelude.{◌≡◌, ℕ, ◌≤◌, ◌<◌, ◌^◌, true, length, IfOk};
+ghost use Rattle.std.specs.Prelude.{◌≡◌, ℕ, ◌≤◌, ◌<◌, ◌^◌, true, length, IfOk, IfErr};
 ghost use Rattle.geo_world.specs.There.{is_site, is_there, is_in_time};
-ghost use Rattle.geo_world.specs.Agreement.{DoesAlone, HasLawfulTrace, LeadsOn, StepDoes};
+ghost use Rattle.geo_world.specs.Agreement.{HasLawfulTrace, LeadsOn, SameWorld, StepDoes};
+ghost use Rattle.geo_world.specs.Doing.{DoesAlone};
 ghost use Rattle.geo_world.specs.Tables.{TabledIn};
 
 use crate::outcome::WorldError;
@@ -97,6 +98,7 @@ impl World {
         ensures kept { IfOk result (λ trace. LeadsOn self.old self.new (Event.Send site to) trace) }
         ensures alone { IfOk result (λ trace. DoesAlone self.old.sites.items self.new.sites.items (Event.Send site to) trace) }
         ensures tables { IfOk result (λ trace. TabledIn self.old self.new (Event.Send site to) trace) }
+        ensures unchanged { IfErr result (λ _. SameWorld self.old self.new) }
         ensures as_many { length self.new.sites.items ≡ length self.old.sites.items }
     {
         let at = &self.sites[site as usize - 1];
@@ -117,6 +119,7 @@ impl World {
         ensures kept { IfOk result (λ trace. LeadsOn self.old self.new (Event.Take site parcel) trace) }
         ensures alone { IfOk result (λ trace. DoesAlone self.old.sites.items self.new.sites.items (Event.Take site parcel) trace) }
         ensures tables { IfOk result (λ trace. TabledIn self.old self.new (Event.Take site parcel) trace) }
+        ensures unchanged { IfErr result (λ _. SameWorld self.old self.new) }
         ensures as_many { length self.new.sites.items ≡ length self.old.sites.items }
     {
         let sent = &self.parcels[parcel];
@@ -130,7 +133,8 @@ impl World {
 }
 
 impl World {
-    /// Does the event with this index, unless it names a site or a parcel that is not there.
+    /// Does the event with this index, unless it names a site or a parcel that is not there. Memory is wanted here for a parcel that is
+    /// sent, and for the copy of one that is taken, alone: what a command wants is answered in its reply.
     pub fn step(&mut self, alloc: Global, event: &Event, index: usize) -> Result<Trace, WorldError>
         requires moment { is_in_time event.now ≡ true }
         ensures does { StepDoes self.old self.new event.now index result }

@@ -1,12 +1,13 @@
-use Rattle.std.proofs.Common.{◌≡◌, ◌+◌, cond, not, [], ◌∷◌, ◌++◌, length, refl, sym, ap, ◌∙◌, subst, arith}
-use Rattle.std.proofs.lemmas.Result.{err_from_is_err_and}
+use Rattle.std.proofs.Common.{◌≡◌, ◌+◌, take, cond, not, [], ◌∷◌, ◌++◌, length, refl, sym, ap, ◌∙◌, subst, arith}
 use Rattle.geo_site.proofs.Served.{all_serve}
 use Rattle.geo_site.proofs.Sound.{sound_nothing}
 use Rattle.geo_world.specs.Setups.{limits_of, start}
 use Rattle.geo_world.specs.Tables.{empty_tables}
 use Rattle.geo_world.specs.There.{all_there}
-use Rattle.geo_world.specs.Agreement.{RunRefuses}
-use Rattle.geo_world.proofs.Running.{HasRun, run_more, in_time_at, first_run, all_run, shows, same_versions, step_refused}
+use Rattle.geo_world.specs.Doing.{RunsAlone}
+use Rattle.geo_world.proofs.Alone.{alone_first, alone_more, all_alone}
+use Rattle.geo_world.proofs.Paging.{run_pages}
+use Rattle.geo_world.proofs.Running.{HasRun, run_more, in_time_at, first_run, all_run, shows, same_versions}
 use Rattle.geo_world.proofs.run.run_schedule.Goals as goal
 
 pub loop-index-init : goal.loop-index-init
@@ -14,6 +15,7 @@ loop-index-init c =
     let e = c.in_ok-world.ensures in
     record {
       run = subst (λ ts. HasRun (start c.args.setups.items) (empty_tables (length c.args.setups.items)) c.in_ok-world.world.sites.items c.in_ok-world.world.parcels.items c.args.events.now ts 0) (sym c.new-traces.ensures.items) (first_run (start c.args.setups.items) (empty_tables (length c.args.setups.items)) c.in_ok-world.world.sites.items c.in_ok-world.world.parcels.items c.args.events.now e.opens.2 e.empty);
+      alone = subst (λ ts. RunsAlone c.args.setups.items [] ts c.in_ok-world.world.sites.items) (sym c.new-traces.ensures.items) (alone_first c.args.setups.items c.in_ok-world.world.sites.items e.opens.1 e.each);
       many = e.opens.1;
       good = e.opens.0;
       named = ap (λ n. all_there n 0 c.args.events.now) (ap length (sym c.deref.ensures.value) ∙ c.deref.ensures.len ∙ sym c.len.ensures) ∙ c.in_default.ensures;
@@ -25,24 +27,26 @@ step-requires c = record { moment = in_time_at c.args.events.now c.loop-index.in
 pub loop-index-preserved : goal.loop-index-preserved
 loop-index-preserved c =
     let inv = c.loop-index.invariant in
-    let e = c.in_ok-trace.ensures in
-    let items : c.push.new.self.items ≡ c.loop-index.traces.items ++ c.in_ok-trace.trace ∷ [] = c.push.ensures.items ∙ ap (λ b. cond b (c.loop-index.traces.items ++ c.in_ok-trace.trace ∷ []) c.loop-index.traces.items) (c.is_err.ensures.negation ∙ ap not c.if-is_err.false) in
+    let e = c.in-Ok.ensures in
+    let items : c.push.new.self.items ≡ c.loop-index.traces.items ++ c.in-Ok.trace ∷ [] = c.push.ensures.items ∙ ap (λ b. cond b (c.loop-index.traces.items ++ c.in-Ok.trace ∷ []) c.loop-index.traces.items) (c.is_err.ensures.negation ∙ ap not c.if-is_err.false) in
     record {
       run = subst (λ ts. HasRun (start c.args.setups.items) (empty_tables (length c.args.setups.items)) c.step.new.self.sites.items c.step.new.self.parcels.items c.args.events.now ts (c.loop-index.index + 1)) (sym items)
-          (run_more (start c.args.setups.items) (empty_tables (length c.args.setups.items)) c.loop-index.world.sites.items c.step.new.self.sites.items c.loop-index.world.parcels.items c.step.new.self.parcels.items c.args.events.now c.loop-index.traces.items c.loop-index.index c.index-events-index.result c.in_ok-trace.trace
+          (run_more (start c.args.setups.items) (empty_tables (length c.args.setups.items)) c.loop-index.world.sites.items c.step.new.self.sites.items c.loop-index.world.parcels.items c.step.new.self.parcels.items c.args.events.now c.loop-index.traces.items c.loop-index.index c.index-events-index.result c.in-Ok.trace
           inv.run c.loop-index-test.true c.index-events-index.is e.as_many e.does.0 e.does.1 e.tables);
+      alone = subst (λ ts. RunsAlone c.args.setups.items (take (c.loop-index.index + 1) c.args.events.now) ts c.step.new.self.sites.items) (sym items)
+          (alone_more c.args.setups.items c.loop-index.world.sites.items c.step.new.self.sites.items c.args.events.now c.loop-index.traces.items c.loop-index.index c.index-events-index.result c.in-Ok.trace inv.alone c.loop-index-test.true c.index-events-index.is e.alone);
       many = e.as_many ∙ inv.many;
       good = inv.good;
       named = inv.named;
     }
 
-pub returns-in_err-trace-clause-refused : goal.returns-in_err-trace-clause-refused
-returns-in_err-trace-clause-refused c =
-    let inv = c.loop-index.invariant in
-    let p = err_from_is_err_and c.from_residual-in_err-trace.result c.from_residual-in_err-trace.ensures.1 in
-    let lt = c.loop-index-test.true in
-    let r = (step_refused c.loop-index.world c.step.new.self (empty_tables (length c.args.setups.items)) c.args.setups.items c.args.events.now c.loop-index.traces.items c.loop-index.index c.index-events-index.result c.in_err-trace.field-0.0 inv.good inv.named inv.many inv.run lt c.index-events-index.is c.in_err-trace.ensures.does) in
-    rw p.1 (subst (RunRefuses c.args.setups.items c.args.events.now) (sym p.2) r)
+pub returns-clause-alone : goal.returns-clause-alone
+returns-clause-alone c = all_alone c.args.setups.items c.loop-index.world.sites.items c.args.events.now c.loop-index.traces.items c.loop-index.index (omega arith) c.loop-index.invariant.alone
+
+pub returns-clause-pages : goal.returns-clause-pages
+returns-clause-pages c =
+    let run = all_alone c.args.setups.items c.loop-index.world.sites.items c.args.events.now c.loop-index.traces.items c.loop-index.index (omega arith) c.loop-index.invariant.alone in
+    run_pages c.args.setups.items run.first c.args.events.now c.loop-index.traces.items c.loop-index.world.sites.items run.opened run.each
 
 pub returns-clause-agrees : goal.returns-clause-agrees
 returns-clause-agrees c = (all_run (start c.args.setups.items) (empty_tables (length c.args.setups.items)) c.loop-index.world.sites.items c.loop-index.world.parcels.items c.args.events.now c.loop-index.traces.items c.loop-index.index (omega arith) (omega arith) c.loop-index.invariant.run).agrees

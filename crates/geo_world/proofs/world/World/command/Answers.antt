@@ -1,6 +1,6 @@
 use Rattle.std.proofs.Common.{◌-◌, None, length, refl, arith}
 use Rattle.geo_grammar.specs.declared.reply.Reply.TheVariants.{OutOfMemory}
-use Rattle.geo_world.proofs.Alone.{does_alone}
+use Rattle.geo_world.proofs.Alone.{does_alone, commands}
 use Rattle.geo_world.proofs.Worlds.{there_is, read_is}
 use Rattle.geo_world.proofs.Answering.{command_lawful, command_agrees}
 use Rattle.geo_world.proofs.Keeping.{keep_command, owes_command}
@@ -45,10 +45,22 @@ returns-in-Err-clause-kept c = λ w agrees.
     command_agrees _ _ w agrees (c.args.site - 1) c.args.site c.args.now (omega arith) hi c.index_mut-at.result.now c.act_full.new.self got c.args.request.now OutOfMemory None c.in-Err.ensures.does refl
 
 pub returns-in-Ok-clause-alone : goal.returns-in-Ok-clause-alone
-returns-in-Ok-clause-alone c = does_alone c.args.self.now.sites.items c.args.site c.act_full.new.self (there_is (length c.args.self.now.sites.items) c.args.site c.requires.there).first _ _ refl tt
+returns-in-Ok-clause-alone c =
+    let n = length c.args.self.now.sites.items in
+    let there = there_is n c.args.site c.requires.there in
+    let lo = there.first in
+    let hi = there.last in
+    let got = read_is c.args.self.now.sites.items (c.args.site - 1) c.index_mut-at.result.now (omega arith) c.index_mut-at.ensures.value in
+    does_alone c.args.self.now.sites.items c.args.site c.index_mut-at.result.now lo got _ _ refl c.act_full.new.self (commands _ _ c.args.now c.args.request.now c.in-Ok.acted.reply c.in-Ok.acted.victim c.in-Ok.ensures.does.does c.in-Ok.ensures.does.told.victim)
 
 pub returns-in-Err-clause-alone : goal.returns-in-Err-clause-alone
-returns-in-Err-clause-alone c = does_alone c.args.self.now.sites.items c.args.site c.act_full.new.self (there_is (length c.args.self.now.sites.items) c.args.site c.requires.there).first _ _ refl tt
+returns-in-Err-clause-alone c =
+    let n = length c.args.self.now.sites.items in
+    let there = there_is n c.args.site c.requires.there in
+    let lo = there.first in
+    let hi = there.last in
+    let got = read_is c.args.self.now.sites.items (c.args.site - 1) c.index_mut-at.result.now (omega arith) c.index_mut-at.ensures.value in
+    does_alone c.args.self.now.sites.items c.args.site c.index_mut-at.result.now lo got _ _ refl c.act_full.new.self (commands _ _ c.args.now c.args.request.now OutOfMemory None c.in-Err.ensures.does refl)
 
 pub returns-in-Ok-clause-tables : goal.returns-in-Ok-clause-tables
 returns-in-Ok-clause-tables c = λ w all agrees keep.

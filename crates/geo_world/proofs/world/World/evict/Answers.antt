@@ -24,7 +24,13 @@ returns-clause-kept c = λ w agrees.
     evict_agrees _ _ w agrees (c.args.site - 1) c.args.site (omega arith) hi c.index_mut-at.result.now c.evict.new.self got c.args.key.now c.evict.result c.evict.ensures
 
 pub returns-clause-alone : goal.returns-clause-alone
-returns-clause-alone c = does_alone c.args.self.now.sites.items c.args.site c.evict.new.self (there_is (length c.args.self.now.sites.items) c.args.site c.requires.there).first _ _ refl tt
+returns-clause-alone c =
+    let n = length c.args.self.now.sites.items in
+    let there = there_is n c.args.site c.requires.there in
+    let lo = there.first in
+    let hi = there.last in
+    let got = read_is c.args.self.now.sites.items (c.args.site - 1) c.index_mut-at.result.now (omega arith) c.index_mut-at.ensures.value in
+    does_alone c.args.self.now.sites.items c.args.site c.index_mut-at.result.now lo got _ _ refl c.evict.new.self c.evict.ensures
 
 pub returns-clause-tables : goal.returns-clause-tables
 returns-clause-tables c = λ w all agrees keep.

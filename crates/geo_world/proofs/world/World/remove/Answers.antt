@@ -1,5 +1,5 @@
 use Rattle.std.proofs.Common.{◌+◌, ◌-◌, ap, length, arith, refl, sym, ◌∙◌}
-use Rattle.geo_world.proofs.Alone.{does_alone, removes_at}
+use Rattle.geo_world.proofs.Alone.{does_alone}
 use Rattle.geo_world.proofs.Worlds.{there_is, read_is}
 use Rattle.geo_world.proofs.Answering.{remove_lawful, remove_agrees}
 use Rattle.geo_world.proofs.Keeping.{keep_removed, horizon_kept, drops_kept}
@@ -30,7 +30,7 @@ returns-clause-alone c =
     let lo = there.first in
     let hi = there.last in
     let got = read_is c.args.self.now.sites.items (c.args.site - 1) c.index_mut-at.result.now (omega arith) c.index_mut-at.ensures.value in
-    does_alone c.args.self.now.sites.items c.args.site c.remove-count.new.self lo _ _ refl (removes_at c.args.self.now.sites.items c.args.site c.remove-count.new.self lo c.index_mut-at.result.now c.horizon-horizon.result c.remove-count.result got c.horizon-horizon.ensures c.remove-count.ensures)
+    does_alone c.args.self.now.sites.items c.args.site c.index_mut-at.result.now lo got _ _ refl c.remove-count.new.self (c.horizon-horizon.ensures, c.remove-count.ensures)
 
 pub returns-clause-tables : goal.returns-clause-tables
 returns-clause-tables c = λ w all agrees keep.

@@ -1,8 +1,9 @@
-use Rattle.std.proofs.Common.{◌-◌, List, [], ◌∷◌, ◌++◌, length, arith, sym, ◌∙◌, subst}
+use Rattle.std.proofs.Common.{◌-◌, List, [], ◌∷◌, ◌++◌, length, arith, refl, sym, ◌∙◌, subst}
 use Rattle.geo_delta.specs.declared.parcel.Parcel.{Parcel}
 use Rattle.geo_world.specs.Agreement.{Agrees, about}
 use Rattle.geo_world.specs.Tables.{brought_at, Keep}
 use Rattle.geo_world.proofs.Worlds.{there_is, read_is}
+use Rattle.geo_world.proofs.Alone.{stays_alone}
 use Rattle.geo_world.proofs.Changing.{reached_stable}
 use Rattle.geo_world.proofs.Exchanging.{carries_sent, agrees_sent, send_refused}
 use Rattle.geo_world.proofs.Keeping.{keep_sent}
@@ -55,3 +56,21 @@ returns-in_ok-push-in-Ok-clause-tables c = λ w all agrees keep.
       subst (λ (ps : List Parcel). Keep c.args.self.now.sites.items ps (record { at = all.at; sent = all.sent ++ brought_at c.args.site c.args.to (all.at c.args.site) ∷ [] })) (sym c.in_ok-push-in-Ok.ensures.items)
           (keep_sent _ _ all (c.args.site - 1) c.args.site c.args.to c.index-at.result.now c.in-Ok.parcel keep (omega arith) got own c.in-Ok.ensures.1),
     )
+
+pub returns-in_ok-push-in-Ok-clause-alone : goal.returns-in_ok-push-in-Ok-clause-alone
+returns-in_ok-push-in-Ok-clause-alone c =
+    let n = length c.args.self.now.sites.items in
+    let there = there_is n c.args.site c.requires.there in
+    let lo = there.first in
+    let hi = there.last in
+    let got = read_is c.args.self.now.sites.items (c.args.site - 1) c.index-at.result.now (omega arith) c.index-at.ensures in
+    stays_alone c.args.self.now.sites.items c.args.site c.index-at.result.now lo got _ _ refl refl
+
+pub returns-in-Err-clause-alone : goal.returns-in-Err-clause-alone
+returns-in-Err-clause-alone c =
+    let n = length c.args.self.now.sites.items in
+    let there = there_is n c.args.site c.requires.there in
+    let lo = there.first in
+    let hi = there.last in
+    let got = read_is c.args.self.now.sites.items (c.args.site - 1) c.index-at.result.now (omega arith) c.index-at.ensures in
+    stays_alone c.args.self.now.sites.items c.args.site c.index-at.result.now lo got _ _ refl refl

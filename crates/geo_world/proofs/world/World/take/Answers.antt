@@ -46,10 +46,22 @@ returns-in-Err-clause-kept c = λ w agrees.
     refused_agrees _ _ w agrees (c.args.site - 1) c.args.site c.args.parcel (omega arith) hi c.index_mut-at.result.now c.take.new.self got c.in_ok-copy.copy parcel c.in-Err.ensures.rests c.in-Err.ensures.remains c.in-Err.refused.why c.in-Err.ensures.does.2 c.in-Err.ensures.does.3
 
 pub returns-in-Ok-clause-alone : goal.returns-in-Ok-clause-alone
-returns-in-Ok-clause-alone c = does_alone c.args.self.now.sites.items c.args.site c.take.new.self (there_is (length c.args.self.now.sites.items) c.args.site c.requires.there).first _ _ refl tt
+returns-in-Ok-clause-alone c =
+    let n = length c.args.self.now.sites.items in
+    let there = there_is n c.args.site c.requires.there in
+    let lo = there.first in
+    let hi = there.last in
+    let got = read_is c.args.self.now.sites.items (c.args.site - 1) c.index_mut-at.result.now (omega arith) c.index_mut-at.ensures.value in
+    does_alone c.args.self.now.sites.items c.args.site c.index_mut-at.result.now lo got _ _ refl c.take.new.self (record { parcel = _; taken = _; does = c.in-Ok.ensures.does })
 
 pub returns-in-Err-clause-alone : goal.returns-in-Err-clause-alone
-returns-in-Err-clause-alone c = does_alone c.args.self.now.sites.items c.args.site c.take.new.self (there_is (length c.args.self.now.sites.items) c.args.site c.requires.there).first _ _ refl tt
+returns-in-Err-clause-alone c =
+    let n = length c.args.self.now.sites.items in
+    let there = there_is n c.args.site c.requires.there in
+    let lo = there.first in
+    let hi = there.last in
+    let got = read_is c.args.self.now.sites.items (c.args.site - 1) c.index_mut-at.result.now (omega arith) c.index_mut-at.ensures.value in
+    does_alone c.args.self.now.sites.items c.args.site c.index_mut-at.result.now lo got _ _ refl c.take.new.self (record { parcel = _; refused = _; does = c.in-Err.ensures.does })
 
 pub returns-in-Ok-clause-tables : goal.returns-in-Ok-clause-tables
 returns-in-Ok-clause-tables c = λ w all agrees keep.
