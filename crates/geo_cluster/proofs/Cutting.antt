@@ -70,6 +70,7 @@ pub record IsCut (begun text front back : List ℕ) : Type 0 where
   pub ended : ended_in begun text ≡ (begun ++ front) ∷ ended_in [] back
   pub left : left_in begun text ≡ left_in [] back
   pub shorter : length back < length text
+  pub within : length front ≤ length text
 
 pub record IsUncut (begun text : List ℕ) : Type 0 where
   pub ended : ended_in begun text ≡ []
@@ -87,6 +88,7 @@ cut_further begun b bs (Some p) other h = record {
   ended = cond-false _ _ _ other ∙ h.ended ∙ ap (λ (x : List ℕ). x ∷ ended_in [] p.1) (append_assoc begun (b ∷ []) p.0);
   left = cond-false _ _ _ other ∙ h.left;
   shorter = let lt : length p.1 < length bs = h.shorter in omega arith;
+  within = let le : length p.0 ≤ length bs = h.within in omega arith;
 }
 
 -- what a cut at the first line end says of the lines of a text
@@ -97,6 +99,7 @@ cut_says (b ∷ bs) begun = elim (eqb_tells b 10) [
     ended = cond-true _ _ _ e.0 ∙ ap (λ (x : List ℕ). x ∷ ended_in [] bs) (sym (append-nil begun));
     left = cond-true _ _ _ e.0;
     shorter = omega arith;
+    within = omega arith;
   })
   | inr e ↦ subst (λ o. CutSays begun (b ∷ bs) o) (sym (cond-false _ _ _ e.0)) (cut_further begun b bs (split_at 10 bs) e.0 (cut_says bs (begun ++ b ∷ [])))
 ]

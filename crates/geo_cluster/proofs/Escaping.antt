@@ -1,18 +1,39 @@
 -- What is printed is read back, and a text is read byte by byte.
-use Rattle.std.proofs.Common.{◌≡◌, ℕ, ◌+◌, ◌*◌, ◌/◌, ◌%◌, ◌<◌, ◌≢◌, Bool, true, false, cond, ltb, subst, List, [], ◌∷◌, ◌++◌, Option, Some, refl, sym, ap, ◌∙◌, arith, inl, inr}
+use Rattle.std.proofs.Common.{◌≡◌, ℕ, ◌+◌, ◌*◌, ◌/◌, ◌%◌, ◌<◌, ◌≢◌, Bool, true, false, cond, ltb, subst, List, [], ◌∷◌, ◌++◌, Option, Some, None, drop, length, ◌&&◌, append_assoc, refl, sym, ap, ◌∙◌, arith, inl, inr}
+use Rattle.std.proofs.Math.ListN.{get_or}
+use Rattle.std.proofs.lemmas.List.{drop_more}
 use Rattle.std.specs.Option.{option_map}
-use Rattle.std.specs.List.{All}
+use Rattle.std.specs.List.{All, list_all}
+use Rattle.geo_records.specs.Keys.{is_key_byte}
 use Rattle.std.specs.Char.{digit_value}
 use Rattle.std.proofs.lemmas.List.Elements.{All-head, All-tail}
 use Rattle.std.proofs.lemmas.Bool.{cases_eq, cond-true, cond-false, lt-ltb, ne_eqb}
 use Rattle.std.proofs.lemmas.Bool.Decides.{nat_tests}
 use Rattle.geo_cluster.specs.Escapes.{hex_digit, is_printable, escaped_byte, escaped, transition, unescaped_on, unescaped_from, unescaped}
+use Rattle.geo_cluster.specs.declared.script.escape.Spot.{Spot}
 use Rattle.geo_cluster.specs.declared.script.escape.Spot.TheVariants.{Hex, HexDigit}
+use Rattle.geo_cluster.specs.declared.script.escape.Transition.{Transition}
 use Rattle.geo_cluster.specs.declared.script.escape.Transition.TheVariants.{Gives, Leads, Fails}
 
 -- what a text spells, behind bytes that were spelt before it
 abbrev pub behind : List ℕ → Option (List ℕ) → Option (List ℕ)
 behind done more = option_map (λ bytes. done ++ bytes) more
+
+-- one byte more may stand in a key
+pub stands_more : (done : List ℕ) (b : ℕ) → list_all is_key_byte (done ++ b ∷ []) ≡ (list_all is_key_byte done && is_key_byte b)
+stands_more [] b = elim (is_key_byte b) as (λ t. (t && true) ≡ (true && t)) [ true ↦ refl | false ↦ refl ]
+stands_more (d ∷ ds) b = ap (λ t. is_key_byte d && t) (stands_more ds b) ∙ elim (is_key_byte d) as (λ t. (t && (list_all is_key_byte ds && is_key_byte b)) ≡ ((t && list_all is_key_byte ds) && is_key_byte b)) [ true ↦ refl | false ↦ refl ]
+
+-- a byte is given, and the rest is spelled behind it
+pub behind_more : (done : List ℕ) (b : ℕ) (o : Option (List ℕ)) → behind done (option_map (λ bytes. b ∷ bytes) o) ≡ behind (done ++ b ∷ []) o
+behind_more done b None = refl
+behind_more done b (Some bytes) = ap (λ (x : List ℕ). Some x) (sym (append_assoc done (b ∷ []) bytes))
+
+-- the byte at a place leads on, and what stands behind it is spelled from there
+pub spell_on : (text : List ℕ) (i d : ℕ) (spot : Spot) (done : List ℕ) (t : Transition) → i < length text → t ≡ transition spot (get_or text i d) → behind done (unescaped_from spot (drop i text)) ≡ unescaped text
+    → behind done (unescaped_on t (λ s. unescaped_from s (drop (i + 1) text))) ≡ unescaped text
+spell_on text i d spot done t lt is same =
+    ap (λ x. behind done (unescaped_on x (λ s. unescaped_from s (drop (i + 1) text)))) is ∙ ap (λ x. behind done (unescaped_from spot x)) (sym (drop_more text i d lt)) ∙ same
 
 -- a digit that was printed is read as its value
 hex_read : (n : ℕ) → n < 16 → digit_value (hex_digit n) ≡ n

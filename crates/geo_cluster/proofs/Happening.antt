@@ -21,6 +21,7 @@ use Rattle.geo_cluster.specs.declared.script.line.ScriptLine.{ScriptLine}
 use Rattle.geo_cluster.specs.Sayings.{Said}
 use Rattle.geo_cluster.specs.Effects.{can_carry, SaidDoes, Happens}
 use Rattle.geo_cluster.specs.Standing.{Stands, Steps, EventDoes, CarriesOut, LineDoes}
+use Rattle.geo_cluster.specs.Wants.{grows, WantsFor, ComesFor}
 use Rattle.geo_cluster.specs.declared.script.cluster.Cluster.{Cluster}
 
 last_is : (events : List Event) (event : Event) → event ≡ get_or (events ++ event ∷ []) (length events) event
@@ -64,6 +65,14 @@ runs_of p cluster st = record {
 -- an event can come where its sites and its parcel are there
 pub comes_as : (p : Progress) (cluster : Cluster) (event : Event) → Stands p cluster → can_come p event ≡ is_there (length cluster.world.sites.items) (length cluster.world.parcels.items) event
 comes_as p cluster event st = ap (λ n. is_there n (parcels_in p) event) (sym st.sites) ∙ ap (λ k. is_there (length cluster.world.sites.items) k event) st.run.agrees.as_many
+
+-- an event that memory was wanted for can come
+pub comes_for : (old : Cluster) (event : Event) → is_there (length old.world.sites.items) (length old.world.parcels.items) event ≡ true → ComesFor old event
+comes_for old event there p st = comes_as p old event st ∙ there
+
+-- a line that is an event, and for which something grows
+pub wants_event : (old : Cluster) (line : Said) (event : Event) → grows line ≡ true → ((p : Progress) → Stands p old → can_carry p line ≡ can_come p event) → ComesFor old event → WantsFor old line
+wants_event old line event grown can comes = (grown, λ p st. can p st ∙ comes p st)
 
 -- a step of the world is one of the cluster
 pub steps_on : (old new : Cluster) (event : Event) (trace : Trace) → new.moment ≡ old.moment → new.connections ≡ old.connections → length new.world.sites.items ≡ length old.world.sites.items

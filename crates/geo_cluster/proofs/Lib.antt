@@ -4,5 +4,6 @@ pub mod Quitting
 pub mod Setting
 pub mod Happening
 pub mod Feeding
+pub mod Wanting
 pub mod Playing
 pub mod Reading

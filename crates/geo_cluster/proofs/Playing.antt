@@ -1,5 +1,5 @@
 -- Lines that are played one after the other.
-use Rattle.std.proofs.Common.{◌≡◌, ℕ, ◌+◌, Bool, false, true≢false, List, [], ◌∷◌, ◌++◌, length, take, Option, Some, None, refl, sym, ap, subst, ◌∙◌, arith, append_assoc, append-nil, length-append, ◌⊎◌, inl, inr, Result, Ok, Err, IfErr, IfSome, OnOk, IsTrue, zero, suc}
+use Rattle.std.proofs.Common.{◌≡◌, ℕ, ◌<◌, ◌+◌, Bool, false, true≢false, List, [], ◌∷◌, ◌++◌, length, take, Option, Some, None, refl, sym, ap, subst, ◌∙◌, arith, append_assoc, append-nil, length-append, ◌⊎◌, inl, inr, Result, Ok, Err, IfErr, IfSome, OnOk, IsTrue, zero, suc}
 use Rattle.std.specs.Result.{IsErrAnd}
 use Rattle.std.specs.Io.KnownBytes.{Appends}
 use Rattle.std.proofs.KnownBytes.{Appends-nil, Appends-trans}
@@ -46,7 +46,7 @@ cut_behind x a b s t k e = sym (take-append-add x (b ++ t) k) ∙ ap (λ (y : Li
 stop_behind : (fault : ScriptFault) (progress : Progress) (lines : List (List ℕ)) (n m : ℕ) (u v w : Option (List ℕ)) (a b c s t : List ℕ) → n ≡ m
     → Prints u v a b s → StopsFor fault progress lines n v w b c t → StopsFor fault progress lines m u w a c (s ++ t)
 stop_behind (BadLine k) progress lines n m u v w a b c s t e h why = (subst (λ i. IsBadAt k progress lines i) e why.0, Prints-append u v w a b c s t h why.1)
-stop_behind Memory progress lines n m u v w a b c s t e h why = Prints-append u v w a b c s t h why
+stop_behind Memory progress lines n m u v w a b c s t e h why = (why.0, Prints-append u v w a b c s t h why.1)
 stop_behind Read progress lines n m u v w a b c s t e h why = Prints-append u v w a b c s t h why
 stop_behind Write progress lines n m u v w a b c s t e h why = (
   length h.0 + why.0,
@@ -70,7 +70,8 @@ stop_after fault a b es fs u v w waits first then p st = let h = first p st in l
 stop_before : (fault : ScriptFault) (progress : Progress) (lines more : List (List ℕ)) (n : ℕ) (u v : Option (List ℕ)) (a b t : List ℕ) → StopsFor fault progress lines n u v a b t → StopsFor fault progress (lines ++ more) n u v a b t
 stop_before (BadLine k) progress lines more n u v a b t why =
     let at = why.0 in (record { line = at.line; more = at.more ++ more; first = ap (λ (x : List (List ℕ)). x ++ more) at.first; bad = at.bad; counted = at.counted }, why.1)
-stop_before Memory progress lines more n u v a b t why = why
+stop_before Memory progress lines more n u v a b t why =
+    let at = why.0 in (record { line = at.line; more = at.more ++ more; first = ap (λ (x : List (List ℕ)). x ++ more) at.first; wants = at.wants }, why.1)
 stop_before Read progress lines more n u v a b t why = why
 stop_before Write progress lines more n u v a b t why = why
 
@@ -137,26 +138,45 @@ stop_line fault a line w waits ends same p st = stops_at fault p a (line ∷ [])
 
   stop_why : (f : ScriptFault) → EndsAtLine f p line (a.lines + 1) → StopsFor f p (line ∷ []) (a.lines + length {A = List ℕ} [] + 1) w w a.out.items waits []
   stop_why (BadLine n) h = (record { line = line; more = []; first = refl; bad = h.0; counted = h.1 ∙ omega arith }, printed)
-  stop_why Memory h = printed
+  stop_why Memory h = (record { line = line; more = []; first = refl; wants = inr h }, printed)
   stop_why Read h = absurd h
   stop_why Write h = absurd h
 
--- want of memory, or a failed read, before a further line
-pub stop_here : (fault : ScriptFault) (a : Run) (w : Option (List ℕ)) (waits : List ℕ) → (fault ≡ Memory) ⊎ (fault ≡ Read) → waits ≡ a.out.items → Stops fault a [] w w waits
-stop_here fault a w waits which same p st = stops_at fault p a [] w w waits st (elim which [
-  | inl e ↦ subst (λ f. StopsFor f p [] (a.lines + length {A = List ℕ} [] + 1) w w a.out.items waits []) (sym e) ([], Appends-nil w, append-nil a.out.items ∙ sym same)
-  | inr e ↦ subst (λ f. StopsFor f p [] (a.lines + length {A = List ℕ} [] + 1) w w a.out.items waits []) (sym e) ([], Appends-nil w, append-nil a.out.items ∙ sym same)
-])
+-- a failed read before a further line
+pub stop_here : (a : Run) (w : Option (List ℕ)) (waits : List ℕ) → waits ≡ a.out.items → Stops Read a [] w w waits
+stop_here a w waits same p st = stops_at Read p a [] w w waits st ([], Appends-nil w, append-nil a.out.items ∙ sym same)
+
+-- want of memory for a long line
+stop_long : (a : Run) (line : List ℕ) (lines : List (List ℕ)) (w : Option (List ℕ)) → 16384 < length line → Stops Memory a (line ∷ lines) w w a.out.items
+stop_long a line lines w long p st = stops_at Memory p a (line ∷ lines) w w a.out.items st (record { line = line; more = lines; first = refl; wants = inl long }, Prints-nothing w a.out.items)
 
 -- a fault that is passed on
 pub at_err : (r : Result (Unit {0}) ScriptFault) (f : ScriptFault) (P : ScriptFault → Type 0) → IsErrAnd r (λ e. e ≡ f) → P f → IfErr r P
 at_err (Ok x) f P h p = absurd h
 at_err (Err e) f P h p = subst P (sym h) p
 
--- lines that no fault ended, before one that comes between lines
-pub stop_now : (fault : ScriptFault) (a b : Run) (es : List (List ℕ)) (u v : Option (List ℕ)) → (fault ≡ Memory) ⊎ (fault ≡ Read) → Advances a b es u v → Stops fault a es u v b.out.items
-stop_now fault a b es u v which h =
-    subst (λ (x : List (List ℕ)). Stops fault a x u v b.out.items) (append-nil es) (stop_after fault a b es [] u v v b.out.items h (stop_here fault b v b.out.items which refl))
+-- lines that no fault ended, before a read that failed
+pub stop_now : (a b : Run) (es : List (List ℕ)) (u v : Option (List ℕ)) → Advances a b es u v → Stops Read a es u v b.out.items
+stop_now a b es u v h =
+    subst (λ (x : List (List ℕ)). Stops Read a x u v b.out.items) (append-nil es) (stop_after Read a b es [] u v v b.out.items h (stop_here b v b.out.items refl))
+
+-- and before a long line
+pub stop_wanting : (a b : Run) (es : List (List ℕ)) (line : List ℕ) (lines : List (List ℕ)) (u v : Option (List ℕ)) → 16384 < length line → Advances a b es u v → Stops Memory a (es ++ line ∷ lines) u v b.out.items
+stop_wanting a b es line lines u v long h = stop_after Memory a b es (line ∷ lines) u v v b.out.items h (stop_long b line lines v long)
+
+-- room was made
+pub advance_room : (a b : Run) (w : Option (List ℕ)) → b ≡ record a { unfinished = b.unfinished } → Advances a b [] w w
+advance_room a b w rest p st = record {
+  text = [];
+  progress = p;
+  plays = (refl, refl);
+  stands = subst (λ (c : Run). Stands p c.cluster) (sym rest) st;
+  count = ap (λ (r : Run). r.lines) rest ∙ omega arith;
+  prints = ([], Appends-nil w, append-nil a.out.items ∙ ap (λ (r : Run). r.out.items) (sym rest));
+}
+
+pub advance_roomy : (a b c : Run) (es : List (List ℕ)) (u v : Option (List ℕ)) → Advances a b es u v → c ≡ record b { unfinished = c.unfinished } → Advances a c es u v
+advance_roomy a b c es u v h rest = subst (λ (x : List (List ℕ)). Advances a c x u v) (append-nil es) (advance_then a b c es [] u v v h (advance_room b c v rest))
 
 -- a write that failed behind lines that were played
 pub stop_written : (fault : ScriptFault) (a b : Run) (es : List (List ℕ)) (u v w : Option (List ℕ)) (waits : List ℕ) (n : ℕ) → fault ≡ Write → Advances a b es u v → Appends v w (take n b.out.items) → waits ≡ [] → Stops fault a es u w waits
@@ -191,7 +211,7 @@ end_why fault a progress lines done u v w waits text fresh why written = end_by 
 
   end_by : (f : ScriptFault) → StopsFor f progress lines (a.lines + length done + 1) u v a.out.items waits text → EndsFor f progress lines (length done + 1) u w text
   end_by (BadLine n) h = (subst (λ (i : ℕ). IsBadAt n progress lines i) counted h.0, whole h.1)
-  end_by Memory h = whole h
+  end_by Memory h = (h.0, whole h.1)
   end_by Read h = whole h
   end_by Write h = (
     h.0,
@@ -228,7 +248,7 @@ end_cut fault a progress lines number m n u v w waits text fresh why written = c
 
   cut_by : (f : ScriptFault) → StopsFor f progress lines number u v a.out.items waits text → EndsFor Write progress lines m u w text
   cut_by (BadLine k) h = some h.1
-  cut_by Memory h = some h
+  cut_by Memory h = some h.1
   cut_by Read h = some h
   cut_by Write h = first h.0 (subst (λ (x : List ℕ). Appends u w x) (append-nil (take h.0 (a.out.items ++ text)))
       (Appends-trans u v w (take h.0 (a.out.items ++ text)) [] h.1 (subst (λ (x : List ℕ). Appends v w x) (ap (λ (x : List ℕ). take n x) h.2 ∙ take-nil n) written)))
@@ -286,3 +306,8 @@ of_devices_kept Write input reader old new stays h = stays h
 pub run_blames : (outcome : Result (Unit {0}) ScriptFault) (input : Option (List ℕ)) (reader old new : Bool) → (IsTrue old → IsTrue new) → IfErr outcome (λ e. IsOfDevices e input reader old) → IfErr outcome (λ e. IsOfDevices e input reader new)
 run_blames (Ok x) input reader old new stays h = tt
 run_blames (Err e) input reader old new stays h = of_devices_kept e input reader old new stays h
+
+-- a fault behind a beginning
+pub once_begun : (outcome : Result (Unit {0}) ScriptFault) (P Q : ScriptFault → Type 0) → IfErr outcome Q → IfErr outcome (λ e. P e ⊎ Q e)
+once_begun (Ok x) P Q h = tt
+once_begun (Err e) P Q h = inr h

@@ -1,5 +1,5 @@
 -- A script whose input comes piece by piece.
-use Rattle.std.proofs.Common.{◌≡◌, ℕ, ◌<◌, ◌≤◌, arith, take, List, [], ◌∷◌, ◌++◌, length, Option, Some, None, sym, ap, subst, ◌∙◌, append-nil, length-append, IfSome}
+use Rattle.std.proofs.Common.{◌≡◌, ℕ, ◌==◌, true, false, cond, refl, ◌<◌, ◌≤◌, arith, take, List, [], ◌∷◌, ◌++◌, length, Option, Some, None, sym, ap, subst, ◌∙◌, append-nil, length-append, IfSome}
 use Rattle.std.proofs.lemmas.List.{take-take, take-append-le}
 use Rattle.std.specs.Io.KnownBytes.{Consumes, IsAtEnd}
 use Rattle.std.proofs.KnownBytes.{Consumes-trans, Consumes-whole}
@@ -8,7 +8,8 @@ use Rattle.geo_cluster.specs.Runs.{Advances, Stops}
 use Rattle.geo_cluster.specs.declared.script.fault.ScriptFault.{ScriptFault}
 use Rattle.geo_cluster.specs.declared.script.run.Run.{Run}
 use Rattle.geo_cluster.proofs.Cutting.{ended-append, left-append, lines_more, last_full, last_empty}
-use Rattle.geo_cluster.proofs.Playing.{advance_then, stop_after, stop_more}
+use Rattle.geo_cluster.specs.declared.script.fault.ScriptFault.TheVariants.{Memory}
+use Rattle.geo_cluster.proofs.Playing.{advance_then, stop_after, stop_more, stop_wanting}
 
 -- what a reader gave is a beginning of what it had
 consumed : (a b : Option (List ℕ)) (bs : List ℕ) (P : List ℕ → Type 0) → Consumes a b bs → ((more : List ℕ) → P (bs ++ more)) → IfSome a P
@@ -20,6 +21,30 @@ consumed (Some xs) (Some ys) bs P h k = subst P (sym h) (k ys)
 pub stops_in_all : (fault : ScriptFault) (a : Run) (xs : List ℕ) (u v r s : Option (List ℕ)) (waits : List ℕ) → Consumes r s xs → Stops fault a (ended_in [] xs) u v waits → IfSome r (λ input. Stops fault a (lines_of input) u v waits)
 stops_in_all fault a xs u v r s waits read h = consumed r s xs (λ input. Stops fault a (lines_of input) u v waits) read (λ more.
     subst (λ (x : List (List ℕ)). Stops fault a x u v waits) (sym (lines_more xs more)) (stop_more fault a (ended_in [] xs) (ended_in (left_in [] xs) more ++ last_line (left_in [] (xs ++ more))) u v waits h))
+
+-- the next line begins by what stands behind the last line end
+record LongFirst (lines : List (List ℕ)) : Type 0 where
+  line : List ℕ
+  more : List (List ℕ)
+  first : lines ≡ line ∷ more
+  long : 16384 < length line
+
+long_first : (begun more : List ℕ) → 16384 < length begun → LongFirst (ended_in begun more ++ last_line (left_in begun more))
+long_first begun [] h = record { line = begun; more = []; first = last_full begun (omega (arith, h)); long = h }
+long_first begun (b ∷ bs) h =
+    elim (b == 10) as (λ t. LongFirst (cond t (begun ∷ ended_in [] bs) (ended_in (begun ++ b ∷ []) bs) ++ last_line (cond t (left_in [] bs) (left_in (begun ++ b ∷ []) bs)))) [
+      | true ↦ record { line = begun; more = ended_in [] bs ++ last_line (left_in [] bs); first = refl; long = h }
+      | false ↦ long_first (begun ++ b ∷ []) bs (omega (arith, h, length-append begun (b ∷ [])))
+    ]
+
+-- want of memory for a line of which much was read
+pub stops_long : (a b : Run) (xs left : List ℕ) (u v r s : Option (List ℕ)) → Consumes r s xs → Advances a b (ended_in [] xs) u v → left ≡ left_in [] xs → 16384 < length left → IfSome r (λ input. Stops Memory a (lines_of input) u v b.out.items)
+stops_long a b xs left u v r s read h is long = consumed r s xs (λ input. Stops Memory a (lines_of input) u v b.out.items) read (λ more.
+    let next = long_first left more long in
+    subst (λ (x : List (List ℕ)). Stops Memory a x u v b.out.items)
+    (ap (λ (x : List (List ℕ)). ended_in [] xs ++ x) (sym next.first ∙ ap (λ (x : List ℕ). ended_in x more ++ last_line (left_in x more)) is ∙ ap (λ (x : List ℕ). ended_in (left_in [] xs) more ++ last_line x) (sym (left-append [] xs more)))
+    ∙ sym (lines_more xs more))
+    (stop_wanting a b (ended_in [] xs) next.line next.more u v next.long h))
 
 -- one more piece
 pub read_on : (r s t : Option (List ℕ)) (xs ys : List ℕ) → Consumes r s xs → Consumes s t ys → Consumes r t (xs ++ ys)

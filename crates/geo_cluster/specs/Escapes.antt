@@ -1,7 +1,9 @@
 -- The escapes of a script: \r, \n, \\ and \xhh, as bytes are printed and as a text is read.
-use Rattle.std.specs.Prelude.{ℕ, ◌+◌, ◌*◌, ◌/◌, ◌%◌, ◌==◌, ◌<◌, nat_lt, nat_le, ◌&&◌, Bool, List, [], ◌∷◌, ◌++◌, Option, Some, None, if◌then◌else◌, codes}
+use Rattle.std.specs.Prelude.{ℕ, ◌+◌, ◌*◌, ◌/◌, ◌%◌, ◌==◌, ◌<◌, nat_lt, nat_le, ◌&&◌, Bool, List, [], ◌∷◌, ◌++◌, length, Option, Some, None, if◌then◌else◌, codes}
 use Rattle.std.specs.Option.{option_map}
+use Rattle.std.specs.List.{list_all}
 use Rattle.std.specs.Char.{digit_value}
+use Rattle.geo_records.specs.Keys.{is_key_byte}
 use Rattle.geo_cluster.specs.declared.script.escape.Spot.{Spot}
 use Rattle.geo_cluster.specs.declared.script.escape.Spot.TheVariants.{Between, Backslash, Hex, HexDigit}
 use Rattle.geo_cluster.specs.declared.script.escape.Transition.{Transition}
@@ -72,3 +74,7 @@ unescaped_from spot (b ∷ bs) = unescaped_on (transition spot b) (λ s. unescap
 -- the bytes that a text spells
 abbrev pub unescaped : List ℕ → Option (List ℕ)
 unescaped text = unescaped_from Between text
+
+-- how many they are, and whether all may stand in a key
+abbrev pub spelling_of : List ℕ → Option (ℕ × Bool)
+spelling_of text = option_map (λ bytes. (length bytes, list_all is_key_byte bytes)) (unescaped text)

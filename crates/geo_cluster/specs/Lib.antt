@@ -9,4 +9,5 @@ pub mod Connections
 pub mod Progress
 pub mod Effects
 pub mod Standing
+pub mod Wants
 pub mod Runs

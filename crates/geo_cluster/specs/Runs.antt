@@ -1,11 +1,12 @@
 -- What a script does, line after line, and where it ends before its end.
-use Rattle.std.specs.Prelude.{◌≡◌, ◌⊎◌, ℕ, ◌+◌, ◌^◌, ◌≤◌, Bool, true, false, List, [], ◌∷◌, ◌++◌, length, take, Option, MatchOption, IfSome, IsTrue}
+use Rattle.std.specs.Prelude.{◌≡◌, ◌⊎◌, ℕ, ◌+◌, ◌^◌, ◌≤◌, vec_capacity, Bool, true, false, List, [], ◌∷◌, ◌++◌, length, take, Option, MatchOption, IfSome, IsTrue}
 use Rattle.std.specs.Bool.{MatchBool}
 use Rattle.std.specs.Io.KnownBytes.{Appends}
 use Rattle.geo_cluster.specs.Sayings.{said, skips}
 use Rattle.geo_cluster.specs.Progress.{Progress, opening, Runs}
 use Rattle.geo_cluster.specs.Effects.{can_carry, SaidDoes}
 use Rattle.geo_cluster.specs.Standing.{Stands}
+use Rattle.geo_cluster.specs.Wants.{MayWant, WantsAt}
 use Rattle.geo_cluster.specs.declared.script.fault.ScriptFault.{ScriptFault}
 use Rattle.geo_cluster.specs.declared.script.fault.ScriptFault.TheVariants.{BadLine, Memory, Read, Write}
 use Rattle.geo_cluster.specs.declared.script.cluster.Cluster.{Cluster}
@@ -20,10 +21,10 @@ PlaysLine old line text new =
 abbrev pub IsBadLine : Progress → List ℕ → Type 0
 IsBadLine p line = (skips line ≡ false) × MatchOption (said line) (Unit {0}) (λ s. can_carry p s ≡ false)
 
--- what a fault says at a line of this number
+-- what a fault says at a line of this number: it is bad, or memory may be wanted for it
 abbrev pub EndsAtLine : ScriptFault → Progress → List ℕ → ℕ → Type 0
 EndsAtLine (BadLine n) p line number = IsBadLine p line × (n ≡ number)
-EndsAtLine Memory p line number = Unit {0}
+EndsAtLine Memory p line number = MayWant p line
 EndsAtLine Read p line number = ⊥
 EndsAtLine Write p line number = ⊥
 
@@ -53,12 +54,21 @@ IsOfDevices Memory input reader writer = Unit {0}
 IsOfDevices Read input reader writer = IsTrue reader ⊎ IsLong input
 IsOfDevices Write input reader writer = IsTrue writer
 
+-- memory was wanted for the buffers, and reader and writer are as they were
+abbrev pub NothingBegan : {R W : Type 0} → ScriptFault → R → R → W → W → Type 0
+NothingBegan fault reader reader' writer writer' = (fault ≡ Memory) × (reader' ≡ reader) × (writer' ≡ writer)
+
+-- there is room for the bytes of two reads behind the last line end
+abbrev pub HasRoom : Run → Type 0
+HasRoom run = 32768 ≤ vec_capacity run.unfinished
+
 -- a run before its first byte
 pub record IsFresh (run : Run) : Type 0 where
   pub stands : Stands opening run.cluster
   pub unfinished : run.unfinished.items ≡ []
   pub lines : run.lines ≡ 0
   pub out : run.out.items ≡ []
+  pub room : HasRoom run
 
 -- lines, one after the other, print their texts one after the other
 abbrev pub Plays : Progress → List (List ℕ) → List ℕ → Progress → Type 0
@@ -78,11 +88,11 @@ pub record IsBadAt (n : ℕ) (p : Progress) (lines : List (List ℕ)) (number : 
   pub bad : IsBadLine p line
   pub counted : n ≡ number
 
--- what a fault says where so many lines were played: which line is bad, and that all that they printed is written or waits;
+-- what a fault says where so many lines were played: which line is bad or wants memory, and that all that they printed is written or waits;
 -- after a failed write a beginning of it is written
 abbrev pub StopsFor : ScriptFault → Progress → List (List ℕ) → ℕ → Option (List ℕ) → Option (List ℕ) → List ℕ → List ℕ → List ℕ → Type 0
 StopsFor (BadLine n) p lines number old new waited waits text = IsBadAt n p lines number × Prints old new waited waits text
-StopsFor Memory p lines number old new waited waits text = Prints old new waited waits text
+StopsFor Memory p lines number old new waited waits text = WantsAt p lines × Prints old new waited waits text
 StopsFor Read p lines number old new waited waits text = Prints old new waited waits text
 StopsFor Write p lines number old new waited waits text = (n : ℕ) × Appends old new (take n (waited ++ text)) × (waits ≡ [])
 
@@ -125,7 +135,7 @@ pub record Performs (lines : List (List ℕ)) (before after : Option (List ℕ))
 -- write failed
 abbrev pub EndsFor : ScriptFault → Progress → List (List ℕ) → ℕ → Option (List ℕ) → Option (List ℕ) → List ℕ → Type 0
 EndsFor (BadLine n) p lines number old new text = IsBadAt n p lines number × Appends old new text
-EndsFor Memory p lines number old new text = Appends old new text
+EndsFor Memory p lines number old new text = WantsAt p lines × Appends old new text
 EndsFor Read p lines number old new text = Appends old new text
 EndsFor Write p lines number old new text = (n : ℕ) × Appends old new (take n text)
 

@@ -2,12 +2,11 @@
 use Rattle.std.proofs.Common.{◌≡◌, ◌+◌, List, Option, None, Some, Result, Ok, Err, IfOk, IfSome, sym, subst, ◌∙◌, arith}
 use Rattle.std.specs.declared.alloc.AllocError.{AllocError}
 use Rattle.std.proofs.Math.Logic.{∥∥₁_map}
-use Rattle.std.specs.List.{All}
 use Rattle.geo_history.specs.declared.history.History.{History}
 use Rattle.geo_history.specs.Standings.{who_of, standing_in}
-use Rattle.geo_history.specs.Keeping.{Keeps, Story, IsKept}
+use Rattle.geo_history.specs.Keeping.{Keeps, Story}
 use Rattle.geo_history.specs.Stories.{IsHistoryOf, NewEraDoes}
-use Rattle.geo_station.specs.Seats.{Seated, FitsIn, IsLawful, DiffersFrom}
+use Rattle.geo_station.specs.Seats.{Seated, IsLawful}
 use Rattle.geo_station.specs.Calls.{HasFlushed}
 
 pub lawful_of : (story : Story) (history : History) → IsHistoryOf story history → IsLawful history
@@ -22,9 +21,6 @@ pub ended_lawful : (old new : Story) (result : Result (Option History) AllocErro
 ended_lawful old new (Ok (Some history)) does = lawful_of old history does.0
 ended_lawful old new (Ok None) does = tt
 ended_lawful old new (Err refused) does = tt
-
-pub differs_of : (story : Story) (seats : List Seated) → ∥ IsKept story ∥₁ → (All (FitsIn story.opening story.steps) seats → ⊥) → DiffersFrom seats
-differs_of story seats kept unfit = ∥∥₁_map kept (λ k. (story, k, unfit))
 
 -- a seat that is as it was
 pub flushed_none : (old new : Seated) → new ≡ old → HasFlushed old new

@@ -9,7 +9,7 @@ use Rattle.geo_history.specs.declared.step.Answer.{Answer}
 use Rattle.geo_history.specs.declared.step.Step.{Step}
 use Rattle.geo_history.specs.Standings.{Standing, who_of}
 use Rattle.geo_history.specs.Replays.{steps_of}
-use Rattle.geo_history.specs.Keeping.{opened_with, Keeps, Story, IsKept}
+use Rattle.geo_history.specs.Keeping.{opened_with, Keeps, Story}
 use Rattle.geo_station.specs.declared.call.Call.{Call}
 
 -- a seat: its number, how many steps it made, the calls that it keeps, and whether it let go of earlier ones
@@ -66,6 +66,6 @@ pub record FitsIn (opening : Opening) (steps : List Step) (seat : Seated) : Type
 abbrev pub IsLawful : History → Type 0
 IsLawful history = ∥ ((last : Standing) × Keeps (who_of history.setup) history.opening history.steps.items last) ∥₁
 
--- some history of a site does not tell of each seat what it keeps
-abbrev pub DiffersFrom : List Seated → Type 0
-DiffersFrom seats = ∥ ((story : Story) × IsKept story × (All (FitsIn story.opening story.steps) seats → ⊥)) ∥₁
+-- a history does not tell of each seat what the seat keeps
+abbrev pub DiffersFrom : Story → List Seated → Type 0
+DiffersFrom story seats = All (FitsIn story.opening story.steps) seats → ⊥

@@ -1,29 +1,52 @@
 //! The end of a station.
-ghost use Rattle.std.specs.Prelude.{◌≡◌, ℕ, ◌+◌, MatchBool, sum_by, vec_len};
+ghost use Rattle.std.specs.Prelude.{◌≡◌, ◌+◌, MatchBool, sum_by, vec_len};
 ghost use Rattle.std.specs.List.{All};
 ghost use Rattle.geo_history.specs.Stories.{story_in};
 ghost use Rattle.geo_station.specs.Seats.{FitsIn};
 
+use crate::desk::Desk;
 use crate::fits::{Ending, ending_of};
 use crate::seat::Seat;
 use crate::station::Station;
 use geo_history::{Kept, MOST_STEPS};
 use std::sync::ledger::{Ledger, Share};
+use thiserror::Error;
 
 /// Why a station is not closed, tested in this order.
-#[derive(Clone, Copy, Debug, PartialEq, Eq)]
+#[derive(Clone, Copy, Debug, PartialEq, Eq, Error, Drop)]
 pub enum Why {
     /// A seat is missing.
+    #[error("a seat is missing")]
     Missing,
     /// The history doesn't tell of a seat what the seat keeps.
+    #[error("the history differs from what a seat keeps")]
     Differs,
+}
+
+/// A station whose lock was taken off: its history stands still.
+#[derive(Drop)]
+pub struct Unlocked<L: Ledger> {
+    pub(crate) desk: Desk<L>,
+    pub(crate) seats: u64,
+}
+
+impl<L: Ledger> Unlocked<L> {
+    /// The station, under a lock again.
+    pub fn lock(self) -> Station<L>
+        requires { self.seats ≡ L.parts }
+        ensures { result ≡ self.seats }
+    {
+        let Unlocked { desk, seats } = self;
+        Station::locked(desk, seats)
+    }
 }
 
 /// A station that was not closed, and the seats that were handed in, as they were.
 #[derive(Drop)]
 pub struct Unclosed<L: Ledger> {
     pub why: Why,
-    pub station: Station<L>,
+    /// The station, with the history that it has.
+    pub station: Unlocked<L>,
     pub seats: Vec<Seat<L>>,
 }
 

@@ -17,7 +17,7 @@ mod seat;
 mod station;
 
 pub use call::Call;
-pub use close::{Unclosed, Why};
+pub use close::{Unclosed, Unlocked, Why};
 pub use maintain::Maintained;
 pub use refusal::{CallError, NoSeat, Returned, SeatSpent, StationError};
 pub use seat::Seat;

@@ -9,7 +9,7 @@ ghost use Rattle.geo_station.specs.declared.refusal.CallError.TheVariants as ref
 
 use crate::account::Account;
 use crate::call::Call;
-use crate::close::{Unclosed, Why, all_fit, merge_all};
+use crate::close::{Unclosed, Unlocked, Why, all_fit, merge_all};
 use crate::desk::{Desk, Unmade};
 use crate::maintain::Maintained;
 use crate::refusal::{CallError, NoSeat, Returned, SeatSpent, StationError};
@@ -66,10 +66,18 @@ impl<L: Ledger> Station<L> {
             given: 0,
             seats,
         };
-        Ok(Station {
+        Ok(Station::locked(desk, seats))
+    }
+
+    /// What lies under the lock, under one.
+    pub(crate) fn locked(desk: Desk<L>, seats: u64) -> Station<L>
+        requires { seats ≡ L.parts }
+        ensures { result ≡ seats }
+    {
+        Station {
             desk: Mutex::new(desk),
             seats,
-        })
+        }
     }
 
     /// A seat that was not given yet, by rising number from 0; NoSeat where all were given. It takes no memory.
@@ -261,7 +269,7 @@ impl<L: Ledger> Station<L> {
     ghost use Rattle.geo_station.specs.declared.close.Why.TheVariants.{Missing, Differs};
 
     /// The history of what was done, where all seats are handed in and it tells of each what the seat keeps. Else station and seats
-    /// come back as they were.
+    /// come back, the station without its lock, so that its history can be spoken of.
     pub fn close(self, seats: Vec<Seat<L>>) -> Result<History, Unclosed<L>>
         ensures lawful { IfOk result (λ history. IsLawful history) }
         ensures sum { IfOk result (λ history. opened_total history.opening + length history.steps.items
@@ -269,17 +277,15 @@ impl<L: Ledger> Station<L> {
         ensures each { IfOk result (λ history. All (FitsIn history.opening history.steps.items) seats.items) }
         ensures all { IfOk result (λ _. vec_len seats ≡ self) }
         ensures missing { IfErr result (λ unclosed. unclosed.why ≡ Missing → vec_len seats ≢ self) }
-        ensures differs { IfErr result (λ unclosed. unclosed.why ≡ Differs → (vec_len seats ≡ self) × DiffersFrom seats.items) }
-        ensures back { IfErr result (λ unclosed. (unclosed.seats ≡ seats) × (unclosed.station ≡ self)) }
+        ensures differs { IfErr result (λ unclosed. unclosed.why ≡ Differs
+            → (vec_len seats ≡ self) × DiffersFrom (story_in unclosed.station.desk.kept) seats.items) }
+        ensures back { IfErr result (λ unclosed. (unclosed.seats ≡ seats) × (unclosed.station.seats ≡ self) × (self ≡ L.parts)) }
     {
         let Station { desk, seats: count } = self;
         let mut desk = desk.into_inner();
         let whole = seats.len() as u64 == count;
         if !whole || !all_fit(&desk.kept, seats.as_slice()) {
-            let station = Station {
-                desk: Mutex::new(desk),
-                seats: count,
-            };
+            let station = Unlocked { desk, seats: count };
             let why = if whole { Why::Differs } else { Why::Missing };
             return Err(Unclosed {
                 why,

@@ -134,7 +134,7 @@ fn closed_at_last<L: Ledger>(
     } = station.close(seats).err().expect(rt, "a seat is missing");
     say(alloc, out, &why).expect(rt, "memory");
     let one = seats.pop().expect(rt, "the seat comes back");
-    closed(rt, alloc, station, one, two)
+    closed(rt, alloc, station.lock(), one, two)
 }
 
 /// Writes how many calls a seat keeps, and whether there is another seat.

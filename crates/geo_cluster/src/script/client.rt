@@ -1,10 +1,11 @@
 //! The client of a site: the bytes that it sends, and its answers.
-ghost use Rattle.std.specs.Prelude.{◌≡◌, ◌≢◌, ◌≤◌, ◌∷◌, ◌++◌, [], IfOk, OnOk};
+ghost use Rattle.std.specs.Prelude.{◌≡◌, ◌≢◌, ◌≤◌, ◌∷◌, ◌++◌, [], IfErr, IfOk, OnOk};
 ghost use Rattle.geo_grammar.specs.Replies.{answer_bytes};
 ghost use Rattle.geo_grammar.specs.declared.reply.Reply.TheVariants.{OutOfMemory};
 ghost use Rattle.geo_grammar.specs.declared.item.Item.TheVariants as item;
 ghost use Rattle.geo_cluster.specs.Sayings.{SaysClient};
 ghost use Rattle.geo_cluster.specs.Standing.{AnswersFor, LineDoes};
+ghost use Rattle.geo_cluster.specs.Wants.{WantsFor};
 
 use crate::script::cluster::Cluster;
 use crate::script::texts::answer_line;
@@ -94,7 +95,8 @@ impl Cluster {
         bytes: &[u8],
     ) -> Result<Option<Vec<u8>>, AllocError>
         requires { 1 ≤ site }
-        ensures { IfOk result (λ o. LineDoes self.old (SaysClient site bytes.now) o self.new) }
+        ensures does { IfOk result (λ o. LineDoes self.old (SaysClient site bytes.now) o self.new) }
+        ensures wants { IfErr result (λ _. WantsFor self.old (SaysClient site bytes.now)) }
     {
         let at = site as usize - 1;
         if at >= self.connections.len() {

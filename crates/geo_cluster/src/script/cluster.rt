@@ -1,5 +1,5 @@
 //! The world of a script: its sites and the parcels between them, and the connections of its clients.
-ghost use Rattle.std.specs.Prelude.{◌≤◌, ◌^◌, IfOk};
+ghost use Rattle.std.specs.Prelude.{◌≡◌, ◌≤◌, ◌^◌, length, IfErr, IfOk};
 ghost use Rattle.geo_cluster.specs.Reads.{said_by, IsInRange};
 ghost use Rattle.geo_cluster.specs.Sayings.{SaysSites, SaysAt, SaysVersions};
 ghost use Rattle.geo_cluster.specs.declared.script.line.ScriptLine.TheVariants.{Sites};
@@ -27,6 +27,7 @@ pub struct Cluster {
 impl Cluster {
     ghost use Rattle.geo_cluster.specs.Progress.{opening};
     ghost use Rattle.geo_cluster.specs.Standing.{Stands, LineDoes};
+    ghost use Rattle.geo_cluster.specs.Wants.{WantsFor};
 
     /// No sites yet, and the moment 1.
     pub fn new(alloc: Global, hasher: RandomState) -> Cluster
@@ -44,6 +45,13 @@ impl Cluster {
         }
     }
 
+    /// How many sites were set up.
+    pub fn sites(&self) -> usize
+        ensures { result ≡ length self.now.world.sites.items }
+    {
+        self.world.sites.len()
+    }
+
     /// Carries out a line, and answers what it prints. None where it can't be carried out: a bad line. Want of memory may leave the
     /// line half done.
     pub fn carry_out(
@@ -52,7 +60,8 @@ impl Cluster {
         line: ScriptLine,
     ) -> Result<Option<Vec<u8>>, AllocError>
         requires { IsInRange line }
-        ensures { IfOk result (λ o. LineDoes self.old (said_by line) o self.new) }
+        ensures does { IfOk result (λ o. LineDoes self.old (said_by line) o self.new) }
+        ensures wants { IfErr result (λ _. WantsFor self.old (said_by line)) }
     {
         let now = self.moment;
         match line {
@@ -86,7 +95,8 @@ impl Cluster {
         reap: u32,
     ) -> Result<Option<Vec<u8>>, AllocError>
         requires { IsInRange (Sites count pages max reap) }
-        ensures { IfOk result (λ o. LineDoes self.old (SaysSites count pages max reap) o self.new) }
+        ensures does { IfOk result (λ o. LineDoes self.old (SaysSites count pages max reap) o self.new) }
+        ensures wants { IfErr result (λ _. WantsFor self.old (SaysSites count pages max reap)) }
     {
         if !self.world.sites.is_empty() {
             return Ok(None);
@@ -111,7 +121,8 @@ impl Cluster {
     /// What a site knows, as it is printed. None where there is no such site.
     fn versions(&self, alloc: Global, site: u8) -> Result<Option<Vec<u8>>, AllocError>
         requires { 1 ≤ site }
-        ensures { IfOk result (λ o. LineDoes self.now (SaysVersions site) o self.now) }
+        ensures does { IfOk result (λ o. LineDoes self.now (SaysVersions site) o self.now) }
+        ensures wants { IfErr result (λ _. WantsFor self.now (SaysVersions site)) }
     {
         let at = site as usize - 1;
         if at >= self.world.sites.len() {

@@ -2,7 +2,8 @@
 ghost use Rattle.std.specs.Prelude.{◌≡◌, ◌<◌, ◌≤◌, ◌++◌, IfOk, OnOk, MatchOption};
 ghost use Rattle.std.specs.Option.{option_map};
 ghost use Rattle.std.specs.Char.{digit_value};
-ghost use Rattle.geo_cluster.specs.Escapes.{escaped, escaped_byte, unescaped, hex_digit, transition, IsSmall, LeadsToSmall};
+ghost use Rattle.geo_records.specs.Keys.{is_key_byte};
+ghost use Rattle.geo_cluster.specs.Escapes.{escaped, escaped_byte, unescaped, spelling_of, hex_digit, transition, IsSmall, LeadsToSmall};
 
 use std::alloc::{AllocError, Global};
 
@@ -121,5 +122,35 @@ pub fn unescape(alloc: Global, text: &[u8]) -> Result<Option<Vec<u8>>, AllocErro
     match spot {
         Spot::Between => Ok(Some(bytes)),
         _ => Ok(None),
+    }
+}
+
+/// Whether a byte may stand in a key.
+fn may_stand(byte: u8) -> bool
+    ensures { result ≡ is_key_byte byte }
+{
+    byte >= 33 && byte != 127
+}
+
+/// How many bytes a text spells, and whether all of them may stand in a key. None where it spells none. It takes no memory.
+pub fn spelling(text: &[u8]) -> Option<(usize, bool)>
+    ensures { result ≡ spelling_of text.now }
+{
+    let (mut count, mut stand) = (0usize, true);
+    let mut spot = Spot::Between;
+    for byte in text {
+        match transition_of(spot, *byte) {
+            Transition::Gives(given) => {
+                count += 1;
+                stand = stand && may_stand(given);
+                spot = Spot::Between;
+            }
+            Transition::Leads(next) => spot = next,
+            Transition::Fails => return None,
+        }
+    }
+    match spot {
+        Spot::Between => Some((count, stand)),
+        _ => None,
     }
 }

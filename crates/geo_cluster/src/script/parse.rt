@@ -1,11 +1,12 @@
 //! What a line of a script says.
-ghost use Rattle.std.specs.Prelude.{◌≡◌, ◌≤◌, None, Some, MatchOption, IfOk, IfSome, option_copied};
-ghost use Rattle.std.specs.Option.{option_map, option_and_then};
+ghost use Rattle.std.specs.Prelude.{◌≡◌, ◌≤◌, None, Some, true, MatchOption, IfErr, IfOk, IfSome, option_copied};
+ghost use Rattle.std.specs.Option.{option_map, option_and_then, is_some};
 ghost use Rattle.geo_cluster.specs.Numbers.{ranged_of};
 ghost use Rattle.geo_cluster.specs.Sayings.{split_of, site_of, moment_of, parcel_of, key_of, front_number, option_number, client_said, send_said, sites_said, take_said, site_key_of, said_to_reap, said_to_evict, said, skips, SaysAt, SaysTick, SaysRemove, SaysVersions};
 ghost use Rattle.geo_cluster.specs.Reads.{said_by, IsInRange};
+ghost use Rattle.geo_cluster.specs.Wants.{has_text, CarriesAt};
 
-use crate::script::escape::unescape;
+use crate::script::escape::{spelling, unescape};
 use crate::script::line::ScriptLine;
 use crate::script::split::split_at;
 use geo_grammar::number;
@@ -20,6 +21,9 @@ const DEFAULT_RECORDS: u64 = 100_000;
 
 /// For how many seconds behind its end a write is kept where the script doesn't say.
 const DEFAULT_REAP: u64 = 60;
+
+/// How many bytes a key has at most.
+const MOST_KEY: usize = 250;
 
 /// The greatest number of these seconds: 2^31 - 1.
 const GREATEST_REAP: u64 = 2_147_483_647;
@@ -220,10 +224,12 @@ fn sites_line(args: &[u8]) -> Option<ScriptLine>
 }
 
 /// What a line says, without its line end: None where it is a bad line, whatever sites and parcels there are. Words are
-/// separated by exactly one space; a client's text is the rest of its line, and begins behind one.
+/// separated by exactly one space; a client's text is the rest of its line, and begins behind one. Memory is wanted for a text or a
+/// key alone.
 pub fn parse_line(alloc: Global, line: &[u8]) -> Result<Option<ScriptLine>, AllocError>
     ensures said { IfOk result (λ o. option_map said_by o ≡ said line.now) }
     ensures range { IfOk result (λ o. IfSome o (λ l. IsInRange l)) }
+    ensures text { IfErr result (λ _. has_text line.now ≡ true) }
 {
     let Some((name, args)) = split_at(b' ', line) else {
         return Ok(None);
@@ -259,6 +265,60 @@ pub fn parse_line(alloc: Global, line: &[u8]) -> Result<Option<ScriptLine>, Allo
         return Ok(sites_line(args));
     }
     Ok(None)
+}
+
+/// Whether a text spells a key. It takes no memory.
+fn spells_key(text: &[u8]) -> bool
+    ensures { result ≡ is_some (key_of text.now) }
+{
+    match spelling(text) {
+        Some((count, stand)) => stand && count >= 1 && count <= MOST_KEY,
+        None => false,
+    }
+}
+
+fn carries_client(args: &[u8], sites: usize) -> bool
+    ensures { CarriesAt sites (option_and_then client_said (split_of args.now)) result }
+{
+    let Some((site, text)) = split_at(b' ', args) else {
+        return false;
+    };
+    let Some(site) = site_number(site) else {
+        return false;
+    };
+    site as usize <= sites && spelling(text).is_some()
+}
+
+fn carries_keyed(args: &[u8], sites: usize) -> bool
+    ensures reap { CarriesAt sites (said_to_reap args.now) result }
+    ensures evict { CarriesAt sites (said_to_evict args.now) result }
+{
+    let Some((site, key)) = split_at(b' ', args) else {
+        return false;
+    };
+    let Some(site) = site_number(site) else {
+        return false;
+    };
+    site as usize <= sites && spells_key(key)
+}
+
+/// Whether a line with a text or a key can be carried out where there are so many sites. It takes no memory.
+pub fn carries_text(line: &[u8], sites: usize) -> bool
+    ensures { has_text line.now ≡ true → CarriesAt sites (said line.now) result }
+{
+    let Some((name, args)) = split_at(b' ', line) else {
+        return false;
+    };
+    if name == b"client".as_slice() {
+        return carries_client(args, sites);
+    }
+    if name == b"reap".as_slice() {
+        return carries_keyed(args, sites);
+    }
+    if name == b"evict".as_slice() {
+        return carries_keyed(args, sites);
+    }
+    false
 }
 
 /// Whether a line is skipped: an empty one, or one that begins with `#`.

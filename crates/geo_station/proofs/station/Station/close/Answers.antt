@@ -2,7 +2,7 @@ use Rattle.std.proofs.Common.{rules, sym, subst}
 use Rattle.std.specs.List.{All}
 use Rattle.geo_history.specs.Stories.{story_in}
 use Rattle.geo_station.specs.Seats.{FitsIn}
-use Rattle.geo_station.proofs.Closing.{lawful_of, differs_of}
+use Rattle.geo_station.proofs.Closing.{lawful_of}
 use Rattle.geo_station.proofs.station.Station.close.Goals.{then-not-whole-via-then-not-whole, then-not-whole-via-else-not-whole+then-not-all_fit, then-whole, else-whole}
 use Rattle.geo_station.proofs.station.Station.close.Goals as goal
 
@@ -11,7 +11,7 @@ returns-then-not-whole-clause-differs g c = λ e.
     elim c.if-whole.branch [
       | then-whole w ↦ elim c.then-not-whole.branch [
         | then-not-whole-via-then-not-whole v ↦ absurd (search rules)
-        | then-not-whole-via-else-not-whole+then-not-all_fit v ↦ (search rules, differs_of (story_in c.into_inner-desk.result.kept) c.args.seats.items c.into_inner-desk.result.kept.kept (subst (λ seats. All (FitsIn (story_in c.into_inner-desk.result.kept).opening (story_in c.into_inner-desk.result.kept).steps) seats → ⊥) v.as_slice.ensures.value v.if-not-all_fit.ensures))
+        | then-not-whole-via-else-not-whole+then-not-all_fit v ↦ (search rules, subst (λ seats. All (FitsIn (story_in c.into_inner-desk.result.kept).opening (story_in c.into_inner-desk.result.kept).steps) seats → ⊥) v.as_slice.ensures.value v.if-not-all_fit.ensures)
       ]
       | else-whole w ↦ absurd (search rules)
     ]

@@ -12,5 +12,5 @@ returns c = λ p st is.
     let same : c.args.request ≡ c.in-Command.request = same_request _ _ _ _ _ _ c.in-Command.is in (
       refl,
       replied p c.args.self.now c.step.new.self c.args.site c.args.request c.in_ok-reply.field-0 reply c.in-Some-Replied.field-0-1 before c.push_reply.new.answer.items st
-          (c.in-Some-Replied.is ∙ ap Some c.in-Some-Replied.field-0-is) c.in_ok-reply.ensures pushed.0 (pushed.1 ∙ ap (λ (r : Request). before ++ answer_bytes r reply) (sym same)),
+          (c.in-Some-Replied.is ∙ ap Some c.in-Some-Replied.field-0-is) c.in_ok-reply.ensures.does pushed.0 (pushed.1 ∙ ap (λ (r : Request). before ++ answer_bytes r reply) (sym same)),
     )

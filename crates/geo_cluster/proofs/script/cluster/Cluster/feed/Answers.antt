@@ -5,13 +5,13 @@ use Rattle.geo_cluster.proofs.Setting.{is_there}
 use Rattle.geo_cluster.proofs.Feeding.{connected_stands, feeds, feeds_not}
 use Rattle.geo_cluster.proofs.script.cluster.Cluster.feed.Goals as goal
 
-pub returns-then-not-branch : goal.returns-then-not-branch
-returns-then-not-branch c = λ p st.
+pub returns-then-not-branch-clause-does : goal.returns-then-not-branch-clause-does
+returns-then-not-branch-clause-does c = λ p st.
     feeds_not p _ c.answer_all.new.self c.args.site c.feed.new.self c.in_ok-items.items.items c.new-answer.result.items c.answer_all.new.answer.items c.in_ok-answer_all.field-0
     (connected_stands p c.args.self.now _ c.args.site c.feed.new.self st refl refl refl) c.in_ok-answer_all.ensures c.if-not-branch.true
 
-pub returns : goal.returns
-returns c = λ p st.
+pub returns-clause-does : goal.returns-clause-does
+returns-clause-does c = λ p st.
     let s = c.args.site in
     let connections = c.args.self.now.connections.items in
     let was = c.index_mut.result.now in

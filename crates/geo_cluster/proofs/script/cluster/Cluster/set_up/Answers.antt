@@ -8,8 +8,8 @@ opened-requires c =
     let r = c.requires in
     told_good c.args.count c.args.pages c.args.max c.args.reap c.in_ok-setups.setups.items r.0 r.1 r.2 r.3 r.4 r.5 c.in_ok-setups.ensures.many c.in_ok-setups.ensures.told
 
-pub returns : goal.returns
-returns c = λ p st.
+pub returns-clause-does : goal.returns-clause-does
+returns-clause-does c = λ p st.
     let none : length c.args.self.now.world.sites.items ≡ 0 = search rules in
     let told = c.in_ok-setups.ensures in
     let connected = c.in_ok-self-2.ensures in

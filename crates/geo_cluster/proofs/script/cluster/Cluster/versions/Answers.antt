@@ -8,8 +8,8 @@ use Rattle.geo_cluster.specs.Progress.{known_in}
 use Rattle.geo_cluster.proofs.Setting.{is_there}
 use Rattle.geo_cluster.proofs.script.cluster.Cluster.versions.Goals as goal
 
-pub returns : goal.returns
-returns c = λ p st.
+pub returns-clause-does : goal.returns-clause-does
+returns-clause-does c = λ p st.
     let sites = c.args.self.now.world.sites.items in
     let s = c.args.site in
     let site = c.index-site.result.now in

@@ -1,9 +1,8 @@
-use Rattle.std.proofs.Common.{arith, refl, inl, ◌≡◌, ◌++◌, ◌∷◌, [], List, ℕ, sym, ap, subst, ◌∙◌, append_assoc, append-nil}
+use Rattle.std.proofs.Common.{arith, refl, ◌≡◌, ◌++◌, ◌∷◌, [], List, ℕ, sym, ap, subst, ◌∙◌, append_assoc, append-nil}
 use Rattle.geo_cluster.specs.Lines.{ended_in, left_in}
 use Rattle.geo_cluster.specs.Runs.{Stops}
-use Rattle.geo_cluster.specs.declared.script.fault.ScriptFault.TheVariants.{Memory}
 use Rattle.geo_cluster.proofs.Cutting.{cut_some_says, cut_none_says}
-use Rattle.geo_cluster.proofs.Playing.{at_err, advance_none, advance_then, stop_after, stop_more, stop_now}
+use Rattle.geo_cluster.proofs.Playing.{at_err, advance_none, advance_then, stop_after, stop_more}
 use Rattle.geo_cluster.proofs.script.run.Run.take_piece.Goals as goal
 
 pub returns-in_err-end_line-clause-err : goal.returns-in_err-end_line-clause-err
@@ -46,6 +45,8 @@ loop-front-preserved g c =
       ended = inv.ended ∙ ap (λ (x : List (List ℕ)). inv.done ++ x) cut.ended ∙ sym (append_assoc inv.done (line ∷ []) (ended_in [] back)) ∙ ap (λ (x : List ℕ). (inv.done ++ line ∷ []) ++ ended_in x back) (sym ended.0);
       left = inv.left ∙ cut.left ∙ ap (λ (x : List ℕ). left_in x back) (sym ended.0);
       advances = advance_then a b d inv.done (line ∷ []) (g.W.Write.contents c.args.writer.now.inner) (g.W.Write.contents c.loop-front.writer.inner) (g.W.Write.contents c.end_line.new.writer.inner) inv.advances c.in_ok-end_line.ensures.ok;
+      room = omega (arith, inv.room, cut.shorter, c.in_ok-end_line.ensures.room.0, c.in_ok-end_line.ensures.room.1);
+      wide = omega (arith, inv.wide, c.in_ok-end_line.ensures.room.1);
       few = omega (arith, inv.few, ended.1, cut.shorter);
     }
 
@@ -63,18 +64,13 @@ returns-clause-ok g c =
 pub returns-clause-left : goal.returns-clause-left
 returns-clause-left g c =
     let uncut = cut_none_says c.loop-front.rest.now c.loop-front.self.unfinished.items c.in_default.ensures in
-    c.in_ok-extend_from_slice.ensures.items ∙ sym (c.loop-front.invariant.left ∙ uncut.left)
+    c.in-Ok.ensures.items ∙ sym (c.loop-front.invariant.left ∙ uncut.left)
 
 pub loop-front-init : goal.loop-front-init
-loop-front-init g c = record { done = []; ended = refl; left = refl; advances = advance_none c.args.self.now (g.W.Write.contents c.args.writer.now.inner); few = omega arith }
+loop-front-init g c = record { done = []; ended = refl; left = refl; advances = advance_none c.args.self.now (g.W.Write.contents c.args.writer.now.inner); room = c.requires.room; wide = omega arith; few = omega arith }
 
-pub returns-in_err-extend_from_slice-clause-err : goal.returns-in_err-extend_from_slice-clause-err
-returns-in_err-extend_from_slice-clause-err g c =
-    let a = c.args.self.now in
-    let b = c.loop-front.self in
-    let inv = c.loop-front.invariant in
-    let u = g.W.Write.contents c.args.writer.now.inner in
-    let v = g.W.Write.contents c.loop-front.writer.inner in
-    let uncut = cut_none_says c.loop-front.rest.now b.unfinished.items c.in_default.ensures in
-    let all : ended_in a.unfinished.items c.args.piece.now ≡ inv.done = inv.ended ∙ ap (λ (x : List (List ℕ)). inv.done ++ x) uncut.ended ∙ append-nil inv.done in
-    at_err _ Memory _ c.from_residual-in_err-extend_from_slice.ensures.1 (subst (λ (x : List (List ℕ)). Stops Memory a x u v b.out.items) (sym all) (stop_now Memory a b inv.done u v (inl refl) inv.advances))
+pub end_line-requires-clause-room : goal.end_line-requires-clause-room
+end_line-requires-clause-room g c =
+    let within = (cut_some_says c.loop-front.rest.now c.loop-front.self.unfinished.items c.in-Some.front.now c.in-Some.back.now c.in-Some.ensures).within in
+    let room = c.loop-front.invariant.room in
+    omega (arith, room, within)
