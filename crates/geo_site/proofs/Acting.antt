@@ -4,7 +4,9 @@ use Rattle.std.proofs.lemmas.Bool.Decides.{nat_tests}
 use Rattle.std.specs.List.{list_any}
 use Rattle.geo_stamp.specs.Stamps.{last_time}
 use Rattle.geo_records.specs.Operations.{Record, version_in}
+use Rattle.geo_versions.specs.Maps.{has_register}
 use Rattle.geo_records.specs.Operations.Act.{Write}
+use Rattle.geo_records.specs.Operations.{Act as issues}
 use Rattle.geo_grammar.specs.declared.request.Request.{Request}
 use Rattle.geo_grammar.specs.declared.reply.Reply.{Reply}
 use Rattle.geo_grammar.specs.declared.reply.Reply.TheVariants as reply
@@ -20,10 +22,10 @@ use Rattle.geo_memcache.specs.declared.decision.Effect.TheVariants.{Nothing, Kee
 use Rattle.geo_site.specs.declared.site.Site.{Site}
 use Rattle.geo_site.specs.declared.refusal.WriteError.{WriteError}
 use Rattle.geo_site.specs.declared.refusal.WriteError.TheVariants.{MapFull, ClockEnded, Memory}
-use Rattle.geo_site.specs.Entries.{Counts, accesses, counted, evicted_on, Basis, Visible, entry_in, found_of, replied, issued, acts_of, is_some_act, is_growth, is_crowded, lacks, owed, may_want_memory, shows_values, Answers, is_done}
+use Rattle.geo_site.specs.Entries.{Counts, accesses, counted, evicted_on, Basis, Visible, entry_in, found_of, replied, issued, acts_of, is_some_act, is_growth, is_crowded, lacks, owed, may_want_memory, shows_some, Answers, is_done}
 use Rattle.geo_site.specs.Machine.{Same, victim_by, VictimFits, clock_of, visible_in}
 use Rattle.geo_site.specs.Sites.{counts_in, victim_in, FirstVictimFits, HasIssuedAfter, state_in, basis_in, stats_in, issued_in, HasIssued}
-use Rattle.geo_site.specs.Changes.{accesses_of, is_change, bytes_in, IsThere, is_crowded_out, CanWrite, refusal_reply, EffectDoes, ChangeDoes, IsShort}
+use Rattle.geo_site.specs.Changes.{HasRecord, recorded_in, accesses_of, is_change, bytes_in, IsThere, is_crowded_out, CanWrite, refusal_reply, EffectDoes, ChangeDoes, IsShort}
 pub use Rattle.geo_site.proofs.Stocking.{unchanged}
 use Rattle.geo_site.proofs.Stocking.{state_then}
 use Rattle.geo_site.proofs.Verdicts.{Plain, is_renewal, stores_plain, stores_fixed, deletes_plain, touches_plain, counts_plain, counts_fixed, none_some}
@@ -84,12 +86,21 @@ made_acts key bytes (Renew expiry) h = refl
 made_acts key bytes Tomb h = refl
 
 -- and memory is wanted for that
-pub made_grows : (key bytes : List ℕ) (effect : Effect) → is_made effect ≡ true → list_any is_growth (acts_of key bytes effect) ≡ true
-made_grows key bytes Nothing h = h
-made_grows key bytes (Keep flags expiry) h = refl
-made_grows key bytes (Made made flags expiry) h = refl
-made_grows key bytes (Renew expiry) h = absurd (true≢false (sym h))
-made_grows key bytes Tomb h = refl
+pub made_grows : (recorded : List ℕ → Bool) (key bytes : List ℕ) (effect : Effect) → is_made effect ≡ true → list_any (is_growth recorded) (acts_of key bytes effect) ≡ true
+made_grows recorded key bytes Nothing h = h
+made_grows recorded key bytes (Keep flags expiry) h = refl
+made_grows recorded key bytes (Made made flags expiry) h = refl
+made_grows recorded key bytes (Renew expiry) h = absurd (true≢false (sym h))
+made_grows recorded key bytes Tomb h = absurd (true≢false (sym h))
+
+-- a delete that wanted memory is of a key that has no record
+pub delete_grows : (site : Site) (key : List ℕ) → (HasRecord site key → ⊥) → list_any (is_growth (recorded_in site)) (issues.Delete key ∷ []) ≡ true
+delete_grows site key none = by ((state_in site).map key) refl
+  where
+    by : (r : Record) → (state_in site).map key ≡ r → list_any (is_growth (recorded_in site)) (issues.Delete key ∷ []) ≡ true
+    by (None, None) is = ap (λ (r : Record). not (has_register r) || false) is
+    by (Some x, o) is = absurd (none (λ e. none_some (ap (λ (r : Record). r.0) (sym e ∙ is))))
+    by (None, Some y) is = absurd (none (λ e. none_some (ap (λ (r : Record). r.1) (sym e ∙ is))))
 
 pub and_false : (b : Bool) → b && false ≡ false
 and_false true = refl
@@ -185,8 +196,8 @@ module _ (old new : Site) (now : ℕ) (request : Request) (key bytes : List ℕ)
       refused ClockEnded e h = inl (e ∙ sym (owed_by false true (crowded_is old now key bytes v.1 h.0 ∙ h.2.0) (lacks_is old now key bytes v.1 h.0 ∙ ended (clock_of (state_in old)) h.2.1)))
       refused Memory e h = inr (
         e,
-        wants (list_any is_growth (issued now (visible_in (state_in old) now) request)) (shows_values request) (is_crowded (basis_in old now) (issued now (visible_in (state_in old) now) request)) (lacks (clock_of (state_in old)) (issued now (visible_in (state_in old) now) request))
-            (ap (list_any is_growth) issued_is ∙ h.1 refl)
+        wants (list_any (is_growth (basis_in old now).recorded) (issued now (visible_in (state_in old) now) request)) (shows_some now (visible_in (state_in old) now) request) (is_crowded (basis_in old now) (issued now (visible_in (state_in old) now) request)) (lacks (clock_of (state_in old)) (issued now (visible_in (state_in old) now) request))
+            (ap (list_any (is_growth (basis_in old now).recorded)) issued_is ∙ h.1 refl)
             (ap (is_crowded (basis_in old now)) issued_is ∙ crowded_is old now key bytes v.1 h.0 ∙ h.2.0)
             (ap (lacks (clock_of (state_in old))) issued_is ∙ lacks_is old now key bytes v.1 h.0 ∙ later (clock_of (state_in old)) h.2.1),
       )

@@ -191,7 +191,7 @@ module _ (old new : Site) (now : ℕ) (exptime : ℤ) (keys : List (List ℕ)) (
   touch_answers = elim does [
     | inl (inl d) ↦ inl (d.0 ∙ sym (owed_by false d.1))
     | inl (inr d) ↦ inl (d.0 ∙ sym (owed_by true d.1))
-    | inr d ↦ inr (d.0, (λ i. some_or (list_any is_growth (touches_of (expiry_at exptime now) (touched_in old now (expiry_at exptime now) keys numbers))) true refl i && not (crowded i) && not (d.1 i)))
+    | inr d ↦ inr (d.0, (λ i. some_or (list_any (is_growth (basis_in old now).recorded) (touches_of (expiry_at exptime now) (touched_in old now (expiry_at exptime now) keys numbers))) true refl i && not (crowded i) && not (d.1 i)))
   ]
 
   -- what is shown is touched
@@ -216,5 +216,5 @@ module _ (old new : Site) (now : ℕ) (keys : List (List ℕ)) (numbers : Bool) 
   pub fetch_answers : Answers now (basis_in old now) (Fetch keys numbers) said
   fetch_answers = elim does.2 [
     | inl d ↦ inl (d.0 ∙ sym (ap (λ t. cond {A = Reply} t MapFull (Values (fetched old now keys numbers))) (and_false (basis_in old now).full)))
-    | inr d ↦ inr (d.0, ap (λ t. not t && true) (and_false (basis_in old now).full))
+    | inr d ↦ inr (d.0, (λ i. d.3 i && not (and_false (basis_in old now).full i) && true))
   ]

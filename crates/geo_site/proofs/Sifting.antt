@@ -21,7 +21,12 @@ use Rattle.geo_delta.proofs.Tracing.{traced_on}
 use Rattle.geo_site.specs.Entries.{Held, names}
 use Rattle.geo_site.specs.Machine.{knows_record, knows_floor, Covers, EndsFrom, Settled}
 use Rattle.geo_delta.specs.declared.parcel.Parcel.{Parcel}
-use Rattle.geo_site.specs.Sites.{knows_all, is_sound}
+use Rattle.geo_site.specs.Sites.{knows_all, is_sound, brings_new}
+use Rattle.geo_site.specs.declared.site.Site.{Site}
+use Rattle.geo_versions.specs.declared.versions.Versions.{Versions}
+use Rattle.geo_versions.specs.Maps.{record_in, HasRoomFor}
+use Rattle.geo_lattice.specs.Maps.{meaning_or}
+use Rattle.std.specs.List.{list_any}
 use Rattle.geo_site.proofs.Records.{time_of}
 
 none_some : {V : Type 0} {x : V} → None ≡ Some x → ⊥
@@ -96,6 +101,33 @@ listed_sifted h (e ∷ es) q = by (has_register (rec_means (rec_recent h e.1))) 
         → listed_at (cond b ((e.0, rec_recent h e.1) ∷ sifted h es) (sifted h es)) q ≡ recent_both h (cond {A = Record} (same_key q e.0) (record_joined (rec_means e.1) (listed_at es q)) (listed_at es q))
     by true is rest = kept (same_key q e.0) rest
     by false is rest = left_out (same_key q e.0) is rest
+
+-- none is missing where each has a record
+pub none_missing : (v : Versions) (es : List (List ℕ × Rec)) → list_any (λ e. not (has_register (record_in v e.0))) es ≡ false → missing same_key v.records.entries es ≡ 0
+none_missing v [] h = refl
+none_missing v (e ∷ es) h =
+    let b = both (not (has_register (record_in v e.0))) (list_any (λ e. not (has_register (record_in v e.0))) es) h in
+    let rest = none_missing v es b.1 in
+    let here = there (lookup (same_key e.0) v.records.entries) refl b.0 in
+    let is : missing same_key v.records.entries (e ∷ es) ≡ cond {A = ℕ} (not (is_some (lookup (same_key e.0) v.records.entries))) 1 0 + missing same_key v.records.entries es = sum_by-cons (λ (x : List ℕ × Rec). cond (not (is_some (lookup (same_key x.0) v.records.entries))) 1 0) e es in
+    let one : ◌≡◌ {A = ℕ} (cond (not (is_some (lookup (same_key e.0) v.records.entries))) 1 0) 0 = ap (λ t. cond {A = ℕ} (not t) 1 0) here in
+    omega (arith, rest, is, one)
+  where
+    both : (a b : Bool) → a || b ≡ false → (a ≡ false) × (b ≡ false)
+    both true b h = absurd (true≢false h)
+    both false b h = (refl, h)
+
+    there : (o : Option Rec) → lookup (same_key e.0) v.records.entries ≡ o → not (has_register (record_in v e.0)) ≡ false → is_some (lookup (same_key e.0) v.records.entries) ≡ true
+    there None is h = absurd (true≢false (ap (λ (o : Option Rec). not (has_register (meaning_or (None, None) rec_means o))) (sym is) ∙ h))
+    there (Some r) is h = ap is_some is
+
+-- so a parcel for which there was no room brings a new one
+pub brings : (site : Site) (parcel : Parcel) → (HasRoomFor site.versions parcel.records → ⊥) → brings_new site parcel ≡ true
+brings site parcel none = by (brings_new site parcel) refl
+  where
+    by : (t : Bool) → brings_new site parcel ≡ t → brings_new site parcel ≡ true
+    by true e = e
+    by false e = absurd (none (let m = none_missing site.versions parcel.records e in omega (arith, m)))
 
 -- fewer keys are missing
 pub missing_sifted : {V : Type 0} (h : ℕ) (mine : List (List ℕ × V)) (es : List (List ℕ × Rec)) → missing same_key mine (sifted h es) ≤ missing same_key mine es

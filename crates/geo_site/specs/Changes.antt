@@ -92,11 +92,15 @@ accesses_of key (Made made flags expiry) = []
 accesses_of key (Renew expiry) = key ∷ []
 accesses_of key Tomb = []
 
--- memory is wanted to write and to delete alone
+-- memory is wanted to write, and to delete a key that has no record
 abbrev pub is_memory : WriteError → Bool
 is_memory MapFull = false
 is_memory ClockEnded = false
 is_memory Memory = true
+
+-- whether it has a record of a key
+abbrev pub recorded_in : Site → List ℕ → Bool
+recorded_in site key = has_register ((state_in site).map key)
 
 -- what becomes of a site by an effect on a key, by its result
 abbrev pub EffectDoes : Site → Site → List ℕ → List ℕ → Effect → Result (Unit {0}) WriteError → Type 0
@@ -104,7 +108,7 @@ EffectDoes old new key bytes effect (Ok done) = (is_some_act (acts_of key bytes 
     × HasIssuedAfter (accesses_of key effect) old new (acts_of key bytes effect)
     × (counts_in new ≡ evicted_on (victim_in old (acts_of key bytes effect)) (counts_in old)) × FirstVictimFits old (acts_of key bytes effect)
 EffectDoes old new key bytes effect (Err why) = (is_some_act (acts_of key bytes effect) ≡ true)
-    × (is_memory why ≡ true → list_any is_growth (acts_of key bytes effect) ≡ true) × WriteRefuses old key why
+    × (is_memory why ≡ true → list_any (is_growth (recorded_in old)) (acts_of key bytes effect) ≡ true) × WriteRefuses old key why
     × Same (state_in old) (state_in new) × (counts_in new ≡ counts_in old)
 
 -- what is told of an effect beside the reply

@@ -260,35 +260,40 @@ owed now basis request =
     else (if lacks basis.clock acts then reply.ClockEnded
     else replied now basis.visible basis.stats request)
 
--- memory is wanted to write and to delete, and to show values
-abbrev pub shows_values : Request → Bool
-shows_values (request.Store verb key flags exptime unique bytes noreply) = false
-shows_values (request.Fetch keys numbers) = true
-shows_values (request.FetchTouch exptime keys numbers) = true
-shows_values (request.Delete key noreply) = false
-shows_values (request.Touch key exptime noreply) = false
-shows_values (request.Arith up key by noreply) = false
-shows_values (request.FlushAll delay noreply) = false
-shows_values request.ShowVersion = false
-shows_values (request.Verbosity noreply) = false
-shows_values request.Stats = false
-shows_values request.Quit = false
+-- memory is wanted to show values that are found; a fetch that touches may want it in any case
+abbrev pub is_some_found : List Found → Bool
+is_some_found [] = false
+is_some_found (f ∷ found) = true
+
+abbrev pub shows_some : ℕ → Visible → Request → Bool
+shows_some now visible (request.Store verb key flags exptime unique bytes noreply) = false
+shows_some now visible (request.Fetch keys numbers) = is_some_found (found_of numbers visible keys)
+shows_some now visible (request.FetchTouch exptime keys numbers) = true
+shows_some now visible (request.Delete key noreply) = false
+shows_some now visible (request.Touch key exptime noreply) = false
+shows_some now visible (request.Arith up key by noreply) = false
+shows_some now visible (request.FlushAll delay noreply) = false
+shows_some now visible request.ShowVersion = false
+shows_some now visible (request.Verbosity noreply) = false
+shows_some now visible request.Stats = false
+shows_some now visible request.Quit = false
 
 abbrev pub is_some_act : List Act → Bool
 is_some_act [] = false
 is_some_act (act ∷ acts) = true
 
-abbrev pub is_growth : Act → Bool
-is_growth (Write key bytes flags expiry) = true
-is_growth (Delete key) = true
-is_growth (Touch key expiry) = false
-is_growth Flush = false
+-- an act wants memory: a write does, and a delete of a key that has no record
+abbrev pub is_growth : (List ℕ → Bool) → Act → Bool
+is_growth recorded (Write key bytes flags expiry) = true
+is_growth recorded (Delete key) = not (recorded key)
+is_growth recorded (Touch key expiry) = false
+is_growth recorded Flush = false
 
 -- want of memory comes after every other refusal, and never where no memory is wanted
 abbrev pub may_want_memory : ℕ → Basis → Request → Bool
 may_want_memory now basis request =
     let acts = issued now basis.visible request in
-    (list_any is_growth acts || shows_values request) && not (is_crowded basis acts) && not (lacks basis.clock acts)
+    (list_any (is_growth basis.recorded) acts || shows_some now basis.visible request) && not (is_crowded basis acts) && not (lacks basis.clock acts)
 
 -- the reply is the one that is owed, or want of memory where it may be wanted
 abbrev pub Answers : ℕ → Basis → Request → Reply → Type 0

@@ -1,6 +1,6 @@
 -- What a site of the code is, as a state of the machine, and what a parcel of the code brings.
 use Rattle.std.specs.Prelude.{IsTrue, ◌↔◌, ◌≡◌, ◌≢◌, ◌⊎◌, [], ◌∷◌, ℕ, ◌+◌, ◌-◌, ◌≤◌, ◌<◌, Bool, true, false, cond, not, ◌&&◌, ◌==◌, nat_le, List, length, Option, None, Some, IsSome, is_some, Result, Ok, Err}
-use Rattle.std.specs.List.{All, list_all}
+use Rattle.std.specs.List.{All, list_all, list_any}
 use Rattle.std.specs.declared.alloc.AllocError.{AllocError}
 use Rattle.geo_slabs.specs.Storage.{class_count, most_pages}
 use Rattle.geo_lru.specs.Rules.{juggled_by}
@@ -37,7 +37,7 @@ use Rattle.geo_site.specs.declared.refusal.TakeError.TheVariants as takes
 use Rattle.geo_grammar.specs.declared.reply.Reply.{Reply}
 use Rattle.geo_grammar.specs.declared.reply.Reply.TheVariants.{Values, ClockEnded, OutOfMemory}
 use Rattle.geo_grammar.specs.declared.reply.Found.{Found}
-use Rattle.geo_site.specs.Entries.{Basis, Counts, none_counted, counted_on, counted, evicted_on, accesses, keys_found, issued, found_of, touched_of, touches_of, waits_after, lacks, due_acts, waits_on, flushes_due, is_stuck, is_reapable, reap_acts, Answers, is_done, made_on}
+use Rattle.geo_site.specs.Entries.{Basis, Counts, none_counted, counted_on, counted, evicted_on, accesses, keys_found, issued, found_of, touched_of, touches_of, waits_after, lacks, is_some_found, due_acts, waits_on, flushes_due, is_stuck, is_reapable, reap_acts, Answers, is_done, made_on}
 use Rattle.geo_site.specs.Machine.{SiteState, Delta, accessed, with_stock, victim_by, VictimFits, Same, fresh, issue_all, take, sifted_delta, removed, clock_of, visible_in, knows_record, knows_floor, IsRecordCount, IsHeldCount}
 
 -- a site as a state
@@ -158,7 +158,7 @@ Stays old new = (new.number ≡ old.number) × (limits_of new ≡ limits_of old)
 abbrev pub Rests : Site → Site → Type 0
 Rests old new = (counts_in new ≡ counts_in old) × (waiting_in new ≡ waiting_in old)
 
--- what a fetch does, by its reply: it shows what is found and counts it, or memory was wanted and nothing is counted
+-- what a fetch does, by its reply: it shows what is found and counts it, or memory was wanted to show it and nothing is counted
 abbrev pub fetched : Site → ℕ → List (List ℕ) → Bool → List Found
 fetched site now keys numbers = found_of numbers (visible_in (state_in site) now) keys
 
@@ -168,7 +168,8 @@ FetchDoes old new now keys numbers reply =
     × (((reply ≡ Values (fetched old now keys numbers))
     × Same (accessed (keys_found (fetched old now keys numbers)) (state_in old)) (state_in new)
     × (let found = length (fetched old now keys numbers) in counts_in new ≡ counted_on (counts_in old) found (length keys - found)))
-    ⊎ ((reply ≡ OutOfMemory) × Same (state_in old) (state_in new) × (counts_in new ≡ counts_in old)))
+    ⊎ ((reply ≡ OutOfMemory) × Same (state_in old) (state_in new) × (counts_in new ≡ counts_in old)
+    × (is_some_found (fetched old now keys numbers) ≡ true)))
 
 -- what a fetch that touches does, by its reply: it shows what is found and touches each of that, or it is refused and changes
 -- nothing
@@ -287,13 +288,17 @@ abbrev pub Takes : Site → Parcel → Type 0
 Takes site parcel = (parcel.to ≡ site.number) × (is_sound (length site.vector) site.number parcel ≡ true)
     × (vector_joined site.vector parcel.base ≡ site.vector)
 
--- why it does not, tested in this order; want of memory comes last
+-- it brings a record of a key that has none
+abbrev pub brings_new : Site → Parcel → Bool
+brings_new site parcel = list_any (λ e. not (has_register ((state_in site).map e.0))) parcel.records
+
+-- why it does not, tested in this order; want of memory comes last, and only for a key that has no record yet
 abbrev pub RefusesFor : Site → Parcel → TakeError → Type 0
 RefusesFor site parcel NotForMe = parcel.to ≢ site.number
 RefusesFor site parcel UnknownSite = (parcel.to ≡ site.number) × (is_sound (length site.vector) site.number parcel ≡ false)
 RefusesFor site parcel Gap = (parcel.to ≡ site.number) × (is_sound (length site.vector) site.number parcel ≡ true)
     × (vector_joined site.vector parcel.base ≢ site.vector)
-RefusesFor site parcel takes.Memory = Takes site parcel
+RefusesFor site parcel takes.Memory = Takes site parcel × (brings_new site parcel ≡ true)
 
 -- what a take does, by its result
 abbrev pub TakeDoes : Site → Site → Parcel → Result Taken Refused → Type 0

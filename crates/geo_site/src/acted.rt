@@ -1,5 +1,5 @@
 //! What a command leaves beside its reply.
-ghost use Rattle.std.specs.Prelude.{◌≡◌, true, None, IfOk};
+ghost use Rattle.std.specs.Prelude.{◌≡◌, ◌≢◌, [], true, None, IfOk, IfErr};
 ghost use Rattle.geo_grammar.specs.Replies.{is_short};
 ghost use Rattle.geo_grammar.specs.declared.reply.Reply.TheVariants.{Values, OutOfMemory};
 ghost use Rattle.geo_site.specs.Sites.{twice, TellsPlain};
@@ -56,18 +56,33 @@ fn twice_short(with_copies: bool, reply: &Reply) -> Option<(Reply, Reply)>
     }
 }
 
+/// The same values once more, which share the memory. Where there is none it takes none.
+fn once_more(alloc: Global, found: &Shared<Found>) -> Result<Shared<Found>, AllocError>
+    ensures same { IfOk result (λ copy. copy ≡ found.now) }
+    ensures memory { IfErr result (λ _. found.now ≢ []) }
+{
+    if found.as_slice().is_empty() {
+        return match Shared::of(alloc, Vec::new(alloc)) {
+            Ok(none) => Ok(none),
+            Err(_) => unreachable!(),
+        };
+    }
+    found.twin(alloc)
+}
+
 /// A reply that shows these values twice more, where that is wanted. All share the values.
 pub(crate) fn twice_values(
     alloc: Global,
     with_copies: bool,
     found: &Shared<Found>,
 ) -> Result<Option<(Reply, Reply)>, AllocError>
-    ensures { IfOk result (λ copies. copies ≡ twice with_copies (Values found.now)) }
+    ensures copies { IfOk result (λ copies. copies ≡ twice with_copies (Values found.now)) }
+    ensures memory { IfErr result (λ _. found.now ≢ []) }
 {
     if !with_copies {
         return Ok(None);
     }
-    let (one, two) = (found.twin(alloc)?, found.twin(alloc)?);
+    let (one, two) = (once_more(alloc, found)?, once_more(alloc, found)?);
     Ok(Some((Reply::Values(one), Reply::Values(two))))
 }
 

@@ -272,7 +272,8 @@ impl Site {
         Taken { rose, dropped }
     }
 
-    /// Joins what a parcel tells. A refusal hands the parcel back whole and changes nothing.
+    /// Joins what a parcel tells. A refusal hands the parcel back whole and changes nothing. Memory is wanted only where the parcel brings
+    /// a record of a key that has none.
     pub fn take(&mut self, alloc: Global, parcel: Parcel) -> Result<Taken, Refused>
         ensures does { TakeDoes self.old self.new parcel result }
         ensures rests { Rests self.old self.new }

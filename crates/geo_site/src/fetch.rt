@@ -1,7 +1,7 @@
 //! How a site looks keys up.
-ghost use Rattle.std.specs.Prelude.{◌≡◌, ◌++◌, ℕ, List, length, IfOk, option_to_list, cond};
+ghost use Rattle.std.specs.Prelude.{◌≡◌, ◌++◌, ℕ, List, length, IfOk, IfErr, option_to_list, cond, true};
 ghost use Rattle.std.specs.Option.{option_map};
-ghost use Rattle.geo_site.specs.Entries.{found_at, found_of, keys_found, is_done, counted_on};
+ghost use Rattle.geo_site.specs.Entries.{found_at, found_of, is_some_found, keys_found, is_done, counted_on};
 ghost use Rattle.geo_site.specs.Machine.{Same, accessed, visible_in};
 ghost use Rattle.geo_site.specs.Sites.{state_in, counts_in, limits_of, waiting_in, Rests, Stays, FetchDoes, TellsPlain, reply_in};
 
@@ -57,8 +57,10 @@ impl Site {
         key: &Key,
         numbers: bool,
     ) -> Result<Option<(usize, Found)>, AllocError>
-        ensures { IfOk result (λ looked. option_to_list (option_map (λ l. l.1) looked)
+        ensures looked { IfOk result (λ looked. option_to_list (option_map (λ l. l.1) looked)
             ≡ found_at numbers key.now (visible_in (state_in self.now) now key.now)) }
+        ensures memory { IfErr result (λ _. is_some_found (found_at numbers key.now (visible_in (state_in self.now) now key.now))
+            ≡ true) }
     {
         let Some((place, entry)) = self.placed(now, key) else {
             return Ok(None);
@@ -81,7 +83,8 @@ impl Site {
         keys: &[Key],
         numbers: bool,
     ) -> Result<(Vec<Found>, Places), AllocError>
-        ensures { IfOk result (λ found. found.0.items ≡ found_of numbers (visible_in (state_in self.now) now) keys.now) }
+        ensures found { IfOk result (λ found. found.0.items ≡ found_of numbers (visible_in (state_in self.now) now) keys.now) }
+        ensures memory { IfErr result (λ _. is_some_found (found_of numbers (visible_in (state_in self.now) now) keys.now) ≡ true) }
     {
         let mut all = Vec::new(alloc);
         let mut places = Places::new(alloc);

@@ -222,7 +222,7 @@ module _ (sites : List Site) (parcels : List Parcel) (w : Known) (agrees : Agree
       by NotForMe r st c = λ e. r (c.addressee ∙ e ∙ sym st.own)
       by UnknownSite r st c = absurd (true≢false (sym (sound_parcel (length old.vector) old.number w.at parcel _ (subst (λ n. Carries n w.at parcel (slice_index_or w.sent p (0, []))) (sym st.state.many) c) r.0) ∙ r.1))
       by Gap r st c = absurd (r.2 (subst (λ v. IsAbove v parcel.base) (vector_was sites k s at_number hi old new got) (subst (λ t. IsAbove (vectors sites t) parcel.base) (r.0 ∙ st.own) (agrees.bounds.sent_base p parcel got_parcel))))
-      by takes.Memory r st c = sym c.addressee ∙ r.0 ∙ st.own
+      by takes.Memory r st c = sym c.addressee ∙ r.0.0 ∙ st.own
 
   pub refused_agrees : (why : TakeError) → Same (state_in old) (state_in new) → heard_in new ≡ heard_in old → Agrees (slice_set sites k new) parcels (happens w (Take s p) (TakeRefused why))
   refused_agrees why same heard_now =

@@ -1,5 +1,5 @@
 -- No event gives a site pages or takes any: a class gets one only from the spare ones.
-use Rattle.std.proofs.Common.{◌≡◌, ◌≢◌, ◌⊎◌, ℕ, zero, suc, ◌+◌, ◌-◌, ◌<◌, ◌≤◌, Bool, true, false, cond, nat_eq, nat_lt, nat_le, List, [], ◌∷◌, length, Option, None, Some, Ok, Err, refl, sym, ap, ◌∙◌, subst, arith, slice_get, inl, inr, true≢false}
+use Rattle.std.proofs.Common.{◌≡◌, ℕ, zero, suc, ◌+◌, ◌-◌, ◌<◌, ◌≤◌, Bool, true, false, cond, nat_eq, nat_le, List, [], ◌∷◌, length, Option, None, Some, Ok, Err, refl, sym, ap, ◌∙◌, subst, arith, inl, inr}
 use Rattle.std.specs.Option.{option_map_or}
 use Rattle.std.proofs.lemmas.Bool.{cases_eq}
 use Rattle.std.proofs.lemmas.Bool.Decides.{nat_tests, eqb_tells}
@@ -13,7 +13,7 @@ use Rattle.geo_site.specs.declared.setup.Setup.{Setup}
 use Rattle.geo_site.specs.declared.event.Event.{Event}
 use Rattle.geo_site.specs.declared.event.Event.TheVariants.{Command, Evict, Send, Take, Remove, Tick, Reap}
 use Rattle.geo_site.specs.declared.event.Trace.{Trace}
-use Rattle.geo_site.specs.declared.event.Trace.TheVariants.{Replied, Evicted, Sent, SendRefused, Taken, TakeRefused, Removed, Ticked, Reaped, ReapRefused}
+use Rattle.geo_site.specs.declared.event.Trace.TheVariants.{Replied, Evicted, Taken, TakeRefused, Removed, Ticked, Reaped, ReapRefused}
 use Rattle.geo_site.specs.declared.refusal.ReapError.{ReapError}
 use Rattle.geo_site.specs.declared.refusal.ReapError.TheVariants.{ClockEnded, Memory}
 use Rattle.geo_grammar.specs.declared.request.Request.{Request}
@@ -21,7 +21,7 @@ use Rattle.geo_grammar.specs.declared.reply.Reply.{Reply}
 use Rattle.std.specs.Prelude.{Result}
 use Rattle.geo_site.specs.Entries.{is_done, is_stuck, due_acts, accesses}
 use Rattle.geo_site.specs.Machine.{SiteState, fresh, Same, visible_in, with_stock, take, sifted_delta, removed, class_from, class_for, act_stock, hit_all, accessed, issue, issue_all}
-use Rattle.geo_site.specs.Sites.{state_in, waiting_in, clock_in, issued_in, reaped_in, horizon_in, delta_of, HasIssuedAfter, FlushDoes, RequestDoes, RequestDoesBy, ReapResult, TakeDoes, OpenDoes}
+use Rattle.geo_site.specs.Sites.{state_in, waiting_in, clock_in, issued_in, reaped_in, horizon_in, delta_of, HasIssuedAfter, FlushDoes, RequestDoes, RequestDoesBy, ReapResult}
 use Rattle.geo_world.specs.Doing.{pages_below, pages_of, DoesThere, DoesAlone, EachAlone, EachOpens, HavePages, site_of}
 use Rattle.geo_world.proofs.Worlds.{some_same}
 

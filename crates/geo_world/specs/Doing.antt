@@ -1,5 +1,5 @@
 -- What each event makes of its site, and of no other: what that site's own call says.
-use Rattle.std.specs.Prelude.{Ok, Err, ◌≡◌, ◌≢◌, ℕ, zero, suc, ◌+◌, Bool, true, false, cond, List, [], ◌∷◌, length, Option, Some, None, slice_get}
+use Rattle.std.specs.Prelude.{Ok, Err, ◌≡◌, ◌≢◌, ℕ, zero, suc, ◌+◌, true, cond, List, [], ◌∷◌, length, Option, Some, None, slice_get}
 use Rattle.geo_records.specs.Operations.{Act}
 use Rattle.geo_records.specs.Operations.Act.{Write, Delete, Touch, Flush}
 use Rattle.geo_slabs.specs.Storage.{class_count}

@@ -1,5 +1,4 @@
-use Rattle.std.proofs.Common.{◌≡◌, length, true, take, List}
-use Rattle.geo_site.specs.declared.site.Site.{Site}
+use Rattle.std.proofs.Common.{◌≡◌, length, true, take}
 use Rattle.geo_world.proofs.Running.{HasRun}
 use Rattle.geo_world.specs.Setups.{are_setups, start}
 use Rattle.geo_world.specs.Tables.{empty_tables}

@@ -4,7 +4,7 @@ use Rattle.geo_memcache.specs.declared.decision.Decision.{Decision}
 use Rattle.geo_site.specs.declared.refusal.WriteError.TheVariants.{Memory}
 use Rattle.geo_site.specs.Machine.{visible_in}
 use Rattle.geo_site.specs.Sites.{state_in, twice}
-use Rattle.geo_site.specs.Changes.{bytes_in, IsShort, IsThere}
+use Rattle.geo_site.specs.Changes.{bytes_in, IsShort, IsThere, recorded_in}
 use Rattle.geo_site.proofs.Acting.{made_acts, made_grows, decided_short, decided_there, decided_done, unchanged}
 use Rattle.geo_site.proofs.Telling.{reply_told}
 use Rattle.geo_site.specs.Entries.{is_done}
@@ -16,12 +16,12 @@ carry_out-requires c = record { short = subst (λ (d : Decision). IsShort d.effe
 pub returns-in-Ok-next_stamp-clause-does : goal.returns-in-Ok-next_stamp-clause-does
 returns-in-Ok-next_stamp-clause-does c =
     let d = decided (visible_in (state_in c.args.self.now) c.args.now c.args.key.now) c.args.now c.args.ask.now in
-    inr (Memory, refl, (made_acts c.args.key.now (bytes_in c.args.ask.now) d.effect c.in_default.ensures.memory, (λ _. made_grows c.args.key.now (bytes_in c.args.ask.now) d.effect c.in_default.ensures.memory), c.in-Ok-next_stamp.ensures.stamp.0, unchanged (state_in c.args.self.now), refl))
+    inr (Memory, refl, (made_acts c.args.key.now (bytes_in c.args.ask.now) d.effect c.in_default.ensures.memory, (λ _. made_grows (recorded_in c.args.self.now) c.args.key.now (bytes_in c.args.ask.now) d.effect c.in_default.ensures.memory), c.in-Ok-next_stamp.ensures.stamp.0, unchanged (state_in c.args.self.now), refl))
 
 pub returns-in-Err-clause-does : goal.returns-in-Err-clause-does
 returns-in-Err-clause-does c =
     let d = decided (visible_in (state_in c.args.self.now) c.args.now c.args.key.now) c.args.now c.args.ask.now in
-    inr (c.in-Err.why, c.refused.ensures.reply, (made_acts c.args.key.now (bytes_in c.args.ask.now) d.effect c.in_default.ensures.memory, (λ _. made_grows c.args.key.now (bytes_in c.args.ask.now) d.effect c.in_default.ensures.memory), c.in-Err.ensures.refused.0, unchanged (state_in c.args.self.now), refl))
+    inr (c.in-Err.why, c.refused.ensures.reply, (made_acts c.args.key.now (bytes_in c.args.ask.now) d.effect c.in_default.ensures.memory, (λ _. made_grows (recorded_in c.args.self.now) c.args.key.now (bytes_in c.args.ask.now) d.effect c.in_default.ensures.memory), c.in-Err.ensures.refused.0, unchanged (state_in c.args.self.now), refl))
 
 pub returns-in-Reply-clause-told : goal.returns-in-Reply-clause-told
 returns-in-Reply-clause-told c =

@@ -12,14 +12,14 @@ use Rattle.geo_site.proofs.site.Site.fetch.Goals as goal
 pub overflow_sub-keys : goal.overflow_sub-keys
 overflow_sub-keys c =
     let m = found_at_most c.args.numbers (visible_in (state_in c.args.self.now) c.args.now) c.args.keys.now in
-    let is = ap length (c.as_slice-hits.ensures ∙ c.in_ok-found.ensures.list ∙ c.in_ok-all.ensures) in
+    let is = ap length (c.as_slice-hits.ensures ∙ c.in_ok-found.ensures.list ∙ c.in_ok-all.ensures.found) in
     omega (arith, m, is)
 
 pub returns-clause-does : goal.returns-clause-does
 returns-clause-does c =
     let old = c.args.self.now in
     let shown = fetched old c.args.now c.args.keys.now c.args.numbers in
-    let is = c.in_ok-found.ensures.list ∙ c.in_ok-all.ensures in
+    let is = c.in_ok-found.ensures.list ∙ c.in_ok-all.ensures.found in
     let hits = subst (λ (found : List Found). Same (accessed (keys_found found) (state_in old)) (state_in c.note_hits.new.self)) (c.as_slice.ensures ∙ is) c.note_hits.ensures.hits in
     let many : length c.as_slice-hits.result.now ≡ length shown = ap length (c.as_slice-hits.ensures ∙ is) in
     let counts = c.note_hits.ensures.rests.0 in

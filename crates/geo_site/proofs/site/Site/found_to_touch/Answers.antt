@@ -20,7 +20,7 @@ loop-index-preserved c =
     let key = c.index-keys-index.result in
     let after = found_after c.args.now c.args.expiry c.args.numbers seen before key in
     let next = touched_next c.args.now c.args.expiry c.args.numbers seen c.args.keys.now c.loop-index.index key c.loop-index-test.true c.index-keys-index.is in
-    let is : after ≡ option_to_list (option_map second c.in_ok-place.field-0) = found_after_one c.args.now c.args.expiry c.args.numbers seen before key (c.is_found.ensures c.args.numbers ∙ ap (λ t. cond {A = ℕ} t 1 0) c.if-not-is_found.false) ∙ sym c.in_ok-place.ensures in
+    let is : after ≡ option_to_list (option_map second c.in_ok-place.field-0) = found_after_one c.args.now c.args.expiry c.args.numbers seen before key (c.is_found.ensures c.args.numbers ∙ ap (λ t. cond {A = ℕ} t 1 0) c.if-not-is_found.false) ∙ sym c.in_ok-place.ensures.looked in
     elim c.match-branch-2.branch [
       | in-Some+in_ok-push+in_ok-push-2 w ↦
           let one : after ≡ w.in-Some.found ∷ [] = is ∙ ap (λ o. option_to_list (option_map second o)) w.in-Some.is in

@@ -1,4 +1,4 @@
-use Rattle.std.proofs.Common.{◌≡◌, ℕ, List, refl, ap, ◌∙◌, subst, arith, length}
+use Rattle.std.proofs.Common.{◌≡◌, ℕ, List, true≢false, refl, sym, ap, ◌∙◌, subst, arith, length}
 use Rattle.geo_site.specs.Sites.{state_in, delta_of, horizon_in, knows_all}
 use Rattle.geo_site.proofs.Stocking.{stock_same}
 use Rattle.geo_site.proofs.Taking.{take_from_same}
@@ -9,7 +9,8 @@ use Rattle.geo_site.proofs.Noting.{traced_same, covers_same, ends_same, named_sa
 use Rattle.geo_values.specs.Held.{stock_in}
 use Rattle.geo_site.specs.Machine.{Delta, Same, take, sifted_delta, knows_floor}
 use Rattle.geo_site.proofs.Rows.{rows_heard}
-use Rattle.geo_site.proofs.Sifting.{sound_from, listed_sifted, missing_sifted, knows_sifted, sound_records}
+use Rattle.geo_site.proofs.Sifting.{brings, sound_from, listed_sifted, missing_sifted, knows_sifted, sound_records}
+use Rattle.std.specs.Result.{is_ok}
 use Rattle.geo_site.proofs.site.Site.take.Goals as goal
 
 pub returns-clause-does : goal.returns-clause-does
@@ -75,3 +76,14 @@ join-requires-clause-records_known c =
     let s = c.args.self.now in
     let p = c.args.parcel in
     ap (knows_all p.upto) c.sifted-records.ensures ∙ knows_sifted p.upto (horizon_in s) p.records (sound_records (length s.vector) s.number p c.in_default.ensures.1)
+
+pub returns-in-Err-clause-does : goal.returns-in-Err-clause-does
+returns-in-Err-clause-does c =
+    let s = c.args.self.now in
+    let p = c.args.parcel in
+    let ready = c.ready_records.ensures in (
+      (c.in_default.ensures, brings s p (λ room. true≢false (sym (ready.succeeds (subst (λ es. HasRoomFor s.versions es) (sym c.as_slice.ensures) room)) ∙ ap is_ok c.in-Err.is))),
+      refl,
+      record { vector = refl; floor = ready.floor; map = ready.records; stock = stock_same _ },
+      refl,
+    )
