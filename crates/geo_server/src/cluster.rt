@@ -115,7 +115,7 @@ fn wired<R, W: Wires<R>>(
 }
 
 /// What each site is run with.
-fn jobs<R: RandomSource, P: Drop, Q: Drop>(
+fn jobs<R: Net + RandomSource, P: Drop, Q: Drop>(
     rt: &R,
     alloc: Global,
     config: &Config,

@@ -1,0 +1,245 @@
+"""The whole program with an allocation refused: worked scripts, and a server whose clients try each command. tests/memory runs it.
+
+A script's output is a beginning of what it writes with memory at hand, with status 3, or all of it with status 0. A server that
+starts answers each request with what is owed or with OUT_OF_MEMORY, or closes the connection and counts that; the next client is
+served; it ends by itself.
+"""
+import os
+import socket
+import subprocess
+import tempfile
+import time
+
+ROOT = os.path.dirname(os.path.dirname(os.path.realpath(__file__)))
+PATIENCE = 30
+OUT_OF_MEMORY = b"SERVER_ERROR out of memory\r\n"
+SESSIONS = 6
+SCRIPTS = [
+    "append_and_incr",
+    "flush_at_a_moment",
+    "gats_touches_what_it_shows",
+    "incr_and_decr",
+    "keys_that_end",
+    "removal_and_a_late_parcel",
+    "sifted_parcel_brings_news",
+    "stats_of_a_site",
+    "two_sites_and_a_tie",
+    "what_another_site_holds_is_missing_here",
+]
+
+
+def refusing(library, after, number, later):
+    words = {"LD_PRELOAD": library, "REFUSE_AFTER": after, "REFUSE_AT": str(number), "REFUSE_FROM": "1" if later else "0"}
+    return {**os.environ, **words}
+
+
+class Script:
+    """A worked script, read from standard input."""
+
+    def __init__(self, program, library, name):
+        self.program, self.library, self.name = program, library, f"script {name}"
+        with open(f"{ROOT}/crates/geo_worked/data/{name}.script", "rb") as file:
+            self.text = file.read()
+        self.whole, _ = self.run(0, False)
+
+    def run(self, number, later):
+        """Its status with its output, and how many allocations were counted and refused."""
+        with tempfile.NamedTemporaryFile() as report:
+            env = {**refusing(self.library, "read", number, later), "REFUSE_REPORT": report.name}
+            done = subprocess.run([self.program, "script"], input=self.text, capture_output=True, timeout=PATIENCE, env=env)
+            return (done.returncode, done.stdout, done.stderr), counts_in(report)
+
+    def try_one(self, number, later):
+        (status, output, errors), (_, refused) = self.run(number, later)
+        if (status, output, errors) == self.whole:
+            return refused, None
+        if status == 3 and not errors and self.whole[1].startswith(output):
+            return refused, None
+        return refused, f"status {status}, {len(output)} bytes of {len(self.whole[1])}, {errors!r}"
+
+
+def counts_in(report):
+    told = report.read().split()
+    return (int(told[0]), int(told[1])) if len(told) == 2 else (0, 0)
+
+
+class Closed(Exception):
+    """The server closed the connection."""
+
+
+class Wrong(Exception):
+    """What no server may answer."""
+
+
+class Client:
+    def __init__(self, port):
+        self.socket = socket.create_connection(("127.0.0.1", port), timeout=PATIENCE)
+        self.socket.setsockopt(socket.IPPROTO_TCP, socket.TCP_NODELAY, 1)
+
+    def reply(self, owed):
+        """As many bytes as are owed, or the words that memory was wanted."""
+        came = b""
+        while came != OUT_OF_MEMORY and len(came) < len(owed):
+            try:
+                more = self.socket.recv(65536)
+            except ConnectionError:
+                more = b""
+            if not more:
+                if not owed.startswith(came) and not OUT_OF_MEMORY.startswith(came):
+                    raise Wrong(f"{came!r} in place of {owed!r}")
+                raise Closed
+            came += more
+            if not owed.startswith(came) and not OUT_OF_MEMORY.startswith(came):
+                raise Wrong(f"{came!r} in place of {owed!r}")
+        return came
+
+    def ask(self, line, owed):
+        """Asks until memory is there, three times at most."""
+        for _ in range(3):
+            try:
+                self.socket.sendall(line)
+            except ConnectionError:
+                raise Closed from None
+            if self.reply(owed) == owed:
+                return True
+        return False
+
+    def close(self):
+        self.socket.close()
+
+
+def conversation(key):
+    """Each command once, with what it is owed where each before it was carried out."""
+    k = key
+    return [
+        (b"set %s 3 0 2\r\nhi\r\n" % k, b"STORED\r\n"),
+        (b"get %s\r\n" % k, b"VALUE %s 3 2\r\nhi\r\nEND\r\n" % k),
+        (b"get %sx\r\n" % k, b"END\r\n"),
+        (b"add %s 0 0 1\r\nz\r\n" % k, b"NOT_STORED\r\n"),
+        (b"add %sn 0 0 1\r\n7\r\n" % k, b"STORED\r\n"),
+        (b"replace %s 4 0 3\r\nold\r\n" % k, b"STORED\r\n"),
+        (b"append %s 0 0 1\r\n!\r\n" % k, b"STORED\r\n"),
+        (b"prepend %s 0 0 1\r\n?\r\n" % k, b"STORED\r\n"),
+        (b"get %s %sn\r\n" % (k, k), b"VALUE %s 4 5\r\n?old!\r\nVALUE %sn 0 1\r\n7\r\nEND\r\n" % (k, k)),
+        (b"incr %sn 5\r\n" % k, b"12\r\n"),
+        (b"decr %sn 2\r\n" % k, b"10\r\n"),
+        (b"touch %s 1000\r\n" % k, b"TOUCHED\r\n"),
+        (b"gat 1000 %s\r\n" % k, b"VALUE %s 4 5\r\n?old!\r\nEND\r\n" % k),
+        (b"cas %s 0 0 1 1\r\nz\r\n" % k, b"EXISTS\r\n"),
+        (b"delete %s\r\n" % k, b"DELETED\r\n"),
+        (b"get %s\r\n" % k, b"END\r\n"),
+        (b"verbosity 1\r\n", b"OK\r\n"),
+        (b"version\r\n", b"VERSION 1.0.0\r\n"),
+        (b"set %s 0 0 20000\r\n%s\r\n" % (k, b"v" * 20000), b"STORED\r\n"),
+        (b"get %s\r\n" % k, b"VALUE %s 0 20000\r\n%s\r\nEND\r\n" % (k, b"v" * 20000)),
+        (b"no such command\r\n", b"ERROR\r\n"),
+        (b"flush_all\r\n", b"OK\r\n"),
+        (b"get %sn\r\n" % k, b"END\r\n"),
+    ]
+
+
+def free_ports(count):
+    held = [socket.create_server(("127.0.0.1", 0)) for _ in range(count)]
+    ports = [one.getsockname()[1] for one in held]
+    for one in held:
+        one.close()
+    return ports
+
+
+class Server:
+    """Two sites, and a client that tries each command at the first while the second is told of it."""
+
+    def __init__(self, program, library, link):
+        self.program, self.library, self.link, self.name = program, library, link, f"serve over {link}"
+
+    def started(self, number, later, report):
+        ports = free_ports(4)
+        lines = [f"pages = 15\nsessions = {SESSIONS}\nevery = 1\nlink = \"{self.link}\"\n"]
+        for site in (1, 2):
+            peer = f'peer = "127.0.0.1:{ports[site + 1]}"\n' if self.link == "tcp" else ""
+            lines.append(f'[[site]]\nnumber = {site}\nclient = "127.0.0.1:{ports[site - 1]}"\nworkers = 1\n{peer}')
+        file = tempfile.NamedTemporaryFile("w", suffix=".toml")
+        file.write("".join(lines))
+        file.flush()
+        env = {**refusing(self.library, "start", number, later), "REFUSE_REPORT": report.name}
+        pipe = subprocess.PIPE
+        return subprocess.Popen([self.program, "serve", file.name], stdout=pipe, stderr=pipe, env=env), ports, file
+
+    def connect(self, process, port):
+        """A client, or None where the program has ended."""
+        until = time.monotonic() + PATIENCE
+        while process.poll() is None:
+            try:
+                return Client(port)
+            except ConnectionRefusedError:
+                if time.monotonic() > until:
+                    raise Wrong("nobody listens") from None
+                time.sleep(0.002)
+        return None
+
+    def talk(self, process, port):
+        """How many connections were opened, and how many the server closed."""
+        opened = closed = 0
+        for attempt in range(3):
+            client = self.connect(process, port)
+            if client is None:
+                break
+            opened += 1
+            try:
+                for line, owed in conversation(b"k%d" % attempt):
+                    if not client.ask(line, owed):
+                        break
+                client.socket.sendall(b"quit\r\n")
+                client.close()
+                break
+            except (Closed, ConnectionError):
+                closed += 1
+                client.close()
+        return opened, closed
+
+    def use_up(self, process, port, opened):
+        """Opens the connections that are left, so that the program ends."""
+        for _ in range(SESSIONS - opened):
+            client = self.connect(process, port)
+            if client is None:
+                return
+            client.close()
+
+    def run(self, number, later):
+        with tempfile.NamedTemporaryFile() as report:
+            process, ports, file = self.started(number, later, report)
+            with process, file:
+                try:
+                    opened, closed = self.talk(process, ports[0])
+                    self.use_up(process, ports[0], opened)
+                    self.use_up(process, ports[1], 0)
+                    output, errors = process.communicate(timeout=PATIENCE)
+                    return counts_in(report), fault_of(process.returncode, output, errors, closed)
+                except (Wrong, subprocess.TimeoutExpired) as why:
+                    return (0, 1), f"{why}"
+                finally:
+                    process.kill()
+
+    def try_one(self, number, later):
+        (_, refused), fault = self.run(number, later)
+        return refused, fault
+
+
+def fault_of(status, output, errors, closed):
+    """What is wrong with how a server ended, or None."""
+    if errors and not errors.startswith(b"cannot "):
+        return f"status {status}, {errors!r}"
+    if status in (3, 4) and not output:
+        return None
+    if status != 0:
+        return f"status {status}, {output!r}"
+    told = dict(line.split(b" ", 1) for line in output.splitlines())
+    lost = 2 * SESSIONS - int(told[b"sessions"])
+    if closed > int(told[b"faults"]) + lost:
+        return f"{closed} connections were closed: {output!r}"
+    return None if told[b"audit"] == b"sound" else f"{output!r}"
+
+
+def subjects(program, library):
+    """All that is run with an allocation refused."""
+    return [Script(program, library, name) for name in SCRIPTS] + [Server(program, library, link) for link in ("memory", "tcp")]
