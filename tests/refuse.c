@@ -74,8 +74,15 @@ __attribute__((destructor)) static void tell(void) {
     if (file < 0)
         return;
     if (syscall(SYS_write, file, from, (size_t)(end - from)) < 0)
-        _exit(125);
+        syscall(SYS_exit_group, 125);
     close(file);
+}
+
+/* A program with threads ends by it, and no destructor runs. */
+void _exit(int status) {
+    tell();
+    syscall(SYS_exit_group, status);
+    __builtin_unreachable();
 }
 
 static int is_refused(void) {

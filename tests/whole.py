@@ -1,7 +1,7 @@
 """The whole program with an allocation refused: worked scripts, and a server whose clients try each command. tests/memory runs it.
 
 A script's output is a beginning of what it writes with memory at hand, with status 3, or all of it with status 0. A server that
-starts answers each request with what is owed or with OUT_OF_MEMORY, or closes the connection and counts that; the next client is
+starts answers each request with what is owed or that it is out of memory, or closes the connection and counts that; the next client is
 served; it ends by itself.
 """
 import os
@@ -12,7 +12,8 @@ import time
 
 ROOT = os.path.dirname(os.path.dirname(os.path.realpath(__file__)))
 PATIENCE = 30
-OUT_OF_MEMORY = b"SERVER_ERROR out of memory\r\n"
+OUT_OF_MEMORY = b"out of memory\n"
+REFUSED = b"SERVER_ERROR out of memory\r\n"
 SESSIONS = 6
 SCRIPTS = [
     "append_and_incr",
@@ -53,7 +54,7 @@ class Script:
         (status, output, errors), (_, refused) = self.run(number, later)
         if (status, output, errors) == self.whole:
             return refused, None
-        if status == 3 and not errors and self.whole[1].startswith(output):
+        if status == 3 and errors in (b"", OUT_OF_MEMORY) and self.whole[1].startswith(output):
             return refused, None
         return refused, f"status {status}, {len(output)} bytes of {len(self.whole[1])}, {errors!r}"
 
@@ -79,17 +80,17 @@ class Client:
     def reply(self, owed):
         """As many bytes as are owed, or the words that memory was wanted."""
         came = b""
-        while came != OUT_OF_MEMORY and len(came) < len(owed):
+        while came != REFUSED and len(came) < len(owed):
             try:
                 more = self.socket.recv(65536)
             except ConnectionError:
                 more = b""
             if not more:
-                if not owed.startswith(came) and not OUT_OF_MEMORY.startswith(came):
+                if not owed.startswith(came) and not REFUSED.startswith(came):
                     raise Wrong(f"{came!r} in place of {owed!r}")
                 raise Closed
             came += more
-            if not owed.startswith(came) and not OUT_OF_MEMORY.startswith(came):
+            if not owed.startswith(came) and not REFUSED.startswith(came):
                 raise Wrong(f"{came!r} in place of {owed!r}")
         return came
 

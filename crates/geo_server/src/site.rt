@@ -19,15 +19,14 @@ use geo_station::{Seat, Station};
 use geo_tally::{Counter, Tally, TallySeat};
 use mio::{Poll, Waker};
 use std::alloc::{AllocError, Global};
-use std::io;
 use std::marker::Brand;
 use std::net::{Net, TcpListener, TcpStream};
-use std::rt;
 use std::sync::Wait;
 use std::sync::atomic::{AtomicU64, Ordering};
 use std::sync::ledger::{Blank, Ledger};
 use std::thread::{Threads, join, map_vec};
 use std::time::Duration;
+use std::{io, rt};
 
 /// What the threads of all sites share.
 #[derive(Drop)]
@@ -416,8 +415,14 @@ pub(crate) fn run_site<
     G: Gate,
 >(rt: &R, alloc: Global, shared: &Shared<'_, G>, job: Job<P, Q>) -> Result<Ended, ClusterFault> {
     let seats = seats_of(&job);
-    let ended =
-        run_named::<R, Brand, P, Q, G>(rt, alloc, shared, Blank::new(seats as u64), seats, job);
+    let ended = run_named::<R, Brand, P, Q, G>(
+        rt,
+        alloc,
+        shared,
+        Blank::new(seats as u64),
+        seats,
+        job,
+    );
     if ended.is_err() {
         shared.start.abandon();
     }

@@ -12,7 +12,7 @@ use std::sync::Wait;
 use std::sync::atomic::{AtomicU64, Ordering};
 use std::time::Duration;
 
-/// For how many milliseconds a peer port is left alone where nobody waits at it.
+/// For how many milliseconds a peer port is left alone where nobody waits at it, or where memory was refused for what comes.
 const PAUSE: u64 = 50;
 
 /// For how many milliseconds a stranger at a peer port may say nothing.
@@ -89,6 +89,20 @@ pub(crate) struct PeerPort<'a> {
 }
 
 impl PeerPort<'_> {
+    fn stops(&self) -> bool {
+        self.stop.load(Ordering::SeqCst) != 0
+    }
+
+    /// What is told where memory was refused: that, after a pause, for it may be there by then. Once the cluster stops nobody waits
+    /// for it.
+    fn wants_memory<R: Wait>(&self, rt: &R) -> LinkError {
+        if self.stops() {
+            return LinkError::Closed;
+        }
+        self.stop.park_timeout(rt, 0, Duration::from_millis(PAUSE));
+        LinkError::Memory
+    }
+
     /// A link to the next who waits at the port.
     fn stranger(&self, alloc: Global) -> Option<TcpLink> {
         self.port.set_nonblocking(true).ok()?;
@@ -119,10 +133,11 @@ impl Link for PeerPort<'_> {
             if let Some(link) = &mut self.current {
                 match link.get(rt, alloc) {
                     Err(LinkError::Closed) => {}
+                    Err(LinkError::Memory) => return Err(self.wants_memory(rt)),
                     answer => return answer,
                 }
             }
-            let stops = self.stop.load(Ordering::SeqCst) != 0;
+            let stops = self.stops();
             self.current = self.stranger(alloc);
             if self.current.is_none() {
                 if stops {
