@@ -15,6 +15,7 @@ PATIENCE = 30
 OUT_OF_MEMORY = b"out of memory\n"
 REFUSED = b"SERVER_ERROR out of memory\r\n"
 SESSIONS = 6
+# Worked scripts, of crates/geo_worked/data.
 SCRIPTS = [
     "append_and_incr",
     "flush_at_a_moment",
@@ -41,7 +42,7 @@ class Script:
         self.program, self.library, self.name = program, library, f"script {name}"
         with open(f"{ROOT}/crates/geo_worked/data/{name}.script", "rb") as file:
             self.text = file.read()
-        self.whole, _ = self.run(0, False)
+        self.whole, (self.counted, _) = self.run(0, False)
 
     def run(self, number, later):
         """Its status with its output, and how many allocations were counted and refused."""
@@ -50,13 +51,14 @@ class Script:
             done = subprocess.run([self.program, "script"], input=self.text, capture_output=True, timeout=PATIENCE, env=env)
             return (done.returncode, done.stdout, done.stderr), counts_in(report)
 
-    def try_one(self, number, later):
-        (status, output, errors), (_, refused) = self.run(number, later)
+    def fault(self, number, later):
+        """What is wrong with the run of which this allocation is refused, or None."""
+        (status, output, errors), _ = self.run(number, later)
         if (status, output, errors) == self.whole:
-            return refused, None
+            return None
         if status == 3 and errors in (b"", OUT_OF_MEMORY) and self.whole[1].startswith(output):
-            return refused, None
-        return refused, f"status {status}, {len(output)} bytes of {len(self.whole[1])}, {errors!r}"
+            return None
+        return f"status {status}, {len(output)} bytes of {len(self.whole[1])}, {errors!r}"
 
 
 def counts_in(report):
@@ -152,6 +154,8 @@ class Server:
 
     def __init__(self, program, library, link):
         self.program, self.library, self.link, self.name = program, library, link, f"serve over {link}"
+        (counted, _), wrong = self.run(0, False)
+        self.counted = 0 if wrong else counted
 
     def started(self, number, later, report):
         ports = free_ports(4)
@@ -172,7 +176,7 @@ class Server:
         while process.poll() is None:
             try:
                 return Client(port)
-            except ConnectionRefusedError:
+            except ConnectionError:
                 if time.monotonic() > until:
                     raise Wrong("nobody listens") from None
                 time.sleep(0.002)
@@ -221,9 +225,9 @@ class Server:
                 finally:
                     process.kill()
 
-    def try_one(self, number, later):
-        (_, refused), fault = self.run(number, later)
-        return refused, fault
+    def fault(self, number, later):
+        """What is wrong with the run of which this allocation is refused, or None."""
+        return self.run(number, later)[1]
 
 
 def fault_of(status, output, errors, closed):
@@ -242,5 +246,6 @@ def fault_of(status, output, errors, closed):
 
 
 def subjects(program, library):
-    """All that is run with an allocation refused."""
-    return [Script(program, library, name) for name in SCRIPTS] + [Server(program, library, link) for link in ("memory", "tcp")]
+    """All that is run with an allocation refused: the name of each, and what makes it."""
+    scripts = [(f"script {name}", lambda name=name: Script(program, library, name)) for name in SCRIPTS]
+    return scripts + [(f"serve over {link}", lambda link=link: Server(program, library, link)) for link in ("memory", "tcp")]
