@@ -5,7 +5,7 @@ ghost use Rattle.geo_config.specs.Lawful.{IsLawful};
 
 use crate::fault::{ClusterFault, add};
 use crate::report::{report, verdict_word};
-use crate::site::{Crew, Ended, Fresh, Job, Shared, posts, run_site};
+use crate::site::{Crew, Ended, Fresh, Job, Shared, made_posts, run_site};
 use crate::start::Start;
 use crate::wires::{Memory, Tcp, Wires};
 use geo_audit::audit;
@@ -133,7 +133,7 @@ fn jobs<R: Net + RandomSource, P: Drop, Q: Drop>(
                 peers: ends.peers,
                 froms: ends.froms,
             },
-            posts: posts(rt, alloc, site.workers)?,
+            posts: made_posts(rt, alloc, site.workers)?,
             sessions: config.sessions,
             listener,
         };

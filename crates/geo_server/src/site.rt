@@ -313,7 +313,11 @@ fn post<R: Net>(rt: &R, alloc: Global) -> io::Result<(Poll, Mailbox)> {
 }
 
 /// What waits for so many workers' sockets, and where each gets its clients.
-pub(crate) fn posts<R: Net>(rt: &R, alloc: Global, workers: usize) -> Result<Posts, ClusterFault> {
+pub(crate) fn made_posts<R: Net>(
+    rt: &R,
+    alloc: Global,
+    workers: usize,
+) -> Result<Posts, ClusterFault> {
     let mut polls = Vec::new(alloc);
     let mut mailboxes = Vec::new(alloc);
     for _worker in 0..workers {
