@@ -1,6 +1,5 @@
 //! Letting clients in.
 use crate::mailbox::Mailbox;
-use crate::start::Start;
 use std::net::{OpenListener, TcpListener, TcpStream};
 use std::rt::Clock;
 use std::sync::Wait;
@@ -33,17 +32,13 @@ fn least(mailboxes: &[Mailbox]) -> Option<&Mailbox> {
     found
 }
 
-/// Lets so many clients in, once all threads have begun, and hands each to the worker that has the fewest. Then it listens no more.
+/// Lets so many clients in, and hands each to the worker that has the fewest. Then it listens no more.
 pub(crate) fn accept<R: Wait + Clock>(
     rt: &R,
-    start: &Start<'_>,
     listener: TcpListener,
     sessions: u64,
     mailboxes: &[Mailbox],
 ) {
-    if !start.comes(rt) {
-        return;
-    }
     for _session in 0..sessions {
         let stream = next_connection(rt, &listener);
         // a small reply is not to wait for a larger one

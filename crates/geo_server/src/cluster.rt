@@ -215,7 +215,7 @@ fn run<
     let stop = AtomicU64::new(0);
     let shared = Shared {
         gate,
-        start: Start::new(threads_of(config), &stop),
+        start: Start::new(threads_of(config)),
         working: AtomicU64::new(workers_of(config)),
         stop: &stop,
         every: Duration::from_millis(config.every),

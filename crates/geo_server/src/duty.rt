@@ -62,6 +62,9 @@ fn serve_clients<R: Wait + rt::Clock, L: Ledger, G: Gate>(
     mut backend: Counted<'_, L, SystemClock>,
     mut worker: Worker<'_>,
 ) -> Seat<L> {
+    if !shared.comes(rt) {
+        return backend.into_seats().0;
+    }
     for _ in rt.forever() {
         let passed = worker.turn(rt, alloc, &mut backend, shared.gate);
         count_sessions(&mut backend, passed);
@@ -83,6 +86,9 @@ fn gossip<R: Wait + rt::Clock, L: Ledger, K: Link + Drop, G: Gate>(
     mut counting: Counting<'_>,
     mut peers: Vec<Peer<K>>,
 ) -> Seat<L> {
+    if !shared.comes(rt) {
+        return seat;
+    }
     for _ in rt.forever() {
         let _ = round(rt, alloc, station, &mut seat, peers.as_mut_slice());
         counting.count(Counter::Rounds);
@@ -101,6 +107,9 @@ fn maintain<R: Wait + rt::Clock, L: Ledger, G: Gate>(
     station: &Station<L>,
     mut seat: Seat<L>,
 ) -> Seat<L> {
+    if !shared.comes(rt) {
+        return seat;
+    }
     for _ in rt.forever() {
         let _ = station.maintain(rt, alloc, &mut seat, SystemClock.now(rt));
         let _ = station.renew(rt, alloc, shared.era);
@@ -112,14 +121,6 @@ fn maintain<R: Wait + rt::Clock, L: Ledger, G: Gate>(
 }
 
 impl<L: Ledger, P: Link + Drop, Q: Link + Drop> Duty<'_, L, P, Q> {
-    /// Gives the station's seat back, and does nothing.
-    fn into_seat(self) -> Seat<L> {
-        match self {
-            Duty::Serve(backend, _) => backend.into_seats().0,
-            Duty::Gossip(seat, _, _) | Duty::Maintain(seat) | Duty::Receive(seat, _) => seat,
-        }
-    }
-
     /// Does it to its end, once all threads have begun, and gives the station's seat back.
     pub(crate) fn run<R: Wait + rt::Clock, G: Gate>(
         self,
@@ -128,9 +129,6 @@ impl<L: Ledger, P: Link + Drop, Q: Link + Drop> Duty<'_, L, P, Q> {
         shared: &Shared<'_, G>,
         station: &Station<L>,
     ) -> Seat<L> {
-        if !shared.start.comes(rt) {
-            return self.into_seat();
-        }
         match self {
             Duty::Serve(backend, worker) => serve_clients(rt, alloc, shared, backend, worker),
             Duty::Gossip(seat, counting, peers) => gossip(
@@ -138,7 +136,9 @@ impl<L: Ledger, P: Link + Drop, Q: Link + Drop> Duty<'_, L, P, Q> {
             ),
             Duty::Maintain(seat) => maintain(rt, alloc, shared, station, seat),
             Duty::Receive(mut seat, mut link) => {
-                let _ = receive(rt, alloc, station, &mut seat, &mut link);
+                if shared.comes(rt) {
+                    let _ = receive(rt, alloc, station, &mut seat, &mut link);
+                }
                 seat
             }
         }

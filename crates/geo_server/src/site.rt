@@ -34,7 +34,7 @@ pub(crate) struct Shared<'a, G> {
     /// What all sessions pass.
     pub(crate) gate: &'a G,
     /// By which all threads begin together.
-    pub(crate) start: Start<'a>,
+    pub(crate) start: Start,
     /// How many workers there are, of all sites, for whom clients may still come.
     pub(crate) working: AtomicU64,
     /// 1 once the cluster stops.
@@ -46,6 +46,16 @@ pub(crate) struct Shared<'a, G> {
 }
 
 impl<G> Shared<'_, G> {
+    /// A thread has come. Whether it is to begin.
+    pub(crate) fn comes<R: Wait>(&self, rt: &R) -> bool {
+        self.start.comes(rt, self.stop)
+    }
+
+    /// Nobody begins any more.
+    pub(crate) fn abandon(&self) {
+        self.start.abandon(self.stop);
+    }
+
     /// No client comes to a worker any more. After the last worker the cluster stops.
     pub(crate) fn worker_ends(&self) {
         if self.working.fetch_sub(1, Ordering::SeqCst) == 1 {
@@ -263,7 +273,11 @@ fn work<
     let Door { listener, sessions } = door;
     let ((), seats) = join(
         rt,
-        || { accept(rt, &shared.start, listener, sessions, mailboxes) },
+        || {
+            if shared.comes(rt) {
+                accept(rt, listener, sessions, mailboxes);
+            }
+        },
         || -> Result<Vec<Seat<L>>, AllocError> { all_run(rt, alloc, shared, station, duties) },
     );
     match seats {
@@ -293,7 +307,7 @@ fn all_run<
         &|duty: Duty<'_, L, P, Q>| -> Seat<L> { duty.run(rt, alloc, shared, station) },
     );
     if seats.is_err() {
-        shared.start.abandon();
+        shared.abandon();
     }
     seats
 }
@@ -428,7 +442,7 @@ pub(crate) fn run_site<
         job,
     );
     if ended.is_err() {
-        shared.start.abandon();
+        shared.abandon();
     }
     ended
 }
