@@ -124,14 +124,19 @@ fn closed_at_last<L: Ledger>(
     one: Seat<L>,
     two: Seat<L>,
     out: &mut Vec<u8>,
-) -> History {
+) -> History
+    requires { station ≡ L.parts }
+{
     let mut seats = Vec::new(alloc);
     seats.push(one).expect(rt, "memory");
+    let Err(unclosed) = station.close(seats) else {
+        panic!(rt; "a seat is missing");
+    };
     let Unclosed {
         why,
         station,
         mut seats,
-    } = station.close(seats).err().expect(rt, "a seat is missing");
+    } = unclosed;
     say(alloc, out, &why).expect(rt, "memory");
     let one = seats.pop().expect(rt, "the seat comes back");
     closed(rt, alloc, station.lock(), one, two)
@@ -166,9 +171,9 @@ fn carried<L: Ledger, R: Wait + Abort>(
     requires steps { (story_in kept).steps ≡ [] }
     requires opening { (seat : ℕ) → opened_with (story_in kept).opening seat ≡ 0 }
 {
-    let station = Station::<L>::new(blank, kept, 2)
-        .ok()
-        .expect(rt, "a station");
+    let Ok(station) = Station::<L>::new(blank, kept, 2) else {
+        panic!(rt; "a station");
+    };
     let mut one = station.seat(rt, alloc).ok().expect(rt, "a seat");
     let two = station.seat(rt, alloc).ok().expect(rt, "another");
     for call in calls {
