@@ -5,7 +5,7 @@ use geo_delta::Parcel;
 use geo_equal::Equal;
 use geo_fixtures::opened;
 use geo_grammar::{Item, Reader, Request, ValueBytes, Verb, push_reply};
-use geo_history::{BoxedParcel, History, Kept};
+use geo_history::{BoxedParcel, Kept};
 use geo_lattice::Twin;
 use geo_site::{LAST_MOMENT, ReapError, SendError, TakeError};
 use geo_slabs::CLASSES;
@@ -322,24 +322,6 @@ impl Sites {
             parcels: Vec::new(alloc),
             lines,
         })
-    }
-
-    /// The histories of the sites once they have made all calls.
-    pub fn histories<R: Wait + Clock>(
-        mut self,
-        rt: &R,
-        alloc: Global,
-    ) -> Result<Vec<History>, Stop> {
-        let mut answers = Vec::new(alloc);
-        for place in 0..self.lines.len() {
-            self.call(rt, alloc, place, &mut answers)?;
-        }
-        let Sites { sites, .. } = self;
-        let mut histories = Vec::new(alloc);
-        for kept in sites {
-            histories.push(kept.history())?;
-        }
-        Ok(histories)
     }
 
     /// The parcel of a number, from 0.

@@ -10,16 +10,11 @@ mod frames;
 mod lines;
 mod rows;
 mod scene;
-mod sessions;
 mod shown;
-mod stations;
-mod tools;
 
 use crate::course::Course;
 use crate::lines::{Line, Sites};
 use crate::scene::{Scene, Stop};
-use crate::sessions::Talk;
-use crate::tools::Tools;
 use std::alloc::Global;
 use std::io::{self, Input};
 use std::process::ExitCode;
@@ -54,30 +49,6 @@ fn at_sites<R: Print + Wait + Clock + RandomSource>(
     }
 }
 
-/// Makes the calls that leave nothing.
-fn with_tools<R: Print + Wait + Clock + RandomSource>(
-    rt: &R,
-    alloc: Global,
-    course: &mut Course,
-) -> io::Result<Result<(), Stop>> {
-    match Tools::new(rt, alloc, rows::TIE) {
-        Ok(mut scene) => carry_out(rt, alloc, &mut scene, course),
-        Err(stop) => Ok(Err(stop)),
-    }
-}
-
-/// Serves one client.
-fn in_session<R: Print + Wait + Clock + RandomSource>(
-    rt: &R,
-    alloc: Global,
-    course: &mut Course,
-) -> io::Result<Result<(), Stop>> {
-    match Talk::new(rt, alloc) {
-        Ok(mut scene) => carry_out(rt, alloc, &mut scene, course),
-        Err(stop) => Ok(Err(stop)),
-    }
-}
-
 /// Makes the calls of the scene of a name.
 fn run<R: Print + Wait + Clock + RandomSource>(
     rt: &R,
@@ -95,11 +66,6 @@ fn run<R: Print + Wait + Clock + RandomSource>(
         "touches" => at_sites(rt, alloc, 1, rows::TOUCHES, course),
         "deltas" => at_sites(rt, alloc, 2, rows::DELTAS, course),
         "commands" => at_sites(rt, alloc, 1, rows::COMMANDS, course),
-        "exchange" => stations::at_first(rt, alloc, stations::EXCHANGE, course),
-        "gossip" => stations::at_first(rt, alloc, stations::GOSSIP, course),
-        "upkeep" => stations::at_first(rt, alloc, stations::UPKEEP, course),
-        "tools" => with_tools(rt, alloc, course),
-        "session" => in_session(rt, alloc, course),
         _ => Ok(Err(Stop::Wrong("no such scene"))),
     }
 }
