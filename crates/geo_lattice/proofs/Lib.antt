@@ -5,3 +5,4 @@ pub mod Listed
 pub mod Changed
 pub mod Listing
 pub mod Showing
+pub mod Columns

@@ -1,6 +1,6 @@
 -- Maps as functions: what stands at a key, or the least where there is nothing.
-use Rattle.std.specs.Prelude.{◌≡◌, Bool, List, refl, [], ◌∷◌, if◌then◌else◌, not, is_some, count_by}
-use Rattle.std.specs.Prelude.{Option, None, Some, ℕ, ◌<◌, ◌≤◌, slice_get}
+use Rattle.std.specs.Prelude.{◌≡◌, Bool, true, List, refl, [], ◌∷◌, if◌then◌else◌, not, is_some, count_by}
+use Rattle.std.specs.Prelude.{Option, None, Some, ℕ, ◌<◌, ◌≤◌, slice_get, IsSomeAnd}
 use Rattle.std.specs.Map.{lookup}
 use Rattle.std.specs.Coded.{Coded, code_by, coded×, coded_ℕ, coded_list}
 
@@ -58,3 +58,15 @@ EachOf {K} {V} P es n = (j : ℕ) (k : K) (v : V) → j < n → slice_get es j �
 abbrev pub all_joined : {K V M : Type 0} → M → (V → M) → (M → M → M) → (K → K → Bool) → List (K × V) → K → M
 all_joined z mean join eq [] q = z
 all_joined z mean join eq (e ∷ es) q = if eq q e.0 then join (mean e.1) (all_joined z mean join eq es q) else all_joined z mean join eq es q
+
+-- a key stands at a place
+abbrev pub StandsAt : {K V : Type 0} → (K → K → Bool) → List (K × V) → ℕ → K → Type 0
+StandsAt eq es i k = IsSomeAnd (slice_get es i) (λ e. eq k e.0 ≡ true)
+
+-- but for what stands at one place, lists are the same
+abbrev pub OthersStand : {A : Type 0} → List A → List A → ℕ → Type 0
+OthersStand es es' i = (j : ℕ) → (j ≡ i → ⊥) → slice_get es' j ≡ slice_get es j
+
+-- a column has the measure of each entry beside which it has a number
+abbrev pub IsColumn : {K V : Type 0} → (V → ℕ) → List (K × V) → List ℕ → Type 0
+IsColumn {K} {V} measured es column = (i : ℕ) (k : K) (v : V) (m : ℕ) → slice_get es i ≡ Some (k, v) → slice_get column i ≡ Some m → m ≡ measured v

@@ -6,6 +6,7 @@
 #![tactic(auto)]
 
 pub mod change;
+pub mod column;
 pub mod exact;
 pub mod items;
 pub mod lattice;
@@ -16,6 +17,7 @@ pub mod pair;
 pub mod twin;
 
 pub use change::{Change, Measure, Show, Test};
+pub use column::Column;
 pub use exact::Exact;
 pub use items::Items;
 pub use lattice::{Bottom, Flat, Lattice};

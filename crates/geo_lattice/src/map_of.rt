@@ -18,7 +18,7 @@ use std::marker::Model;
 /// shows in no answer, and room that was made shows in none but `has_room`.
 #[derive(Drop)]
 pub struct MapOf<K: Twin + Eq + Hash, L: Bottom> {
-    entries: IndexMap<K, L, RandomState>,
+    pub(crate) entries: IndexMap<K, L, RandomState>,
 }
 
 impl<K: Twin + Eq + Hash, L: Bottom> Model for MapOf<K, L> {
@@ -275,7 +275,7 @@ impl<K: Twin + Eq + Hash, L: Bottom> MapOf<K, L> {
 
 impl<K: Twin + Eq + Hash, L: Bottom + Flat> MapOf<K, L> {
     /// Where one of several keys stands, from which the others may be found without a look-up.
-    fn place_of(&self, values: &[(K, L)], index: usize) -> usize {
+    pub(crate) fn place_of(&self, values: &[(K, L)], index: usize) -> usize {
         match values.get(index) {
             Some((key, _)) if values.len() > 1 => self.entries.get_index_of(key).unwrap_or(0),
             _ => 0,

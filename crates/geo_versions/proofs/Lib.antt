@@ -4,3 +4,4 @@ pub mod Listed
 pub mod InOrder
 pub mod Sifting
 pub mod Lasting
+pub mod Ends

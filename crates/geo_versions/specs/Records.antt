@@ -57,6 +57,11 @@ abbrev pub has_ended : ℕ → ℕ → Option Version → Bool
 has_ended site before None = false
 has_ended site before (Some v) = (v.stamp.site == site) && (not (v.expiry == 0) && nat_lt v.expiry before)
 
+-- the moment in an expiry's register, the greatest number where it is no end
+abbrev pub end_in : Register ℕ → ℕ
+end_in None = 18446744073709551615
+end_in (Some r) = cond (r.1 == 0) 18446744073709551615 r.1
+
 -- a register of which the time is at or below a horizon, which every site knows already
 abbrev pub is_old : {A : Type 0} → ℕ → Register A → Bool
 is_old horizon None = true

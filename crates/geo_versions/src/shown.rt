@@ -1,9 +1,9 @@
 //! What is listed of records, and what is sought among them.
 ghost use Rattle.std.specs.Prelude.{◌≡◌, Bool, Some};
 ghost use Rattle.geo_records.specs.Operations.{Register, version_in};
-ghost use Rattle.geo_versions.specs.Records.{rec_means, rec_since, is_unknown, has_ended};
+ghost use Rattle.geo_versions.specs.Records.{rec_means, rec_since, is_unknown, has_ended, end_in};
 
-use geo_lattice::{Exact, Lww, Pair, Show, Test};
+use geo_lattice::{Exact, Lww, Measure, Pair, Show, Test};
 use geo_records::{Rec, Version, shown_version};
 use geo_stamp::{Stamp, Vector};
 
@@ -92,6 +92,21 @@ impl Test<Rec> for Ended {
                     && version.expiry != 0
                     && version.expiry < self.before
             }
+        }
+    }
+}
+
+/// The moment at which a record's value ends, if it has one: the greatest number where it has no end.
+#[derive(Clone, Copy, Drop)]
+pub(crate) struct EndOf;
+
+impl Measure<Rec> for EndOf {
+    ghost measured = { λ _ r. end_in r.right.register };
+
+    fn measure(&self, value: &Rec) -> u64 {
+        match value.right.get() {
+            None | Some((_, 0)) => u64::MAX,
+            Some((_, expiry)) => *expiry,
         }
     }
 }

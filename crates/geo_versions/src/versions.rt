@@ -1,13 +1,14 @@
 //! The floor, and what is kept of each key.
 ghost use Rattle.std.specs.Prelude.{List, ℕ};
-ghost use Rattle.geo_versions.specs.Records.{record_at, LastsTo};
+ghost use Rattle.geo_lattice.specs.Maps.{IsColumn};
+ghost use Rattle.geo_versions.specs.Records.{Rec, record_at, LastsTo, end_in};
 ghost use Rattle.geo_records.specs.Normal.{IsNormal};
 ghost use Rattle.geo_records.proofs.Normal.{normal_prop};
 
 use crate::floor::{AboveFloor, counts, later};
 use crate::removal::{Lasting, Remaining};
-use crate::shown::{Ended, Shown, UnknownTo, Whole, copied};
-use geo_lattice::{Bottom, Change, Lattice, Lww, MapOf, Measure, Pair};
+use crate::shown::{EndOf, Ended, Shown, UnknownTo, Whole, copied};
+use geo_lattice::{Bottom, Change, Column, Lattice, Lww, MapOf, Measure, Pair};
 use geo_records::{Body, Key, Rec, Version, shown_version};
 use geo_stamp::{Stamp, Vector};
 use std::alloc::{AllocError, Global};
@@ -20,6 +21,9 @@ pub struct Versions {
     records: MapOf<Key, Rec>,
     /// No removal at a horizon below this time drops a record.
     lasting: u64,
+    /// The end of each record, beside the records.
+    ends: Column<EndOf>,
+    ghost column: { IsColumn (λ (r : Rec). end_in r.right.register) records.entries ends.measures.items },
     ghost lasts: { (q : List ℕ) → LastsTo lasting (record_at records q) },
     ghost above: { IsNormal (floor, record_at records) } by { normal_prop (floor, record_at records) },
 }
@@ -42,6 +46,7 @@ impl Versions {
             floor: None,
             records: MapOf::with_hasher(alloc, hasher),
             lasting: u64::MAX,
+            ends: Column::new(alloc, EndOf),
         }
     }
 
@@ -94,13 +99,14 @@ impl Versions {
 
     /// A key whose version is a write of this site that ended before a moment, in seconds: its expiry isn't 0, and is below
     /// `before`. None exactly where there is no such key. A site finds so its own writes whose time to live is over, and deletes
-    /// them for all sites. It passes over all records and takes no memory.
+    /// them for all sites. It passes over the ends of all records, and looks at the records that have ended. It takes no memory.
     pub fn ended(&self, site: u8, before: u64) -> Option<&Key>
         ensures { MatchOption result ((q : List ℕ)
             → has_ended site before (version_in (record_in self.now q)) ≡ false)
             (λ key. has_ended site before (version_in (record_in self.now key.now)) ≡ true) }
     {
-        self.records.found(&Ended { site, before })
+        self.records
+            .found_below(&self.ends, before, &Ended { site, before })
     }
 
     /// Joins a write or a delete: a delete has the body Gone and the expiry 0. Where a growth was refused, nothing is joined. A key
@@ -129,7 +135,7 @@ impl Versions {
             right: Lww::of(stamp, expiry),
         };
         let lasting = Lasting { floor: self.floor }.measure(&record);
-        self.records.put(alloc, key, record)?;
+        self.records.put_beside(alloc, &mut self.ends, key, record)?;
         self.lasting = self.lasting.min(lasting);
         Ok(())
     }
@@ -145,7 +151,8 @@ impl Versions {
         if counts(self.floor, stamp) {
             let expiry = Lww::of(stamp, expiry);
             let left = Lww::none();
-            self.records.join_at(
+            self.records.join_at_beside(
+                &mut self.ends,
                 key,
                 Pair {
                     left,
@@ -166,7 +173,9 @@ impl Versions {
         if self.floor != above.floor {
             self.floor = above.floor;
             self.records.change_all(&above);
-            self.lasting = 0;
+            self.lasting = self
+                .ends
+                .note_all(&self.records, &Lasting { floor: self.floor });
         }
     }
 
@@ -197,12 +206,15 @@ impl Versions {
             floor: later(self.floor, floor),
         };
         let lasting = Lasting { floor: above.floor }.least(self.lasting, records.as_slice());
-        self.records.join_list(records, &above);
+        self.records
+            .join_list_beside(&mut self.ends, records, &above);
         self.lasting = lasting;
         if self.floor != above.floor {
             self.floor = above.floor;
             self.records.change_all(&above);
-            self.lasting = 0;
+            self.lasting = self
+                .ends
+                .note_all(&self.records, &Lasting { floor: self.floor });
         }
     }
 
@@ -219,7 +231,9 @@ impl Versions {
         }
         let before = self.records.len();
         self.records.change_all(&Remaining { horizon });
-        self.lasting = self.records.least(&Lasting { floor: self.floor });
+        self.lasting = self
+            .ends
+            .note_all(&self.records, &Lasting { floor: self.floor });
         before - self.records.len()
     }
 
@@ -284,6 +298,8 @@ impl Lattice for Versions {
     ghost least_joined = { λ a. same_normal (normal_joined nothing_known a) a (nothing_adds a) };
 
     fn ready(&mut self, alloc: Global, other: &Self) -> Result<(), AllocError> {
+        // Making room may move what stands where, as far as it tells.
+        self.ends.forget();
         self.records.ready(alloc, &other.records)
     }
 
@@ -293,6 +309,8 @@ impl Lattice for Versions {
 
     fn join(&mut self, other: Self) {
         let Versions { floor, records, .. } = other;
+        // What stands where is not told, so that the next pass over all records takes the ends anew.
+        self.ends.forget();
         let above = AboveFloor {
             floor: later(self.floor, floor),
         };

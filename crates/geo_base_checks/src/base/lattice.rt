@@ -12,6 +12,7 @@ use std::hash::RandomState;
 use std::process::Abort;
 use std::test::Fail;
 
+mod column;
 mod table;
 
 use table::{MAPS, MapRow, NUMBERS, PAIRS, REGISTERS, Step, TWINS};

@@ -14,6 +14,7 @@ invariant_of-self c =
     let is = c.change_all.ensures.changed q ∙ remaining_at c.args.horizon (get same_key now.records q) in
     ap (above_both now.floor) is ∙ remaining_above now.floor c.args.horizon (record_at now.records q) (now.above q) ∙ sym is) in
     record {
-      lasts = λ q. lasts_found now.floor c.least-self.result (get same_key c.change_all.new.self q) (c.least-self.ensures q) (normal q);
+      column = c.note_all-self.ensures.column;
+      lasts = λ q. lasts_found now.floor c.note_all-self.result (get same_key c.change_all.new.self q) (c.note_all-self.ensures.least q) (normal q);
       above = normal;
     }

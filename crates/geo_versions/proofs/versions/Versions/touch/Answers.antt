@@ -13,7 +13,8 @@ invariant_of-self c =
     let above : above_both v.floor x ≡ x =
     (λ i. above_both v.floor (c.none-left.ensures i, c.of-expiry.ensures i)) ∙ touch_above v.floor c.args.stamp c.args.expiry (sym c.if-counts.ensures) ∙ (λ i. (sym c.none-left.ensures i, sym c.of-expiry.ensures i)) in
     record {
-      lasts = lasts_touch v.lasting (record_at v.records) (record_at c.join_at.new.self) c.args.key.now c.of-expiry.result.register v.lasts c.requires
-          (λ q. c.join_at.ensures q ∙ (λ i. cond {A = Record} (same_key c.args.key.now q) (record_joined (record_at v.records q) (c.none-left.ensures i, c.of-expiry.result.register)) (record_at v.records q)));
-      above = one_joined_normal v.floor (record_at v.records) (record_at c.join_at.new.self) c.args.key.now x v.above above c.join_at.ensures;
+      column = c.join_at_beside.ensures.column;
+      lasts = lasts_touch v.lasting (record_at v.records) (record_at c.join_at_beside.new.self) c.args.key.now c.of-expiry.result.register v.lasts c.requires
+          (λ q. c.join_at_beside.ensures.joined q ∙ (λ i. cond {A = Record} (same_key c.args.key.now q) (record_joined (record_at v.records q) (c.none-left.ensures i, c.of-expiry.result.register)) (record_at v.records q)));
+      above = one_joined_normal v.floor (record_at v.records) (record_at c.join_at_beside.new.self) c.args.key.now x v.above above c.join_at_beside.ensures.joined;
     }

@@ -4,6 +4,7 @@ use Rattle.geo_records.specs.Keys.{same_key}
 use Rattle.geo_records.proofs.Normal.{same_normal}
 use Rattle.geo_records.specs.Operations.{above_both, record_joined}
 use Rattle.geo_versions.specs.Records.{record_at}
+use Rattle.geo_versions.proofs.Ends.{forgotten}
 use Rattle.geo_versions.proofs.Cut.{changed_above, cut_normal, joined_at_floor, joined_at_rise}
 use Rattle.geo_versions.proofs.versions.VersionsLattice.join.Goals as goal
 
@@ -17,8 +18,8 @@ returns-then-ne c =
     (c.change_all.ensures.changed q ∙ changed_above c.later.result (get same_key c.join_changed.new.self q)) in
     same_normal _ _ ((λ i. (c.later.result, λ q. joined q i)) ∙ (λ i. (c.later.ensures i, λ q. above_both (c.later.ensures i) (record_joined (record_at v.records q) (record_at w.records q)))))
 
-pub returns-else-ne : goal.returns-else-ne
-returns-else-ne c =
+pub returns : goal.returns
+returns c =
     let v = c.args.self.now in
     let w = c.args.other in
     let same : c.later.result ≡ v.floor = search rules in
@@ -34,6 +35,7 @@ invariant_of-self-else-ne c =
     let w = c.args.other in
     let same : c.later.result ≡ v.floor = search rules in
     record {
+      column = forgotten _ _ _ c.forget.ensures.none;
       lasts = λ q h lt. absurd (omega (arith, lt));
       above = λ q.
           let joined = joined_at_floor v.floor (record_at v.records q) (record_at c.join_changed.new.self q) (record_at w.records q) _ (v.above q)

@@ -2,6 +2,7 @@ use Rattle.std.proofs.Common.{◌∙◌, sym, ap, List, ℕ}
 use Rattle.geo_records.proofs.Normal.{same_normal}
 use Rattle.geo_records.specs.Operations.{Record, above_both}
 use Rattle.geo_versions.specs.Records.{record_at}
+use Rattle.geo_versions.proofs.Ends.{forgotten}
 use Rattle.geo_versions.proofs.Lasting.{lasts_same}
 use Rattle.geo_versions.proofs.versions.VersionsLattice.ready.Goals as goal
 
@@ -10,6 +11,7 @@ invariant_of-self c =
     let v = c.args.self.now in
     let kept = λ (q : List ℕ). ap (λ (f : List ℕ → Record). f q) c.ready.ensures.kept in
     record {
+      column = forgotten _ _ _ c.forget.ensures.none;
       lasts = lasts_same v.lasting (record_at v.records) (record_at c.ready.new.self) v.lasts kept;
       above = λ q. ap (above_both v.floor) (kept q) ∙ v.above q ∙ sym (kept q);
     }
