@@ -25,3 +25,4 @@ pub mod Telling
 pub mod Sifting
 pub mod Victims
 pub mod Rows
+pub mod Parted

@@ -2,9 +2,9 @@
 use Rattle.std.proofs.Common.{◌≡◌, ℕ, ◌≤◌, Bool, true, false, cond, ◌&&◌, List, [], ◌∷◌, refl, sym, subst, arith, true≢false}
 use Rattle.geo_stamp.specs.Vectors.{entry_of, greatest_of, vector_joined, raised}
 use Rattle.geo_records.specs.Keys.{same_key}
-use Rattle.geo_records.specs.Operations.{Record, record_joined}
+use Rattle.geo_records.specs.Operations.{Record, record_joined, floor_joined, above_both}
 use Rattle.geo_versions.specs.Maps.{Rec, rec_means, listed_at}
-use Rattle.geo_site.specs.Machine.{SiteState, Delta, Same, take, knows_record}
+use Rattle.geo_site.specs.Machine.{SiteState, Delta, Same, take, settled, knows_record}
 use Rattle.geo_site.specs.Sites.{knows_all}
 use Rattle.geo_site.proofs.Entries.{Within, entry_joined, entry_rises}
 use Rattle.geo_site.proofs.Stocking.{state_path}
@@ -33,3 +33,11 @@ all_listed v (e ∷ es) q h = by (same_key q e.0) (all_listed v es q (both (know
 -- a take from an equal state
 pub take_from_same : (n : ℕ) (d : Delta) (a b x : SiteState) → Same a b → Same (take n d b) x → Same (take n d a) x
 take_from_same n d a b x s t = subst (λ st. Same (take n d st) x) (state_path a b s) t
+
+-- a take of what comes to the same where it is joined
+pub take_alike : (n : ℕ) (d e : Delta) (st : SiteState) → d.upto ≡ e.upto → d.floor ≡ e.floor → ((q : List ℕ) → record_joined (st.map q) (d.map q) ≡ record_joined (st.map q) (e.map q)) → take n d st ≡ take n e st
+take_alike n d e st upto floor same = λ i.
+    let vector = vector_joined st.vector (upto i) in
+    let to = floor_joined st.floor (floor i) in
+    let map = λ (q : List ℕ). above_both to (same q i) in
+    record { vector = raised vector n (greatest_of vector); floor = to; map = map; stock = settled map st.stock }

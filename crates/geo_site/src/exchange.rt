@@ -99,14 +99,16 @@ fn rises(mine: Option<Stamp>, theirs: Option<Stamp>) -> bool
     }
 }
 
-/// Whether the bytes that are held of a key, if any, are those that a version names.
-fn is_current(values: &Values, key: &Key, version: Option<Version>) -> bool
-    ensures { result ≡ stays_by version ((stock_in values.now).held key.now) }
+/// Whether the bytes that are held of a key, if any, are those that its version names once a record is joined. Of a key that isn't held
+/// no version is looked up.
+fn is_current(values: &Values, versions: &Versions, key: &Key, rec: &Rec) -> bool
+    ensures { result ≡ stays_by (version_in (above_both (floor_in versions.now) (record_joined (record_in versions.now key.now)
+        (rec_means rec.now)))) ((stock_in values.now).held key.now) }
 {
     if !values.holds(key) {
         return true;
     }
-    match version {
+    match versions.version_with(key, rec) {
         None => false,
         Some(version) => match values.get(key, &version.digest) {
             None => false,
@@ -124,7 +126,7 @@ fn drop_outdated(values: &mut Values, versions: &Versions, records: &[(Key, Rec)
     ensures no_more { count_in values.new ≤ count_in values.old }
 {
     for (key, rec) in records {
-        if !is_current(values, key, versions.version_with(key, rec)) {
+        if !is_current(values, versions, key, rec) {
             values.drop_key(key);
         }
     }
@@ -272,6 +274,18 @@ impl Site {
         Taken { rose, dropped }
     }
 
+    /// Of records that come, those that change something here: most come again from each site that passes them on.
+    fn news(&self, records: Items<(Key, Rec)>) -> Items<(Key, Rec)>
+        ensures fewer { HasRoomFor self.now.versions records → HasRoomFor self.now.versions result }
+        ensures known { (v : List ℕ) → knows_all v records ≡ true → knows_all v result ≡ true }
+        ensures same { (q : List ℕ) → record_joined (record_in self.now.versions q) (listed_at result q)
+            ≡ record_joined (record_in self.now.versions q) (listed_at records q) }
+    {
+        let mut all = records.into_vec();
+        self.versions.leave_news(&mut all);
+        Items::of(all)
+    }
+
     /// Joins what a parcel tells. A refusal hands the parcel back whole and changes nothing. Memory is wanted only where the parcel brings
     /// a record of a key that has none.
     pub fn take(&mut self, alloc: Global, parcel: Parcel) -> Result<Taken, Refused>
@@ -302,6 +316,7 @@ impl Site {
         } = parcel;
         // What is old by the horizon that stood before this parcel was heard was known before it.
         let records = self.sifted(records);
+        let records = self.news(records);
         self.heard.heard(from, &upto);
         Ok(self.join(upto, floor, records))
     }

@@ -52,7 +52,8 @@ impl Site {
     }
 
     /// A key that a reap deletes at a moment in seconds where no flush is due; None exactly where there is none. Where nothing that
-    /// the site ever knew can have ended, it tells so at once; else it looks at one record after another. It takes no memory.
+    /// the site ever knew can have ended, it tells so at once; else it passes over the ends of all records, eight bytes each, and looks at
+    /// the records that have ended. It takes no memory.
     pub fn due(&self, now: u64) -> Option<&Key>
         ensures { MatchOption result ((q : List ℕ) → to_reap self.now now q ≡ false) (λ key. to_reap self.now now key.now ≡ true) }
     {

@@ -5,3 +5,4 @@ pub mod InOrder
 pub mod Sifting
 pub mod Lasting
 pub mod Ends
+pub mod Brought

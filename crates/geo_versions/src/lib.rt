@@ -6,6 +6,7 @@
 
 mod floor;
 pub mod laws;
+mod news;
 mod removal;
 mod rising;
 mod shown;

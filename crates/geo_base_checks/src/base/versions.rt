@@ -13,7 +13,7 @@ use std::test::Fail;
 mod table;
 
 use table::{
-    At, CONTENTS, Content, KEYS, RISING, Record, SIFTED, Step, TO_SIFT, VERSIONS, VersionRow,
+    At, CONTENTS, Content, KEYS, NEWS, RISING, Record, SIFTED, Step, TO_SIFT, VERSIONS, VersionRow,
 };
 
 fn is_equal(key: &Key, other: &Key) -> bool {
@@ -452,6 +452,28 @@ fn records_are_sifted_and_seen_to_rise(rt: HostRuntime) -> Result<(), Fail> {
     }
     for (table, want) in RISING {
         assert_eq!(rt; rise(rt.alloc(), table)?, *want, "{}", table.len());
+    }
+    Ok(())
+}
+
+/// Shows what is news where these records are known.
+fn show_news(out: &mut String, hasher: RandomState, table: &[Record]) -> Result<(), AllocError> {
+    let alloc = *out.allocator();
+    let mut known = Versions::new(alloc, hasher);
+    join_records(&mut known, alloc, (0, 0), table)?;
+    let mut records = records_of(alloc, TO_SIFT)?;
+    known.leave_news(&mut records);
+    show_records(out, records.as_slice())
+}
+
+#[test]
+fn what_is_known_is_no_news(rt: HostRuntime) -> Result<(), Fail> {
+    let hasher = RandomState::new(&rt)?;
+    let mut out = String::new(rt.alloc());
+    for (table, want) in NEWS {
+        out.clear();
+        show_news(&mut out, hasher, table)?;
+        check(&rt, out.as_str(), want);
     }
     Ok(())
 }

@@ -5,7 +5,7 @@ ghost use Rattle.geo_lattice.specs.declared.lww.Lww.{Lww};
 
 use crate::base::lattice::table::{MAPS, MapRow, Step};
 use crate::base::lattice::{
-    After, Map, Register, StampOf, list_of, numbers, register, show_map, step,
+    After, AsItIs, Map, Name, Register, StampOf, list_of, numbers, register, show_map, step,
 };
 use crate::base::text::check;
 use geo_lattice::{Column, MapOf, Test};
@@ -13,8 +13,6 @@ use std::alloc::{AllocError, Global};
 use std::hash::RandomState;
 use std::process::Abort;
 use std::test::Fail;
-
-type Name = crate::base::lattice::Name;
 
 /// A map, and a column of its stamps.
 #[derive(Drop)]
@@ -63,15 +61,13 @@ impl Beside {
         match what {
             Step::Put => {
                 for (name, value) in list_of(alloc, text)? {
-                    self.map
-                        .put_beside(alloc, &mut self.column, &name, value)?;
+                    self.map.put_beside(alloc, &mut self.column, &name, value)?;
                 }
             }
             Step::JoinList => {
                 let list = list_of(alloc, text)?;
                 self.map.ready_list(list.as_slice())?;
-                self.map
-                    .join_list_beside(&mut self.column, list, &super::AsItIs);
+                self.map.join_list_beside(&mut self.column, list, &AsItIs);
             }
             Step::JoinAt => {
                 let [name, stamp, content] = numbers(text);

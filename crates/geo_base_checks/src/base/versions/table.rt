@@ -248,6 +248,22 @@ pub const SIFTED: &[(u64, &'static str)] = &[
     (9, ""),
 ];
 
+/// A write that a touch has followed there, and a delete of another key.
+const WITHOUT_A_TOUCH: &[Record] = &[
+    Record("a", (4, 1), None, 0, (4, 1)),
+    Record("b", (5, 1), TWO, 0, (5, 1)),
+];
+
+/// What of them is news where these are known.
+pub const NEWS: &[(&'static [Record], &'static str)] = &[
+    (
+        NO_KEYS,
+        ", a 1 0 1 2.1 0 2.1, b 2 0 1 5.1 70 9.2, c gone 3.2 0 3.2",
+    ),
+    (TO_SIFT, ""),
+    (WITHOUT_A_TOUCH, ", b 2 0 1 5.1 70 9.2, c gone 3.2 0 3.2"),
+];
+
 /// Deletes of these keys.
 const NO_KEYS: &[Record] = &[];
 

@@ -19,7 +19,7 @@ loop-key-preserved c =
     let first = stock_in c.args.values.now in
     let now = stock_in c.loop-key.values in
     let records = c.args.records.now in
-    let says : c.is_current.result ≡ stays_by (version_joined (floor_in v) (record_in v e.0) (rec_means e.1)) (now.held e.0) = c.is_current.ensures ∙ ap (λ version. stays_by version (now.held e.0)) c.version_with.ensures in
+    let says : c.is_current.result ≡ stays_by (version_joined (floor_in v) (record_in v e.0) (rec_means e.1)) (now.held e.0) = c.is_current.ensures in
     let fewer = c.loop-key.invariant.0 in
     elim c.if-not-is_current.branch [
       | then-not-is_current w ↦

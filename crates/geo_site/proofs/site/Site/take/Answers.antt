@@ -1,10 +1,11 @@
 use Rattle.std.proofs.Common.{◌≡◌, ℕ, List, true≢false, refl, sym, ap, ◌∙◌, subst, arith, length}
 use Rattle.geo_site.specs.Sites.{state_in, delta_of, horizon_in, knows_all}
 use Rattle.geo_site.proofs.Stocking.{stock_same}
-use Rattle.geo_site.proofs.Taking.{take_from_same}
+use Rattle.geo_site.proofs.Taking.{take_from_same, take_alike}
 use Rattle.geo_versions.specs.Maps.{record_in, listed_at, HasRoomFor, Rec}
 use Rattle.geo_lattice.specs.Maps.{missing}
 use Rattle.geo_records.specs.Keys.{same_key}
+use Rattle.geo_records.specs.Operations.{Record, record_joined}
 use Rattle.geo_site.proofs.Noting.{traced_same, covers_same, ends_same, named_same}
 use Rattle.geo_values.specs.Held.{stock_in}
 use Rattle.geo_site.specs.Machine.{Delta, Same, take, sifted_delta, knows_floor}
@@ -19,10 +20,13 @@ returns-clause-does c =
     let p = c.args.parcel in
     let ready = c.ready_records.ensures in
     let brought : Delta = record { upto = p.upto; floor = p.floor; map = listed_at c.sifted-records.result } in
+    let joined : Delta = record { upto = p.upto; floor = p.floor; map = listed_at c.news-records.result } in
+    let alike = λ (q : List ℕ). subst (λ (r : Record). record_joined r (joined.map q) ≡ record_joined r (brought.map q)) (ready.records q) (c.news-records.ensures.same q) in
     let is : brought ≡ sifted_delta (horizon_in s) (delta_of p) = λ i. record { upto = p.upto; floor = p.floor; map = λ q. (ap (λ es. listed_at es q) c.sifted-records.ensures ∙ listed_sifted (horizon_in s) p.records q) i } in (
       c.in_default.ensures,
       subst (λ d. Same (take s.number d (state_in s)) (state_in c.join.new.self)) is
-          (take_from_same s.number brought (state_in s) _ (state_in c.join.new.self) (record { vector = refl; floor = ready.floor; map = ready.records; stock = stock_same _ }) c.join.ensures.joined),
+          (subst (λ st. Same st (state_in c.join.new.self)) (take_alike s.number joined brought (state_in s) refl refl alike)
+          (take_from_same s.number joined (state_in s) _ (state_in c.join.new.self) (record { vector = refl; floor = ready.floor; map = ready.records; stock = stock_same _ }) c.join.ensures.joined)),
       c.join.ensures.rose,
       c.join.ensures.dropped,
       c.join.ensures.stays.2 ∙ c.heard.ensures,
@@ -69,13 +73,13 @@ join-requires-clause-room c =
     let room : HasRoomFor new records = subst (λ es. HasRoomFor new es) c.as_slice.ensures c.in-Ok.ensures.room in
     let fewer = missing_sifted (horizon_in s) new.records.entries records in
     let is = ap (λ (es : List (List ℕ × Rec)). missing same_key new.records.entries es) c.sifted-records.ensures in
-    omega (arith, room, fewer, is)
+    c.news-records.ensures.fewer (omega (arith, room, fewer, is))
 
 pub join-requires-clause-records_known : goal.join-requires-clause-records_known
 join-requires-clause-records_known c =
     let s = c.args.self.now in
     let p = c.args.parcel in
-    ap (knows_all p.upto) c.sifted-records.ensures ∙ knows_sifted p.upto (horizon_in s) p.records (sound_records (length s.vector) s.number p c.in_default.ensures.1)
+    c.news-records.ensures.known p.upto (ap (knows_all p.upto) c.sifted-records.ensures ∙ knows_sifted p.upto (horizon_in s) p.records (sound_records (length s.vector) s.number p c.in_default.ensures.1))
 
 pub returns-in-Err-clause-does : goal.returns-in-Err-clause-does
 returns-in-Err-clause-does c =
