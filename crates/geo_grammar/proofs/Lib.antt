@@ -3,3 +3,4 @@ pub mod Transitions
 pub mod Whole
 pub mod Ends
 pub mod Fed
+pub mod KeyRuns

@@ -1,13 +1,17 @@
 -- The first word of a line, and the digits of a number.
-use Rattle.std.proofs.Common.{◌≡◌, ℕ, ◌+◌, ◌-◌, ◌*◌, ◌<◌, ◌≤◌, true, false, cond, leb, ◌&&◌, List, [], ◌∷◌, ◌++◌, length, get_or, take, drop, filter, Some, None, refl, sym, ap, ◌∙◌, arith, inl, inr}
+use Rattle.std.proofs.Common.{◌≡◌, ℕ, zero, suc, Bool, ◌+◌, ◌-◌, ◌*◌, ◌<◌, ◌≤◌, true, false, cond, leb, ◌&&◌, List, [], ◌∷◌, ◌++◌, length, get_or, take, drop, filter, Some, None, refl, sym, ap, ◌∙◌, arith, inl, inr}
 use Rattle.std.specs.List.{All}
 use Rattle.std.specs.Char.{digit_value, is_ascii_digit}
 use Rattle.std.specs.Str.{all_ascii_digits}
 use Rattle.std.specs.Str.Parse.{digits_value_after}
-use Rattle.std.proofs.lemmas.Bool.{cases_lt, cond-true, cond-false, le-ltb, lt-ltb, lt-leb, le-leb, ne_eqb, and_right}
+use Rattle.std.proofs.lemmas.Bool.{cases_lt, cases_Bool, cond-true, cond-false, le-ltb, lt-ltb, lt-leb, le-leb, ne_eqb, and_right}
 use Rattle.std.proofs.lemmas.List.{take_all, take-append-drop, length-take, get_or-take, drop_all, drop_more, at_drop_more}
 use Rattle.std.proofs.lemmas.List.Elements.{All-from_get_or}
+use Rattle.std.proofs.lemmas.List.Folds.{list_all_at}
+use Rattle.std.proofs.lemmas.List.Sums.{prefix_len_passes, prefix_len_stops, take_while-cons}
 use Rattle.std.proofs.lemmas.List.Splits.{slice_split_none, slice_split_at}
+use Rattle.std.specs.List.{list_all, prefix_len}
+use Rattle.geo_records.specs.Keys.{is_key_byte}
 use Rattle.geo_grammar.specs.Words.{is_space, is_filled, words_of, number_after, number_of}
 
 abbrev IsLong : List ℕ → Type 0
@@ -44,6 +48,35 @@ first_word line n pos fits none ends =
       | inr le ↦
           ap words_of (sym (take_all n line le)) ∙ lone_word (take n line) long filled ∙ ap (λ (t : List ℕ). take n line ∷ words_of t) (sym (drop_all n line le))
     ]
+
+-- ---- a run of bytes that a key may have
+
+-- there is no space in it
+pub run_no_space : (line : List ℕ) (k : ℕ) → k < prefix_len is_key_byte line → get_or line k 0 ≡ 32 → ⊥
+run_no_space line k lt e =
+    let h : is_key_byte 32 ≡ true = sym (ap is_key_byte e) ∙ prefix_len_passes is_key_byte line k 0 lt in
+    absurd cc
+
+-- it is none only in front of a byte that ends it
+pub run_some : (line : List ℕ) (n : ℕ) → 0 < length line → (get_or line 0 0 ≡ 32 → ⊥) → (n < length line → get_or line n 0 ≡ 32) → 0 < n
+run_some line zero some begins ends = absurd (begins (ends some))
+run_some line (suc n) some begins ends = omega arith
+
+-- each of its bytes may stand in a key
+pub run_plain : (p : ℕ → Bool) (line : List ℕ) → list_all p (take (prefix_len p line) line) ≡ true
+run_plain p [] = refl
+run_plain p (b ∷ bs) =
+    let front : List ℕ = take (prefix_len p bs) bs in
+    ap (list_all p) (take_while-cons p b bs) ∙ elim (cases_Bool (p b)) [
+      | inl is ↦ ap (λ t. list_all p (cond {A = List ℕ} t (b ∷ front) [])) is ∙ ap (λ t. t && list_all p front) is ∙ run_plain p bs
+      | inr isnt ↦ ap (λ t. list_all p (cond {A = List ℕ} t (b ∷ front) [])) isnt
+    ]
+
+-- a word that goes on behind it has a byte that no key has
+pub run_odd : (line : List ℕ) (n : ℕ) → prefix_len is_key_byte line < n → n ≤ length line → list_all is_key_byte (take n line) ≡ false
+run_odd line n lt le =
+    let r = prefix_len is_key_byte line in
+    list_all_at is_key_byte (take n line) r 0 (omega (arith, length-take n line)) (ap is_key_byte (get_or-take n line r 0 lt) ∙ prefix_len_stops is_key_byte line 0 (omega arith))
 
 -- digits behind a number don't make it smaller
 pub after_ge : (v : ℕ) (cs : List ℕ) → v ≤ digits_value_after 10 v cs

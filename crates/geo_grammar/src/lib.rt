@@ -21,6 +21,7 @@ mod line;
 mod reader;
 mod reply;
 mod request;
+mod runs;
 mod shared;
 mod split;
 mod state;

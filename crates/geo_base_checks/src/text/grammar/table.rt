@@ -47,6 +47,17 @@ pub fn keys() -> Rows {
         b"get \x1f\n|BadLine;",
         b"get a\tb\n|BadLine;",
         b"set \x7f 0 0 1\r\nx\r\n|BadLine;Unknown;",
+        // Words about as long as the sixteen bytes that are looked at in one step.
+        b"get 123456789abcde 123456789abcdef k\n|get 123456789abcde 123456789abcdef k;",
+        b"get \x80123456789abcdef 123456789abcdefgh\n|get \x80123456789abcdef 123456789abcdefgh;",
+        b"get 123456789abcdef0123456789abcdef k\n|get 123456789abcdef0123456789abcdef k;",
+        b"get 123456789abcdef0123456789abcdef0 k\n|get 123456789abcdef0123456789abcdef0 k;",
+        b"get 123456789abcde\x7f behind_it_more\n|BadLine;",
+        b"get 123456789abcdef\x7f behind_it_more\n|BadLine;",
+        b"get 123456789abcdef0\x7f\n|BadLine;",
+        b"get 12\x1f34\x7f behind_it_more_and_more\n|BadLine;",
+        b"get 12\x7f34\x1f behind_it_more_and_more\n|BadLine;",
+        b"get k                  k                                  k\n|get k k k;",
     ]
 }
 

@@ -1,0 +1,16 @@
+use Rattle.std.proofs.Common.{ltb, sym, ap, ◌∙◌, arith, w8}
+use lib.Count.{count_trailing_zeros}
+use Rattle.std.proofs.lemmas.Simd.{bitmask_splat, leading_from_mask_l, trailing_mask_l}
+use Rattle.geo_grammar.proofs.runs.run_above_space.Goals as goal
+
+pub returns-then-found-eq0 : goal.returns-then-found-eq0
+returns-then-found-eq0 c =
+    let bytes = c.args.bytes in
+    let found = bitmask_splat w8 ltb bytes 16 33 c.requires (omega arith) in
+    sym (leading_from_mask_l (λ b. ltb b 33) bytes (sym found ∙ c.if-found-eq0.true) ∙ c.requires)
+
+pub returns-else-found-eq0 : goal.returns-else-found-eq0
+returns-else-found-eq0 c =
+    let bytes = c.args.bytes in
+    let found = bitmask_splat w8 ltb bytes 16 33 c.requires (omega arith) in
+    ap (count_trailing_zeros 64) found ∙ trailing_mask_l (λ b. ltb b 33) 64 bytes (omega (arith, c.requires)) (omega arith)
