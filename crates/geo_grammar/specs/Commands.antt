@@ -1,6 +1,6 @@
 -- What a command line says, by its words (memcached's protocol.txt, "Storage commands" to "Other commands"). The number of
 -- words, the key and the place of `noreply` come before numbers: where one of them is wrong the line is bad.
-use Rattle.std.specs.Prelude.{ℕ, ℤ, pos, nat_lt, Bool, true, false, List, [], ◌∷◌, codes, Option, Some, None, if◌then◌else◌}
+use Rattle.std.specs.Prelude.{◌≡◌, ℕ, ℤ, pos, nat_lt, Bool, true, false, List, [], ◌∷◌, codes, Option, Some, None, if◌then◌else◌}
 use Rattle.std.specs.List.{list_all}
 use Rattle.std.specs.Option.{option_map, option_or}
 use Rattle.std.specs.Str.{bytes_eq}
@@ -106,6 +106,11 @@ storage_line verb (key ∷ flags ∷ exptime ∷ size ∷ words) = head_line (st
 storage_line verb _ = line.Bad BadLine
 
 -- ---- retrieval commands
+
+-- there is no word, or one that is no key
+abbrev pub NoKeys : List (List ℕ) → Type 0
+NoKeys [] = Unit {0}
+NoKeys (key ∷ keys) = list_all is_key (key ∷ keys) ≡ false
 
 -- <key>*, at least one
 abbrev pub fetch_line : Bool → List (List ℕ) → Line

@@ -15,6 +15,7 @@ mod feed;
 mod fetch;
 mod head;
 mod item;
+mod keys;
 mod laws;
 mod limits;
 mod line;

@@ -3,6 +3,9 @@
 /// The most bytes of a line before its newline.
 pub const LONGEST_LINE: usize = 65_536;
 
+/// The most bytes of a key.
+pub const LONGEST_KEY: usize = 250;
+
 /// The most bytes of a value.
 pub const LONGEST_VALUE: usize = 1_048_576;
 

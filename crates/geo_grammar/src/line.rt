@@ -7,11 +7,13 @@ use crate::command::{Command, command_of};
 use crate::fault::LineFault;
 use crate::fetch::{fetch_line, fetch_touch_line};
 use crate::head::Head;
+use crate::keys::key_of;
 use crate::limits::{MOST_FLAGS, MOST_NUMBER};
 use crate::request::Request;
 use crate::storage::storage_line;
-use crate::words::{next_word, noreply as read_noreply, number, signed, without_return};
-use geo_versions::Key;
+use crate::words::{
+    first_word, next_word, noreply as read_noreply, number, signed, without_return,
+};
 use std::alloc::{AllocError, Global};
 
 /// What a command line says.
@@ -42,13 +44,13 @@ fn delete_line(alloc: Global, line: &[u8]) -> Result<Line, AllocError>
     ensures { IfOk result (λ l. l ≡ delete_line (words_of line.now)) }
 {
     let bad = Line::Bad(LineFault::BadLine);
-    let Some((key, rest)) = next_word(line) else {
+    let Some(key) = first_word(line) else {
         return Ok(bad);
     };
-    let Some(noreply) = read_noreply(without_zero(rest)) else {
+    let Some(noreply) = read_noreply(without_zero(key.rest)) else {
         return Ok(bad);
     };
-    let Some(key) = Key::new(alloc, key)? else {
+    let Some(key) = key_of(alloc, key)? else {
         return Ok(bad);
     };
     Ok(Line::Whole(Request::Delete { key, noreply }))
@@ -59,16 +61,16 @@ fn touch_line(alloc: Global, line: &[u8]) -> Result<Line, AllocError>
     ensures { IfOk result (λ l. l ≡ touch_line (words_of line.now)) }
 {
     let bad = Line::Bad(LineFault::BadLine);
-    let Some((key, rest)) = next_word(line) else {
+    let Some(key) = first_word(line) else {
         return Ok(bad);
     };
-    let Some((exptime, rest)) = next_word(rest) else {
+    let Some((exptime, rest)) = next_word(key.rest) else {
         return Ok(bad);
     };
     let Some(noreply) = read_noreply(rest) else {
         return Ok(bad);
     };
-    let Some(key) = Key::new(alloc, key)? else {
+    let Some(key) = key_of(alloc, key)? else {
         return Ok(bad);
     };
     let Some(exptime) = signed(exptime) else {
@@ -114,16 +116,16 @@ fn arith_line(alloc: Global, up: bool, line: &[u8]) -> Result<Line, AllocError>
     ensures { IfOk result (λ l. l ≡ arith_line up (words_of line.now)) }
 {
     let bad = Line::Bad(LineFault::BadLine);
-    let Some((key, rest)) = next_word(line) else {
+    let Some(key) = first_word(line) else {
         return Ok(bad);
     };
-    let Some((by, rest)) = next_word(rest) else {
+    let Some((by, rest)) = next_word(key.rest) else {
         return Ok(bad);
     };
     let Some(noreply) = read_noreply(rest) else {
         return Ok(bad);
     };
-    let Some(key) = Key::new(alloc, key)? else {
+    let Some(key) = key_of(alloc, key)? else {
         return Ok(bad);
     };
     let Some(by) = number(by, MOST_NUMBER) else {

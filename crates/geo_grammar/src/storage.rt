@@ -1,15 +1,19 @@
 //! Storage lines.
-ghost use Rattle.std.specs.Prelude.{◌≡◌, IfOk};
+ghost use Rattle.std.specs.Prelude.{◌≡◌, ◌<◌, length, IfOk};
+ghost use Rattle.std.specs.List.{list_all};
+ghost use Rattle.geo_records.specs.Keys.{is_key_byte};
 ghost use Rattle.geo_grammar.specs.Words.{words_of};
 ghost use Rattle.geo_grammar.specs.Commands.{ending_of, storage_head, storage_line};
 
 use crate::fault::LineFault;
 use crate::head::Head;
+use crate::keys::key_of;
 use crate::limits::{LONGEST_VALUE, MOST_BYTES, MOST_FLAGS, MOST_NUMBER};
 use crate::line::Line;
 use crate::request::Verb;
-use crate::words::{next_word, noreply as read_noreply, number, signed as read_signed};
-use geo_versions::Key;
+use crate::words::{
+    Word, first_word, next_word, noreply as read_noreply, number, signed as read_signed,
+};
 use std::alloc::{AllocError, Global};
 
 /// What stands behind the size of the data.
@@ -47,15 +51,17 @@ fn read_ending(verb: Verb, line: &[u8]) -> Option<Ending>
 fn storage_head(
     alloc: Global,
     verb: Verb,
-    key: &[u8],
+    key: Word<'_>,
     flags: &[u8],
     exptime: &[u8],
     size: &[u8],
     rest: &[u8],
 ) -> Result<Option<Head>, AllocError>
-    ensures { IfOk result (λ h. h ≡ storage_head verb key.now flags.now exptime.now size.now (words_of rest.now)) }
+    requires plain { key.plain ≡ list_all is_key_byte key.bytes.now }
+    requires some { 0 < length key.bytes.now }
+    ensures { IfOk result (λ h. h ≡ storage_head verb key.entry.bytes.now flags.now exptime.now size.now (words_of rest.now)) }
 {
-    let Some(key) = Key::new(alloc, key)? else {
+    let Some(key) = key_of(alloc, key)? else {
         return Ok(None);
     };
     let Some(flags) = number(flags, MOST_FLAGS) else {
@@ -86,10 +92,10 @@ pub fn storage_line(alloc: Global, verb: Verb, line: &[u8]) -> Result<Line, Allo
     ensures { IfOk result (λ l. l ≡ storage_line verb (words_of line.now)) }
 {
     let bad = Line::Bad(LineFault::BadLine);
-    let Some((key, rest)) = next_word(line) else {
+    let Some(key) = first_word(line) else {
         return Ok(bad);
     };
-    let Some((flags, rest)) = next_word(rest) else {
+    let Some((flags, rest)) = next_word(key.rest) else {
         return Ok(bad);
     };
     let Some((exptime, rest)) = next_word(rest) else {

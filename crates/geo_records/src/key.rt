@@ -127,6 +127,16 @@ impl Key {
         }))
     }
 
+    /// The key of bytes that are one, which are not looked at again.
+    pub fn of(alloc: Global, bytes: &[u8]) -> Result<Self, AllocError>
+        requires { is_key bytes.now ≡ true }
+        ensures { IfOk result (λ key. key ≡ bytes.now) }
+    {
+        Ok(Key {
+            bytes: SmallVec::from_slice(alloc, bytes)?,
+        })
+    }
+
     /// An equal key. Of a short one it takes no memory.
     pub fn copied(&self, alloc: Global) -> Result<Key, AllocError>
         ensures same { IfOk result (λ other. other ≡ self.now) }
