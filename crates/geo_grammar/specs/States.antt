@@ -15,6 +15,20 @@ place_of (Data head got returned) = block_place head got.items returned
 place_of (Skip left why) = Skips left why
 place_of Ended = place.Ended
 
+-- in a line
+abbrev pub IsLine : State → Type 0
+IsLine (Line seen) = Unit {0}
+IsLine (Data head got returned) = ⊥
+IsLine (Skip left why) = ⊥
+IsLine Ended = ⊥
+
+-- what was seen of the line
+abbrev pub seen_of : State → List ℕ
+seen_of (Line seen) = seen.items
+seen_of (Data head got returned) = []
+seen_of (Skip left why) = []
+seen_of Ended = []
+
 -- within a data block or behind it
 abbrev pub IsBlock : State → Type 0
 IsBlock (Line seen) = ⊥

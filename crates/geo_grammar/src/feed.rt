@@ -1,15 +1,16 @@
 //! A piece taken from where a reader stands. What an `Err` leaves is what was there: all that can fail comes first.
 ghost use Rattle.std.specs.Prelude.{◌≡◌, ◌++◌, [], true, IfOk, IsOk, OnOk, OnErr};
 ghost use Rattle.std.specs.Option.{option_to_list};
-ghost use Rattle.geo_grammar.specs.Places.{IsPlace, start_place, items_from, place_after, is_ended};
-ghost use Rattle.geo_grammar.specs.States.{IsBlock, place_of, finished};
+ghost use Rattle.geo_grammar.specs.Places.{IsPlace, start_place, line_transition, items_from, place_after, is_ended};
+ghost use Rattle.geo_grammar.specs.States.{IsLine, seen_of, IsBlock, place_of, finished};
 
 use crate::block::{BlockSplit, split_block};
 use crate::fault::{BlockFault, Fault};
 use crate::item::Item;
+use crate::lines::{is_start, read_on};
 use crate::split::{LineSplit, split_seen};
 use crate::state::State;
-use crate::step::{Transition, line_end, run};
+use crate::step::{Transition, line_end, run, run_steps};
 use std::alloc::{AllocError, Global};
 use std::mem;
 
@@ -33,6 +34,60 @@ fn feed_from(
         out.push(item)?;
     }
     let next = run(alloc, from, piece, &mut out)?;
+    *state = next;
+    Ok(out)
+}
+
+/// Takes a piece that ends a line of which some came before, with what follows it. It stands apart so that other pieces don't
+/// pay for its locals.
+#[inline(never)]
+fn feed_cut(
+    alloc: Global,
+    state: &mut State,
+    front: &[u8],
+    rest: &[u8],
+) -> Result<Vec<Item>, AllocError>
+    requires line { IsLine state.old }
+    requires old { IsPlace (place_of state.old) }
+    ensures items { IfOk result (λ out. out.items ≡ (line_transition (seen_of state.old ++ front.now)).gives
+        ++ items_from (line_transition (seen_of state.old ++ front.now)).next rest.now) }
+    ensures next { OnOk result (place_of state.new ≡ place_after (line_transition (seen_of state.old ++ front.now)).next rest.now) }
+    ensures place { IsPlace (place_of state.new) }
+    ensures err { OnErr result (place_of state.new ≡ place_of state.old) }
+{
+    let State::Line(seen) = state else {
+        unreachable!()
+    };
+    let Transition {
+        item,
+        state: from,
+        rest,
+    } = line_end(alloc, seen.as_slice(), front, rest)?;
+    feed_from(alloc, state, item, from, rest)
+}
+
+/// Takes a piece that comes at the front of a line and brings it whole, with what follows it. Where the piece ends with a line or
+/// with its data, the state stays as it is.
+fn feed_lines(
+    alloc: Global,
+    state: &mut State,
+    line: &[u8],
+    rest: &[u8],
+) -> Result<Vec<Item>, AllocError>
+    requires { place_of state.old ≡ start_place }
+    ensures items { IfOk result
+        (λ out. out.items ≡ (line_transition line.now).gives ++ items_from (line_transition line.now).next rest.now) }
+    ensures next { OnOk result (place_of state.new ≡ place_after (line_transition line.now).next rest.now) }
+    ensures place { IsPlace (place_of state.new) }
+    ensures err { OnErr result (place_of state.new ≡ place_of state.old) }
+{
+    let mut out = Vec::new(alloc);
+    let mut from = State::Line(Vec::new(alloc));
+    let rest = read_on(alloc, &mut from, line, rest, &mut out)?;
+    if rest.is_empty() && is_start(&from) {
+        return Ok(out);
+    }
+    let next = run_steps(alloc, from, rest, &mut out)?;
     *state = next;
     Ok(out)
 }
@@ -120,12 +175,11 @@ pub fn feed_state(alloc: Global, state: &mut State, piece: &[u8]) -> Result<Vec<
                 Ok(Vec::new(alloc))
             }
             LineSplit::Ends { front, rest } => {
-                let Transition {
-                    item,
-                    state: from,
-                    rest,
-                } = line_end(alloc, seen.as_slice(), front, rest)?;
-                feed_from(alloc, state, item, from, rest)
+                if seen.is_empty() {
+                    feed_lines(alloc, state, front, rest)
+                } else {
+                    feed_cut(alloc, state, front, rest)
+                }
             }
             LineSplit::TooLong => {
                 let fault = Some(Item::Fault(Fault::LineTooLong));

@@ -19,6 +19,7 @@ mod keys;
 mod laws;
 mod limits;
 mod line;
+mod lines;
 mod reader;
 mod reply;
 mod request;

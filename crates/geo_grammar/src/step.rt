@@ -10,6 +10,7 @@ use crate::fault::{BlockFault, Fault};
 use crate::head::Head;
 use crate::item::Item;
 use crate::line::{Line, read_line};
+use crate::lines::read_lines;
 use crate::split::{LineSplit, split_line, split_seen};
 use crate::state::State;
 use std::alloc::{AllocError, Global};
@@ -204,8 +205,9 @@ fn step<'a>(alloc: Global, state: State, piece: &'a [u8]) -> Result<Transition<'
     }
 }
 
-/// Reads a piece from a state on: appends its items, and gives the state behind it.
-pub fn run(
+/// Reads a piece from a state on, of which it brings no whole line where that is the front of one: appends its items, and gives the
+/// state behind it.
+pub fn run_steps(
     alloc: Global,
     state: State,
     piece: &[u8],
@@ -221,14 +223,31 @@ pub fn run(
     while !rest.is_empty() {
         let Transition {
             item,
-            state: next,
+            state: mut next,
             rest: after,
         } = step(alloc, state, rest)?;
         if let Some(item) = item {
             out.push(item)?;
         }
+        rest = read_lines(alloc, &mut next, after, out)?;
         state = next;
-        rest = after;
     }
     Ok(state)
+}
+
+/// Reads a piece from a state on: appends its items, and gives the state behind it.
+pub fn run(
+    alloc: Global,
+    state: State,
+    piece: &[u8],
+    out: &mut Vec<Item>,
+) -> Result<State, AllocError>
+    requires { IsPlace (place_of state) }
+    ensures items { OnOk result (out.new.items ≡ out.old.items ++ items_from (place_of state) piece.now) }
+    ensures next { IfOk result (λ s. place_of s ≡ place_after (place_of state) piece.now) }
+    ensures place { IfOk result (λ s. IsPlace (place_of s)) }
+{
+    let mut state = state;
+    let rest = read_lines(alloc, &mut state, piece, out)?;
+    run_steps(alloc, state, rest, out)
 }

@@ -1,4 +1,4 @@
-use Rattle.std.proofs.Common.{sym, ap, ◌∙◌, ◌++◌}
+use Rattle.std.proofs.Common.{ap, ◌∙◌, ◌++◌}
 use Rattle.std.specs.List.{list_any}
 use Rattle.geo_grammar.specs.Faults.{says_too_long}
 use Rattle.geo_grammar.specs.Protocol.{items_of}

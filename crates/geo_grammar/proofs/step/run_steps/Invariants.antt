@@ -1,7 +1,7 @@
 use Rattle.std.proofs.Common.{◌≡◌, ◌++◌, length}
 use Rattle.geo_grammar.specs.Places.{IsPlace, items_from, place_after}
 use Rattle.geo_grammar.specs.States.{place_of}
-use Rattle.geo_grammar.proofs.step.run.Given as goal
+use Rattle.geo_grammar.proofs.step.run_steps.Given as goal
 
 abbrev pub invariant-loop-rest : goal.invariant-loop-rest
 invariant-loop-rest l = record {
