@@ -3,6 +3,7 @@ ghost use Rattle.std.specs.Prelude.{◌≡◌, ◌<◌, ◌^◌, ◌∷◌, leng
 ghost use Rattle.geo_lru.specs.Lists.{present, without, moved, count, hot_limit, warm_limit, hot_juggled, warm_juggled, cold_juggled, juggled, leaves_list, warm_leaves};
 
 use crate::access::Access;
+use crate::cold::ColdList;
 use crate::list::ItemList;
 use crate::segments::Segments;
 use std::alloc::AllocError;
@@ -67,7 +68,7 @@ impl Segments {
         if access.active {
             transfer(&mut self.hot, &mut self.warm, item, access)?;
         } else {
-            transfer(&mut self.hot, &mut self.cold, item, access)?;
+            cool(&mut self.hot, &mut self.cold, item, access)?;
         }
         Ok(true)
     }
@@ -85,7 +86,7 @@ impl Segments {
         if access.active {
             self.warm.move_to_head(item);
         } else {
-            transfer(&mut self.warm, &mut self.cold, item, access)?;
+            cool(&mut self.warm, &mut self.cold, item, access)?;
         }
         Ok(true)
     }
@@ -99,7 +100,8 @@ impl Segments {
         let Some((item, access)) = self.cold.last_active() else {
             return Ok(false);
         };
-        transfer(&mut self.cold, &mut self.warm, item, access)?;
+        self.warm.push_head(item, access.moved())?;
+        self.cold.take_active((item, access));
         Ok(true)
     }
 }
@@ -119,5 +121,23 @@ fn transfer(
 {
     to.push_head(item, access.moved())?;
     from.remove(item);
+    Ok(())
+}
+
+// The same, where the other list is COLD: an item comes there without its ACTIVE bit, so what was found of COLD stays so.
+fn cool(
+    list: &mut ItemList,
+    cold: &mut ColdList,
+    item: usize,
+    access: Access,
+) -> Result<(), AllocError>
+    requires { present item cold.old ≡ 0 }
+    ensures from { OnOk result (list.new ≡ without item list.old) }
+    ensures to { OnOk result (cold.new ≡ (item, moved access) ∷ cold.old) }
+    ensures from_kept { OnErr result (list.new ≡ list.old) }
+    ensures to_kept { OnErr result (cold.new ≡ cold.old) }
+{
+    cold.push_idle(item, access.moved())?;
+    list.remove(item);
     Ok(())
 }

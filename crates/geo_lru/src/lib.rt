@@ -5,6 +5,8 @@
 #![tactic(auto)]
 
 pub mod access;
+mod ahead;
+mod cold;
 mod juggle;
 mod list;
 pub mod segments;

@@ -1,10 +1,12 @@
 //! One of the three lists.
-ghost use Rattle.std.specs.Prelude.{◌≡◌, ◌≤◌, ◌<◌, ◌^◌, [], ◌∷◌, length, cond, is_some, nat_eq, nat_lt, IfOk, OnOk, OnErr};
+ghost use Rattle.std.specs.Prelude.{◌≡◌, ◌≤◌, ◌<◌, ◌^◌, [], ◌∷◌, length, cond, is_some, nat_eq, nat_lt, slice_get, IfOk, OnOk, OnErr};
 ghost use Rattle.std.specs.Map.{lookup};
 ghost use Rattle.lru.specs.LruCache.{last_entry};
 ghost use Rattle.geo_lru.specs.Lists.{present, unseen, touched_in, brought_forward, without, last_active};
+ghost use Rattle.geo_lru.specs.Ahead.{IsAhead};
 
 use crate::access::Access;
+use crate::ahead::Ahead;
 use lru::LruCache;
 use std::alloc::{AllocError, Global};
 use std::marker::Model;
@@ -55,14 +57,16 @@ impl ItemList {
         Some((*item, *access))
     }
 
-    /// The active item nearest the tail.
-    pub(crate) fn last_active(&self) -> Option<(usize, Access)>
-        ensures { result ≡ last_active self.now }
+    /// Finds the active items nearest the tail.
+    pub(crate) fn search(&self, ahead: &mut Ahead)
+        ensures ahead { IsAhead self.now ahead.new }
+        ensures first { slice_get ahead.new 0 ≡ last_active self.now }
     {
         if self.active == 0 {
-            return None;
+            ahead.forget();
+        } else {
+            ahead.search(&self.entries, self.active);
         }
-        search_from_tail(&self.entries)
     }
 
     /// Notes a hit on the item, and tells whether it is here.
@@ -142,17 +146,4 @@ impl ItemList {
         }
         true
     }
-}
-
-// The active item nearest the tail, by going through the list.
-fn search_from_tail(entries: &LruCache<usize, Access>) -> Option<(usize, Access)>
-    ensures { result ≡ last_active entries.now.entries }
-{
-    let mut rest = entries.iter();
-    while let Some((item, access)) = rest.next_back() {
-        if access.active {
-            return Some((*item, *access));
-        }
-    }
-    None
 }

@@ -3,6 +3,7 @@ ghost use Rattle.std.specs.Prelude.{◌≡◌, ◌≤◌, ℕ, [], IfOk, OnOk, O
 ghost use Rattle.geo_lru.specs.Lists.{present, places, entered, touched_at, left, victim_of};
 
 use crate::access::Access;
+use crate::cold::ColdList;
 use crate::list::ItemList;
 use std::alloc::{AllocError, Global};
 use std::marker::Model;
@@ -14,7 +15,7 @@ use std::marker::Model;
 pub struct Segments {
     pub(crate) hot: ItemList,
     pub(crate) warm: ItemList,
-    pub(crate) cold: ItemList,
+    pub(crate) cold: ColdList,
 }
 
 impl Model for Segments {
@@ -35,7 +36,7 @@ impl Segments {
         Ok(Segments {
             hot: ItemList::new(alloc)?,
             warm: ItemList::new(alloc)?,
-            cold: ItemList::new(alloc)?,
+            cold: ColdList::new(alloc)?,
         })
     }
 

@@ -1,9 +1,0 @@
-use Rattle.std.proofs.Common.{◌≡◌, length}
-use Rattle.geo_lru.specs.Lists.{last_active}
-use Rattle.geo_lru.proofs.list.search_from_tail.Given as goal
-
-abbrev pub invariant-loop-item : goal.invariant-loop-item
-invariant-loop-item l = last_active l.rest ≡ last_active l.entries.entries
-
-abbrev pub decreases-loop-item : goal.decreases-loop-item
-decreases-loop-item l = length l.rest
