@@ -49,6 +49,13 @@ left-hot i l h t = rw (without-absent i l.warm (omega (arith, h.once i, found i 
 pub left-warm : (i : ℕ) (l : Lists) → IsApart l → is_some (lookup (nat_eq i) l.warm) ≡ true → left i l ≡ record { hot = without i l.hot; warm = without i l.warm; cold = l.cold }
 left-warm i l h t = rw (without-absent i l.cold (omega (arith, h.once i, found i l.warm t))) refl
 
+-- and the other way round
+pub left-from-cold : (i : ℕ) (l : Lists) → IsApart l → is_some (lookup (nat_eq i) l.cold) ≡ true → left i l ≡ record l { cold = without i l.cold }
+left-from-cold i l h t = rw (without-absent i l.hot (omega (arith, h.once i, found i l.cold t)), without-absent i l.warm (omega (arith, h.once i, found i l.cold t))) refl
+
+pub left-from-warm : (i : ℕ) (l : Lists) → IsApart l → is_some (lookup (nat_eq i) l.warm) ≡ true → left i l ≡ record { hot = l.hot; warm = without i l.warm; cold = without i l.cold }
+left-from-warm i l h t = rw (without-absent i l.hot (omega (arith, h.once i, found i l.warm t))) refl
+
 -- what holds at all holds of a refusal
 pub if_refused : {A E : Type 0} (result : Result A E) (P : Type 0) → P → OnErr result P
 if_refused (Ok _) P p = tt

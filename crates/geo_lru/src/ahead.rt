@@ -1,5 +1,5 @@
 //! The active items that one search from a list's tail found.
-ghost use Rattle.std.specs.Prelude.{◌≡◌, ◌<◌, [], ◌++◌, length, drop, slice_get};
+ghost use Rattle.std.specs.Prelude.{◌≡◌, ◌<◌, [], ◌∷◌, ◌++◌, length, drop, slice_get};
 ghost use Rattle.geo_lru.specs.Lists.{last_active};
 ghost use Rattle.geo_lru.specs.Ahead.{actives, IsAhead};
 
@@ -65,6 +65,15 @@ impl Ahead {
         self.gone = self.found.len();
     }
 
+    /// This item alone.
+    pub(crate) fn hold(&mut self, item: usize, access: Access)
+        ensures { self.new ≡ (item, access) ∷ [] }
+    {
+        self.found.clear();
+        self.found.push((item, access));
+        self.gone = 0;
+    }
+
     /// Finds the active items nearest the tail, of which there are so many in all: at least one, where there is one.
     pub(crate) fn search(&mut self, entries: &LruCache<usize, Access>, active: usize)
         ensures ahead { IsAhead entries.now.entries self.new }
@@ -103,20 +112,23 @@ fn find_more(
     found: &mut ArrayVec<(usize, Access), 64>,
 )
     requires found { actives entries.now.entries ≡ found.old.items ++ actives rest }
-    requires some { 0 < length found.old.items }
+    requires one { length found.old.items ≡ 1 }
     ensures ahead { IsAhead entries.now.entries found.new.items }
     ensures some { 0 < length found.new.items }
 {
+    if found.len() >= active {
+        return;
+    }
     let passed = entries.len().saturating_sub(rest.len());
     for _ in 0..passed.saturating_mul(FARTHER) {
-        if found.len() >= active || found.is_full() {
-            return;
-        }
         let Some((item, access)) = rest.next_back() else {
             return;
         };
         if access.active {
             found.push((*item, *access));
+            if found.len() >= active || found.is_full() {
+                return;
+            }
         }
     }
 }

@@ -10,8 +10,8 @@ use crate::list::ItemList;
 use std::alloc::{AllocError, Global};
 use std::marker::Model;
 
-/// A list with the active items nearest its tail that a search found: the next moves need not search again. A hit, or an item that
-/// leaves in another way, makes it forget them.
+/// A list with the active items nearest its tail that a search found: the next moves need not search again. A hit that makes another
+/// item active, or an item that leaves in another way, makes it forget them.
 #[derive(Drop)]
 pub(crate) struct ColdList {
     list: ItemList,
@@ -74,8 +74,19 @@ impl ColdList {
         ensures found { result ≡ is_some (lookup (nat_eq item) self.old) }
         ensures touched { self.new ≡ touched_in item self.old }
     {
-        self.ahead.forget();
-        self.list.touch(item)
+        let Some(before) = self.list.note_hit(item) else {
+            return false;
+        };
+        let after = before.touched();
+        // The only active item is the next, wherever it stands. Among others its place isn't known.
+        if after.active {
+            if self.list.count_active() == 1 {
+                self.ahead.hold(item, after);
+            } else {
+                self.ahead.forget();
+            }
+        }
+        true
     }
 
     /// Puts an item that is not active at the head.

@@ -2,7 +2,7 @@
 ghost use Rattle.std.specs.Prelude.{◌≡◌, ◌≤◌, ◌<◌, ◌^◌, [], ◌∷◌, length, cond, is_some, nat_eq, nat_lt, slice_get, IfOk, OnOk, OnErr};
 ghost use Rattle.std.specs.Map.{lookup};
 ghost use Rattle.lru.specs.LruCache.{last_entry};
-ghost use Rattle.geo_lru.specs.Lists.{present, unseen, touched_in, brought_forward, without, last_active};
+ghost use Rattle.geo_lru.specs.Lists.{present, unseen, touched_in, brought_forward, without, last_active, active_count};
 ghost use Rattle.geo_lru.specs.Ahead.{IsAhead};
 
 use crate::access::Access;
@@ -74,10 +74,18 @@ impl ItemList {
         ensures found { result ≡ is_some (lookup (nat_eq item) self.old) }
         ensures touched { self.new ≡ touched_in item self.old }
     {
+        self.note_hit(item).is_some()
+    }
+
+    /// The same, and tells what was seen of the item before.
+    pub(crate) fn note_hit(&mut self, item: usize) -> Option<Access>
+        ensures found { result ≡ lookup (nat_eq item) self.old }
+        ensures touched { self.new ≡ touched_in item self.old }
+    {
         // Its clauses bound the count of active items.
         let _len = self.entries.len();
         let Some(access) = self.entries.peek_mut(&item) else {
-            return false;
+            return None;
         };
         let before = *access;
         let after = before.touched();
@@ -85,7 +93,14 @@ impl ItemList {
         if after.active && !before.active {
             self.active += 1;
         }
-        true
+        Some(before)
+    }
+
+    /// How many of its items are active.
+    pub(crate) fn count_active(&self) -> usize
+        ensures { result ≡ active_count self.now }
+    {
+        self.active
     }
 
     /// Puts an item at the head.

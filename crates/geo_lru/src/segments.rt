@@ -85,13 +85,14 @@ impl Segments {
     pub fn leave(&mut self, item: usize)
         ensures { self.new ≡ left item self.old }
     {
-        if self.hot.remove(item) {
+        // What goes most often is a victim, which stands in COLD.
+        if self.cold.remove(item) {
             return;
         }
         if self.warm.remove(item) {
             return;
         }
-        self.cold.remove(item);
+        self.hot.remove(item);
     }
 
     /// The item to evict next, None exactly where there is none.

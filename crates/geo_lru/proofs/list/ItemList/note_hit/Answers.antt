@@ -1,6 +1,6 @@
 use Rattle.std.proofs.Common.{◌≤◌, cond, arith, sym}
 use Rattle.geo_lru.proofs.Tallies.{active-set_value, still_active, one, none, not_true, not_false}
-use Rattle.geo_lru.proofs.list.ItemList.touch.Goals as goal
+use Rattle.geo_lru.proofs.list.ItemList.note_hit.Goals as goal
 
 pub invariant_of-self-then-not-before : goal.invariant_of-self-then-not-before
 invariant_of-self-then-not-before c =
