@@ -23,6 +23,15 @@ pub const ROWS: &[(&'static str, &'static str)] = &[
     // The active item nearest the tail goes first.
     ("e12345 h112 jjjj h4433 j d", "+++++24135-"),
     ("e12345 h112 jjjj h4433 jj d", "++++++21345-"),
+    // One that is hit between two moves goes next where it is nearer the tail, also where another was found before.
+    ("e12345 h112 jjjj h4433 j h22 j d", "++++++41325-"),
+    ("e12345 h112 jjjj h4433 j h22 jjj d", "++++++++13245-"),
+    // So does one that was active alone, and one that was hit after that.
+    ("e12345 h112 jjjj h33 h4 j d", "+++++24135-"),
+    ("e12345 h112 jjjj h33 h22 j d", "+++++34125-"),
+    // One that was found and then left moves no more.
+    ("e12345 h112 jjjj h4433 j l4 j d", "++++++2513-"),
+    ("e12345 h112 jjjj h44 l4 h33 jj d", "++++++2513-"),
     // An active tail of WARM, where it is too long, goes round, and one that is not goes to COLD. A move leaves an item hit once.
     ("e12345 h112 jjjj h2331 jj d", "++++++41235-"),
     ("e12345 h112 jjjj h2331 jjj d", "+++++++42315-"),
