@@ -2,7 +2,9 @@
 use Rattle.std.proofs.Common.{◌≡◌, ℕ, ◌+◌, ◌<◌, ◌≤◌, ◌==◌, Bool, true, false, cond, not, suc, inl, inr, List, [], ◌∷◌, ◌++◌, length, take, drop, Option, Some, None, refl, sym, ap, subst, ◌∙◌, arith, append_assoc, append-nil, MatchOption, position}
 use Rattle.std.specs.Option.{option_map}
 use Rattle.std.specs.List.{position_or_len}
-use Rattle.std.proofs.lemmas.Bool.{cases_lt, cond-true, cond-false, lt-ltb, le-ltb}
+use Rattle.std.proofs.lemmas.Bool.{cases_lt, cond-true, cond-false, lt-ltb, le-ltb, false_from_ne_true}
+use Rattle.std.proofs.lemmas.List.Sums.{position_or_len_is}
+use Rattle.memchr.specs.Find.{IsFirstByte}
 use Rattle.std.proofs.lemmas.Bool.Decides.{eqb_tells}
 use Rattle.geo_cluster.specs.Splits.{is_byte, split_at}
 use Rattle.geo_cluster.specs.Lines.{ended_in, left_in, last_line, lines_of}
@@ -34,6 +36,16 @@ position_says p xs o e =
       | inl lt ↦ subst P (sym (e ∙ cond-true _ _ _ (lt-ltb n (length xs) lt))) (refl, lt)
       | inr le ↦ subst P (sym (e ∙ cond-false _ _ _ (le-ltb n (length xs) le))) le
     ]
+
+-- what a search for the first byte that passes a test says
+pub first_says : (test : ℕ → Bool) (text : List ℕ) (o : Option ℕ) → IsFirstByte test text o
+    → MatchOption o (length text ≤ position_or_len test text) (λ n. (n ≡ position_or_len test text) × (n < length text))
+first_says test text None h =
+    let all : position_or_len test text ≡ length text = position_or_len_is test text (length text) 0 (omega arith) (λ k lt. false_from_ne_true _ (h k (omega arith) lt)) (λ lt. absurd (omega arith)) in
+    omega arith
+first_says test text (Some n) h =
+    let lt : n < length text = h.0.high in
+    (sym (position_or_len_is test text n 0 (omega arith) (λ k below. false_from_ne_true _ (h.0.before k (omega arith) below)) (λ _. h.1)), lt)
 
 -- where no such byte stands, the text isn't cut
 pub cut_none : (byte : ℕ) (text : List ℕ) → length text ≤ position_or_len (is_byte byte) text → split_at byte text ≡ None

@@ -1,6 +1,5 @@
 -- Lines for which memory is wanted.
-use Rattle.std.proofs.Common.{◌≡◌, ℕ, ◌+◌, ◌<◌, ◌≤◌, Bool, true, false, true≢false, List, ◌++◌, [], length, Option, None, Some, MatchOption, Vec, vec_len, vec_capacity, refl, sym, ap, subst, ◌∙◌, arith}
-use Rattle.std.specs.declared.alloc.Global.{Global}
+use Rattle.std.proofs.Common.{◌≡◌, ℕ, ◌<◌, Bool, true, false, true≢false, List, length, Option, None, Some, MatchOption, refl, sym, ap, ◌∙◌, arith}
 use Rattle.geo_cluster.specs.Sayings.{Said, SaysSites, SaysAt, SaysClient, SaysSend, SaysTake, SaysTick, SaysRemove, SaysReap, SaysEvict, SaysVersions}
 use Rattle.geo_cluster.specs.Progress.{Progress}
 use Rattle.geo_cluster.specs.Effects.{can_carry, SaidDoes}

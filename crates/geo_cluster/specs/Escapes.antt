@@ -1,5 +1,5 @@
 -- The escapes of a script: \r, \n, \\ and \xhh, as bytes are printed and as a text is read.
-use Rattle.std.specs.Prelude.{ℕ, ◌+◌, ◌*◌, ◌/◌, ◌%◌, ◌==◌, ◌<◌, nat_lt, nat_le, ◌&&◌, Bool, List, [], ◌∷◌, ◌++◌, length, Option, Some, None, if◌then◌else◌, codes}
+use Rattle.std.specs.Prelude.{ℕ, ◌+◌, ◌*◌, ◌/◌, ◌%◌, ◌==◌, ◌<◌, nat_lt, nat_le, ◌&&◌, Bool, not, List, [], ◌∷◌, ◌++◌, length, Option, Some, None, if◌then◌else◌, codes}
 use Rattle.std.specs.Option.{option_map}
 use Rattle.std.specs.List.{list_all}
 use Rattle.std.specs.Char.{digit_value}
@@ -25,6 +25,10 @@ escaped_byte b =
     else (if b == 10 then codes "\\n"
     else (if is_printable b then b ∷ []
     else 92 ∷ 120 ∷ hex_digit (b / 16) ∷ hex_digit (b % 16) ∷ [])))
+
+-- a byte that is printed as it is
+abbrev pub is_plain : ℕ → Bool
+is_plain b = is_printable b && not (b == 92)
 
 -- how bytes are printed
 abbrev pub escaped : List ℕ → List ℕ
@@ -74,6 +78,14 @@ unescaped_from spot (b ∷ bs) = unescaped_on (transition spot b) (λ s. unescap
 -- the bytes that a text spells
 abbrev pub unescaped : List ℕ → Option (List ℕ)
 unescaped text = unescaped_from Between text
+
+-- what a text spells, behind bytes that were spelt before it
+abbrev pub behind : List ℕ → Option (List ℕ) → Option (List ℕ)
+behind done more = option_map (λ bytes. done ++ bytes) more
+
+-- a byte that begins no escape
+abbrev pub is_no_backslash : ℕ → Bool
+is_no_backslash b = not (b == 92)
 
 -- how many they are, and whether all may stand in a key
 abbrev pub spelling_of : List ℕ → Option (ℕ × Bool)

@@ -1,6 +1,7 @@
 //! What is spelled, what a line says, and how a run ends where a device fails.
 use geo_cluster::{ScriptFault, ScriptLine, escape, is_skipped, parse_line, run_script, unescape};
 use geo_grammar::Device;
+use std::alloc::{AllocError, Global};
 use std::hash::RandomState;
 use std::io::{Error, ErrorKind, Read, Result as IoResult, Write};
 use std::test::Fail;
@@ -11,6 +12,55 @@ fn spells_bytes(rt: HostRuntime) -> Result<(), Fail> {
     assert_eq!(rt; text.as_slice(), b"a\\r\\n\\\\~\\x7f\\xff".as_slice());
     let bytes = unescape(rt.alloc(), b"\\x4A\\x4a\\n")?.ok_or("an escape was not read")?;
     assert_eq!(rt; bytes.as_slice(), b"JJ\n".as_slice());
+    Ok(())
+}
+
+/// So many letters, then this, then so many letters.
+fn among_letters(
+    alloc: Global,
+    before: usize,
+    middle: &[u8],
+    behind: usize,
+) -> Result<Vec<u8>, AllocError> {
+    let mut text = Vec::new(alloc);
+    for _letter in 0..before {
+        text.push(b'a')?;
+    }
+    text.extend_from_slice(middle)?;
+    for _letter in 0..behind {
+        text.push(b'a')?;
+    }
+    Ok(text)
+}
+
+#[test]
+fn spells_a_byte_at_each_place(rt: HostRuntime) -> Result<(), Fail> {
+    let rows = [("\n", "\\n"), ("\\", "\\\\"), ("\x7f", "\\x7f"), ("~", "~")];
+    for (byte, spelled) in rows {
+        for before in 0..67usize {
+            let bytes = among_letters(rt.alloc(), before, byte.as_bytes(), 66 - before)?;
+            let text = among_letters(rt.alloc(), before, spelled.as_bytes(), 66 - before)?;
+            let printed = escape(rt.alloc(), bytes.as_slice())?;
+            assert_eq!(rt; printed.as_slice(), text.as_slice());
+            let read = unescape(rt.alloc(), text.as_slice())?.ok_or("a text was not read")?;
+            assert_eq!(rt; read.as_slice(), bytes.as_slice());
+        }
+    }
+    Ok(())
+}
+
+#[test]
+fn reads_an_escape_at_each_place(rt: HostRuntime) -> Result<(), Fail> {
+    for between in 0..67usize {
+        let mut text = among_letters(rt.alloc(), 0, b"\\r", between)?;
+        let mut bytes = among_letters(rt.alloc(), 0, b"\r", between)?;
+        text.extend_from_slice(b"\\xFe")?;
+        bytes.push(0xfe)?;
+        let read = unescape(rt.alloc(), text.as_slice())?.ok_or("a text was not read")?;
+        assert_eq!(rt; read.as_slice(), bytes.as_slice());
+        let (half, _) = text.split_at(text.len() - 1);
+        assert!(rt; unescape(rt.alloc(), half)?.is_none());
+    }
     Ok(())
 }
 
@@ -122,6 +172,23 @@ fn ends_where_reading_fails(rt: HostRuntime) -> Result<(), Fail> {
         writer.into_inner().as_slice(),
         b"parcel 0\nparcel 1\n".as_slice()
     );
+    Ok(())
+}
+
+#[test]
+fn carries_out_a_line_that_two_reads_bring(rt: HostRuntime) -> Result<(), Fail> {
+    for before in 16_364..16_386usize {
+        let mut script = among_letters(rt.alloc(), 0, b"sites 2\n#", before)?;
+        script.extend_from_slice(b"\nsend 1 2\nsend 2 1")?;
+        let mut reader = Device::new(script.as_slice());
+        let mut writer = Device::new(Vec::new(rt.alloc()));
+        let outcome = run_script(rt.alloc(), RandomState::new(&rt)?, &mut reader, &mut writer);
+        assert_eq!(rt; outcome, Ok(()));
+        assert_eq!(rt;
+            writer.into_inner().as_slice(),
+            b"parcel 0\nparcel 1\n".as_slice()
+        );
+    }
     Ok(())
 }
 

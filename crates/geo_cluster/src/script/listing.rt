@@ -3,7 +3,7 @@ ghost use Rattle.std.specs.Prelude.{◌≡◌, ◌++◌, List, codes, decimal, I
 ghost use Rattle.std.specs.List.{flat_map};
 ghost use Rattle.geo_cluster.specs.Prints.{stamp_text, floor_text, hex_byte, hex_text, value_text, expiry_text, version_text, versions_text};
 
-use crate::script::escape::{escape, hex_letter};
+use crate::script::escape::{hex_letter, push_all_escaped};
 use geo_stamp::Stamp;
 use geo_versions::{Key, Version};
 use itoa::Buffer;
@@ -47,7 +47,8 @@ fn push_hex(out: &mut Vec<u8>, bytes: &[u8]) -> Result<(), AllocError>
     ensures { OnOk result (out.new.items ≡ out.old.items ++ hex_text bytes.now) }
 {
     for byte in bytes {
-        out.extend_from_slice(&[hex_letter(byte / 16), hex_letter(byte % 16)])?;
+        out.push(hex_letter(byte / 16))?;
+        out.push(hex_letter(byte % 16))?;
     }
     Ok(())
 }
@@ -74,12 +75,11 @@ fn push_expiry(out: &mut Vec<u8>, version: &Version) -> Result<(), AllocError>
     push_number(out, version.expiry)
 }
 
-fn push_version(alloc: Global, out: &mut Vec<u8>, entry: &(Key, Version)) -> Result<(), AllocError>
+fn push_version(out: &mut Vec<u8>, entry: &(Key, Version)) -> Result<(), AllocError>
     ensures { OnOk result (out.new.items ≡ out.old.items ++ version_text entry.now) }
 {
     let (key, version) = entry;
-    let escaped = escape(alloc, key.bytes())?;
-    out.extend_from_slice(escaped.as_slice())?;
+    push_all_escaped(out, key.bytes())?;
     push_space(out)?;
     push_value(out, version)?;
     push_space(out)?;
@@ -87,11 +87,11 @@ fn push_version(alloc: Global, out: &mut Vec<u8>, entry: &(Key, Version)) -> Res
     out.extend_from_slice(b"\n")
 }
 
-fn push_all(alloc: Global, out: &mut Vec<u8>, all: &[(Key, Version)]) -> Result<(), AllocError>
+fn push_all(out: &mut Vec<u8>, all: &[(Key, Version)]) -> Result<(), AllocError>
     ensures { OnOk result (out.new.items ≡ out.old.items ++ flat_map version_text all.now) }
 {
     for entry in all {
-        push_version(alloc, out, entry)?;
+        push_version(out, entry)?;
     }
     Ok(())
 }
@@ -106,7 +106,7 @@ pub fn versions_lines(
 {
     let mut text = Vec::new(alloc);
     push_floor(&mut text, floor)?;
-    push_all(alloc, &mut text, all)?;
+    push_all(&mut text, all)?;
     text.extend_from_slice(b"end\n")?;
     Ok(text)
 }

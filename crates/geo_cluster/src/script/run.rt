@@ -108,6 +108,10 @@ impl Run {
         let Some(text) = self.cluster.carry_out(alloc, line)? else {
             return Err(ScriptFault::BadLine(self.lines));
         };
+        if self.out.is_empty() {
+            self.out = text;
+            return Ok(());
+        }
         self.out.extend_from_slice(text.as_slice())?;
         Ok(())
     }

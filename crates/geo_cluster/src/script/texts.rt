@@ -2,20 +2,23 @@
 ghost use Rattle.std.specs.Prelude.{◌≡◌, Some, IfOk};
 ghost use Rattle.geo_cluster.specs.Prints.{client_text, number_text, done_text, refused_text, trace_text};
 
-use crate::script::escape::escape;
+use crate::script::escape::push_all_escaped;
 use geo_site::{ReapError, TakeError, Trace};
 use itoa::Buffer;
 use std::alloc::{AllocError, Global};
+
+/// How many bytes more than the answer its line is given at first: for what stands before and behind it, and for some escapes.
+const ROOM: usize = 64;
 
 /// `S> ` and what a site answered to its client's bytes, escaped.
 pub fn answer_line(alloc: Global, site: u8, answer: &[u8]) -> Result<Vec<u8>, AllocError>
     ensures { IfOk result (λ text. text.items ≡ client_text site answer.now) }
 {
     let mut buffer = Buffer::new();
-    let mut text = Vec::from_slice(alloc, buffer.format(site).as_bytes())?;
+    let mut text = Vec::with_capacity(alloc, answer.len() + ROOM)?;
+    text.extend_from_slice(buffer.format(site).as_bytes())?;
     text.extend_from_slice(b"> ")?;
-    let escaped = escape(alloc, answer)?;
-    text.extend_from_slice(escaped.as_slice())?;
+    push_all_escaped(&mut text, answer)?;
     text.extend_from_slice(b"\n")?;
     Ok(text)
 }

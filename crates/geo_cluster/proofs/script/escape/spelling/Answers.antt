@@ -1,10 +1,8 @@
 use Rattle.std.proofs.Common.{rules, arith, ◌≡◌, ◌+◌, ◌++◌, ◌∷◌, [], ◌&&◌, drop, length, length-append, ap, sym, ◌∙◌}
-use Rattle.std.proofs.lemmas.Grind.{common_steps}
-use Rattle.std.specs.List.{list_all}
 use Rattle.geo_records.specs.Keys.{is_key_byte}
-use Rattle.geo_cluster.specs.Escapes.{unescaped_from, unescaped, IsSmall}
+use Rattle.geo_cluster.specs.Escapes.{behind, unescaped_from, unescaped}
 use Rattle.geo_cluster.specs.declared.script.escape.Spot.TheVariants.{Between}
-use Rattle.geo_cluster.proofs.Escaping.{behind, behind_more, spell_on, stands_more}
+use Rattle.geo_cluster.proofs.Escaping.{behind_more, spell_on, stands_more}
 use Rattle.geo_cluster.proofs.script.escape.spelling.Goals as goal
 use Rattle.geo_cluster.proofs.script.escape.spelling.Goals.{in-Gives+then-stand, in-Gives+else-stand, in-Leads}
 

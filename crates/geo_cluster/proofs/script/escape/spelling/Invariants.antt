@@ -1,8 +1,7 @@
 use Rattle.std.proofs.Common.{◌≡◌, ◌≤◌, drop, List, ℕ, length}
 use Rattle.std.specs.List.{list_all}
 use Rattle.geo_records.specs.Keys.{is_key_byte}
-use Rattle.geo_cluster.specs.Escapes.{unescaped_from, unescaped, IsSmall}
-use Rattle.geo_cluster.proofs.Escaping.{behind}
+use Rattle.geo_cluster.specs.Escapes.{behind, unescaped_from, unescaped, IsSmall}
 use Rattle.geo_cluster.proofs.script.escape.spelling.Given as goal
 
 abbrev pub invariant-loop-byte : goal.invariant-loop-byte
