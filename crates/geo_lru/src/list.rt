@@ -153,6 +153,10 @@ impl ItemList {
         ensures found { result ≡ is_some (lookup (nat_eq item) self.old) }
         ensures removed { self.new ≡ without item self.old }
     {
+        // What goes is looked for in each list, and a list that has none needs no look-up.
+        if self.entries.len() == 0 {
+            return false;
+        }
         let Some(access) = self.entries.pop(&item) else {
             return false;
         };
