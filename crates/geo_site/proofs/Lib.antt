@@ -26,3 +26,4 @@ pub mod Sifting
 pub mod Victims
 pub mod Rows
 pub mod Parted
+pub mod Passing

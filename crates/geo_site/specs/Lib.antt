@@ -6,4 +6,5 @@ pub mod Agreement
 pub mod Sites
 pub mod Changes
 pub mod Noting
+pub mod Passing
 pub mod States

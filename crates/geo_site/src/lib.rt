@@ -15,6 +15,7 @@ pub mod exchange;
 pub mod fetch;
 pub mod flush;
 pub mod notes;
+pub mod passed;
 pub mod reap;
 pub mod refusal;
 pub mod removal;

@@ -1,11 +1,11 @@
 //! Touches: they give a key another expiry and leave all else as it is.
 ghost use Rattle.std.specs.Prelude.{◌≡◌, ◌≤◌, ◌+◌, ℕ, Bool, List, [], ◌∷◌, nat_le, cond, false, length, IfOk, take, slice_index};
-ghost use Rattle.std.specs.List.{list_any, All};
+ghost use Rattle.std.specs.List.{All};
 ghost use Rattle.geo_stamp.specs.Stamps.{last_time};
 ghost use Rattle.geo_grammar.specs.declared.reply.Found.{Found as FoundOf};
-ghost use Rattle.geo_records.specs.Keys.{same_key};
 ghost use Rattle.geo_records.specs.Operations.Act.{Touch};
 ghost use Rattle.geo_site.specs.Entries.{touches_of, found_after};
+ghost use Rattle.geo_site.specs.Passing.{HasPassed};
 ghost use Rattle.geo_site.specs.Machine.{clock_of, visible_in};
 ghost use Rattle.geo_site.specs.Sites.{state_in, touched_in, HasIssued, Rests, Stays, FetchTouchDoes, TellsPlain, reply_in};
 ghost use Rattle.geo_site.specs.Changes.{next_stamp_of, HasRecord, HasBody};
@@ -13,6 +13,7 @@ ghost use Rattle.geo_site.specs.Changes.{next_stamp_of, HasRecord, HasBody};
 use crate::acted::{Acted, twice_values};
 use crate::fetch::Places;
 use crate::notes::note;
+use crate::passed::Passed;
 use crate::reap::earlier;
 use crate::site::Site;
 use geo_grammar::{Found, Reply, Shared};
@@ -20,13 +21,6 @@ use geo_memcache::live;
 use geo_stamp::{LAST_TIME, Stamp};
 use geo_versions::Key;
 use std::alloc::{AllocError, Global};
-
-/// Whether a key is one of these.
-fn is_among(keys: &[Key], key: &Key) -> bool
-    ensures { result ≡ list_any (same_key key.now) keys.now }
-{
-    keys.iter().any(|other| key == other)
-}
 
 impl Site {
     /// Gives a key another expiry. It takes no memory.
@@ -45,22 +39,32 @@ impl Site {
     }
 
     /// Whether a touch with this expiry finds a key, after those of the keys before it: one that ended it leaves nothing to find.
-    fn is_found(&self, now: u64, expiry: u64, before: &[Key], key: &Key) -> bool
+    fn is_found(
+        &self,
+        now: u64,
+        expiry: u64,
+        passed: &Passed<'_>,
+        before: &[Key],
+        key: &Key,
+    ) -> bool
+        requires { HasPassed passed.now before.now }
         ensures { (numbers : Bool) → length (found_after now expiry numbers (visible_in (state_in self.now) now) before.now key.now)
             ≡ cond result 1 0 }
     {
-        self.entry(now, key).is_some() && (live(expiry, now) || !is_among(before, key))
+        self.entry(now, key).is_some() && (live(expiry, now) || !passed.has(before, key))
     }
 
     /// How many touches a fetch of these keys makes.
-    fn touch_count(&self, now: u64, expiry: u64, keys: &[Key]) -> usize
+    fn touch_count(&self, alloc: Global, now: u64, expiry: u64, keys: &[Key]) -> usize
         ensures { (numbers : Bool) → result ≡ length (touched_in self.now now expiry keys.now numbers) }
     {
+        let mut passed = Passed::none(alloc, keys.len(), live(expiry, now));
         let mut count = 0;
         for (index, key) in keys.iter().enumerate() {
-            if self.is_found(now, expiry, &keys[..index], key) {
+            if self.is_found(now, expiry, &passed, &keys[..index], key) {
                 count += 1;
             }
+            passed.pass(key);
         }
         count
     }
@@ -78,8 +82,11 @@ impl Site {
     {
         let mut all = Vec::new(alloc);
         let mut places = Places::new(alloc);
+        let mut passed = Passed::none(alloc, keys.len(), live(expiry, now));
         for (index, key) in keys.iter().enumerate() {
-            if !self.is_found(now, expiry, &keys[..index], key) {
+            let is_found = self.is_found(now, expiry, &passed, &keys[..index], key);
+            passed.pass(key);
+            if !is_found {
                 continue;
             }
             if let Some((place, found)) = self.look(alloc, now, key, numbers)? {
@@ -99,7 +106,7 @@ impl Site {
     }
 
     /// Whether stamps are left for the touches that a fetch of these keys makes.
-    fn can_touch(&self, now: u64, expiry: u64, keys: &[Key]) -> bool
+    fn can_touch(&self, alloc: Global, now: u64, expiry: u64, keys: &[Key]) -> bool
         ensures left { (numbers : Bool) → result
             ≡ nat_le (clock_of (state_in self.now) + length (touched_in self.now now expiry keys.now numbers)) last_time }
         ensures some { (numbers : Bool) → result ≡ false → 1 ≤ length (touched_in self.now now expiry keys.now numbers) }
@@ -107,7 +114,7 @@ impl Site {
         if self.has_stamps(keys.len()) {
             return true;
         }
-        self.has_stamps(self.touch_count(now, expiry, keys))
+        self.has_stamps(self.touch_count(alloc, now, expiry, keys))
     }
 
     /// Touches what was found, one after the other.
@@ -141,7 +148,7 @@ impl Site {
         ensures rests { Rests self.old self.new }
         ensures stays { Stays self.old self.new }
     {
-        if !self.can_touch(now, expiry, keys) {
+        if !self.can_touch(alloc, now, expiry, keys) {
             return Ok(Acted::plain(Reply::ClockEnded, with_copies));
         }
         let (all, places) = self.found_to_touch(alloc, now, expiry, keys, numbers)?;
