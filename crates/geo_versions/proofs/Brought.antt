@@ -1,6 +1,7 @@
 -- What is left of records that come where those that bring nothing are left out.
-use Rattle.std.proofs.Common.{◌≡◌, Bool, true, false, cond, List, [], ◌∷◌, ℕ, suc, length, refl, sym, ap, ◌∙◌, subst, arith}
-use Rattle.std.specs.List.{items_where_true}
+use Rattle.std.proofs.Common.{◌≡◌, ◌↔◌, true≢false, Bool, true, false, cond, List, [], ◌∷◌, ℕ, length, refl, sym, ap, ◌∙◌, subst, arith}
+use Rattle.std.specs.List.{All, items_where_true}
+use Rattle.std.proofs.lemmas.List.Elements.{All-nil, All-cons}
 use Rattle.std.specs.List.Retain.{ReturnsInTurn}
 use Rattle.std.specs.Cmp.Lexicographic.{same_text}
 use Rattle.geo_records.specs.Keys.{same_key}
@@ -13,6 +14,10 @@ between : (a b c : Record) → record_joined a (record_joined b c) ≡ record_jo
 between a b c = record_assoc a b c ∙ ap (λ x. record_joined x c) (record_comm a b) ∙ sym (record_assoc b a c)
 
 module _ (own : List ℕ → Record) where
+  -- a record tells something of its key
+  abbrev Brings : List ℕ × Rec → Type 0
+  Brings e = record_joined (own e.0) (rec_means e.1) ≡ own e.0 → ⊥
+
   -- one that is left stays
   one_more : (b : Bool) (q : List ℕ) (r : Record) (x y : Record) → record_joined (own q) x ≡ record_joined (own q) y
       → record_joined (own q) (cond {A = Record} b (record_joined r x) x) ≡ record_joined (own q) (cond {A = Record} b (record_joined r y) y)
@@ -31,7 +36,21 @@ module _ (own : List ℕ → Record) where
       by false e = h
 
   module _ {F : Type 0} (T : F → (List ℕ × Rec) → Bool → F → Type 0) (f : F)
-      (says : (e : List ℕ × Rec) (b : Bool) (g : F) → T f e b g → (b ≡ false → record_joined (own e.0) (rec_means e.1) ≡ own e.0) × (g ≡ f)) where
+      (says : (e : List ℕ × Rec) (b : Bool) (g : F) → T f e b g → ((b ≡ false) ↔ (record_joined (own e.0) (rec_means e.1) ≡ own e.0)) × (g ≡ f)) where
+    -- what is left brings something, each of it
+    pub each_brings : (bs : List Bool) (es : List (List ℕ × Rec)) (g : F) → length bs ≡ length es → ReturnsInTurn T f bs es g
+        → All Brings (items_where_true bs es)
+    each_brings [] [] g long told = All-nil Brings
+    each_brings [] (e ∷ es) g long told = absurd (omega (arith, long))
+    each_brings (b ∷ bs) [] g long told = absurd told
+    each_brings (true ∷ bs) (e ∷ es) g long told =
+        let s = says e true told.0 told.1 in
+        let rest = each_brings bs es g (omega (arith, long)) (subst (λ h. ReturnsInTurn T h bs es g) s.1 told.2) in
+        All-cons Brings e (items_where_true bs es) (λ is. true≢false (s.0.1 is)) rest
+    each_brings (false ∷ bs) (e ∷ es) g long told =
+        let s = says e false told.0 told.1 in
+        each_brings bs es g (omega (arith, long)) (subst (λ h. ReturnsInTurn T h bs es g) s.1 told.2)
+
     pub same_joined : (bs : List Bool) (es : List (List ℕ × Rec)) (g : F) → length bs ≡ length es → ReturnsInTurn T f bs es g → (q : List ℕ)
         → record_joined (own q) (listed_at (items_where_true bs es) q) ≡ record_joined (own q) (listed_at es q)
     same_joined [] [] g long told q = refl
@@ -44,4 +63,4 @@ module _ (own : List ℕ → Record) where
     same_joined (false ∷ bs) (e ∷ es) g long told q =
         let s = says e false told.0 told.1 in
         let rest = same_joined bs es g (omega (arith, long)) (subst (λ h. ReturnsInTurn T h bs es g) s.1 told.2) q in
-        one_known e.0 q (rec_means e.1) (listed_at (items_where_true bs es) q) (listed_at es q) (s.0 refl) rest
+        one_known e.0 q (rec_means e.1) (listed_at (items_where_true bs es) q) (listed_at es q) (s.0.0 refl) rest

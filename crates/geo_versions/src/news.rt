@@ -1,6 +1,6 @@
 //! Which of the records that come bring something.
-ghost use Rattle.std.specs.Prelude.{◌≡◌, List, ℕ, Bool, false};
-ghost use Rattle.std.specs.List.{items_where_true};
+ghost use Rattle.std.specs.Prelude.{◌≡◌, ◌↔◌, List, ℕ, Bool, false};
+ghost use Rattle.std.specs.List.{All, items_where_true};
 ghost use Rattle.geo_records.specs.Operations.{record_joined};
 ghost use Rattle.geo_versions.specs.Maps.{record_in, rec_means, listed_at};
 
@@ -9,9 +9,9 @@ use geo_lattice::{Bottom, Lattice};
 use geo_records::{Key, Rec};
 
 impl Versions {
-    /// Whether a record of a key may change something where it is joined.
+    /// Whether a record of a key changes something where it is joined.
     fn brings(&self, key: &Key, rec: &Rec) -> bool
-        ensures { result ≡ false → record_joined (record_in self.now key.now) (rec_means rec.now) ≡ record_in self.now key.now }
+        ensures { (result ≡ false) ↔ (record_joined (record_in self.now key.now) (rec_means rec.now) ≡ record_in self.now key.now) }
     {
         match self.record(key) {
             None => !rec.is_bottom(),
@@ -22,6 +22,7 @@ impl Versions {
     /// Leaves out of records those that would change nothing here: what they tell is known. It takes no memory.
     pub fn leave_news(&self, records: &mut Vec<(Key, Rec)>)
         ensures left { (bs : List Bool) × (records.new.items ≡ items_where_true bs records.old.items) }
+        ensures news { All (λ e. record_joined (record_in self.now e.0) (rec_means e.1) ≡ record_in self.now e.0 → ⊥) records.new.items }
         ensures same { (q : List ℕ) → record_joined (record_in self.now q) (listed_at records.new.items q)
             ≡ record_joined (record_in self.now q) (listed_at records.old.items q) }
     {
