@@ -5,19 +5,22 @@ use geo_delta::Parcel;
 use geo_lattice::Twin;
 use std::alloc::{AllocError, Global};
 use std::marker::Model;
+use std::sync::Arc;
 
-/// A parcel that stands in memory of its own, so that a step without one is small. Contracts see the parcel.
+/// A parcel that stands in memory of its own, so that a step without one is small. A history and a seat own one together. Contracts
+/// see the parcel.
 #[derive(Drop)]
 pub struct BoxedParcel {
-    parcel: Box<Parcel>,
+    parcel: Arc<Parcel, Global>,
 }
 
 impl Model for BoxedParcel {
+    ghost use Rattle.std.specs.Arc.{arc_value};
     ghost use Rattle.geo_delta.specs.declared.parcel.Parcel.{Parcel};
 
     ghost Value = { Parcel };
 
-    ghost view = { λ b. b.parcel.value };
+    ghost view = { λ b. arc_value b.parcel };
 }
 
 impl BoxedParcel {
@@ -26,7 +29,7 @@ impl BoxedParcel {
         ensures { IfOk result (λ boxed. boxed ≡ parcel) }
     {
         Ok(BoxedParcel {
-            parcel: Box::new(alloc, parcel)?,
+            parcel: Arc::new(alloc, parcel)?,
         })
     }
 
@@ -37,10 +40,19 @@ impl BoxedParcel {
         BoxedParcel::new(alloc, parcel.twin(alloc)?)
     }
 
+    /// The same parcel for one owner more, which copies nothing.
+    pub fn shared(&self) -> Result<BoxedParcel, AllocError>
+        ensures { IfOk result (λ boxed. boxed ≡ self.now) }
+    {
+        Ok(BoxedParcel {
+            parcel: Arc::try_clone(&self.parcel)?,
+        })
+    }
+
     /// The parcel.
     pub fn parcel(&self) -> &Parcel
         ensures { result.now ≡ self.now }
     {
-        &*self.parcel
+        &self.parcel
     }
 }

@@ -10,7 +10,9 @@ use crate::step::Step;
 use geo_chunks::Chunks;
 use geo_delta::Parcel;
 use geo_grammar::{Reply, Request};
-use geo_site::{ReapError, Refused, SendError, Setup, SetupError, Site, SiteState, Taken};
+use geo_site::{
+    ReapError, Refused, SendError, Setup, SetupError, Site, SiteState, TakeError, Taken,
+};
 use geo_versions::Key;
 use std::alloc::{AllocError, Global};
 
@@ -163,7 +165,26 @@ impl Kept {
         requires left { made_by (story_in self.old) seat < most_steps }
         ensures does { TakeForDoes (story_in self.old) (story_in self.new) seat parcel result }
     {
-        self.parts.take_for(alloc, seat, parcel)
+        let Ok(copy) = BoxedParcel::copy_of(alloc, &parcel) else {
+            let why = TakeError::Memory;
+            return Err(Refused { why, parcel });
+        };
+        self.take_kept(alloc, seat, parcel, copy)
+    }
+
+    /// Takes a parcel as [`Kept::take_for`] does, where a copy of it is at hand for the history. It wants no memory for another.
+    pub fn take_kept(
+        &mut self,
+        alloc: Global,
+        seat: u8,
+        parcel: Parcel,
+        copy: BoxedParcel,
+    ) -> Result<Taken, Refused>
+        requires left { made_by (story_in self.old) seat < most_steps }
+        requires copy { copy ≡ parcel }
+        ensures does { TakeForDoes (story_in self.old) (story_in self.new) seat parcel result }
+    {
+        self.parts.take_kept(alloc, seat, parcel, copy)
     }
 
     /// Drops what every site knows to be deleted, as [`Site::remove`] does, and tells how many records.

@@ -138,7 +138,7 @@ impl Parts {
                 let Ok(one) = BoxedParcel::copy_of(alloc, &parcel) else {
                     return Err(SendError::Memory);
                 };
-                let Ok(two) = BoxedParcel::copy_of(alloc, &parcel) else {
+                let Ok(two) = one.shared() else {
                     return Err(SendError::Memory);
                 };
                 self.append(seat, event, Answer::Sent(one), None, None);
@@ -153,23 +153,25 @@ impl Parts {
         }
     }
 
-    /// Takes a parcel.
-    pub(crate) fn take_for(
+    /// Takes a parcel, of which a copy is kept.
+    pub(crate) fn take_kept(
         &mut self,
         alloc: Global,
         seat: u8,
         parcel: Parcel,
+        copy: BoxedParcel,
     ) -> Result<Taken, Refused>
         requires counted { IsCounted self.old.opening self.old.steps.items self.old.counts.items }
         requires left { made_in self.old.opening self.old.steps.items seat < most_steps }
+        requires copy { copy ≡ parcel }
         ensures does { TakeForDoes (story_of self.old) (story_of self.new) seat parcel result }
         ensures setup { self.new.setup ≡ self.old.setup }
         ensures counted { IsCounted self.new.opening self.new.steps.items self.new.counts.items }
     {
-        let (Ok(()), Ok(copy)) = (self.steps.ready(1), BoxedParcel::copy_of(alloc, &parcel)) else {
+        if self.steps.ready(1).is_err() {
             let why = TakeError::Memory;
             return Err(Refused { why, parcel });
-        };
+        }
         // What is told of the held values counts them.
         let _before = self.site.items();
         let refused = match self.site.take(alloc, parcel) {

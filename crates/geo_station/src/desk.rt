@@ -195,14 +195,16 @@ impl<L: Ledger> Desk<L> {
         }
     }
 
-    /// Takes a parcel for a seat.
+    /// Takes a parcel for a seat, of which a copy is kept.
     pub(crate) fn take(
         &mut self,
         alloc: Global,
         number: u8,
         account: &mut Account<L>,
         parcel: Parcel,
+        copy: BoxedParcel,
     ) -> Result<Taken, Returned>
+        requires copy { copy ≡ parcel }
         ensures made { IfOk result (λ _. account.new.count ≡ account.old.count + 1) }
         ensures unmade { IfErr result (λ returned. account.new.count ≡ account.old.count + takes_made returned.why) }
         ensures back { IfErr result (λ returned. returned.parcel ≡ parcel) }
@@ -216,7 +218,7 @@ impl<L: Ledger> Desk<L> {
             let why = CallError::Site(TakeError::Memory);
             return Err(Returned { why, parcel });
         }
-        let refused = match self.kept.take_for(alloc, number, parcel) {
+        let refused = match self.kept.take_kept(alloc, number, parcel, copy) {
             Ok(taken) => {
                 account.book(&mut self.book);
                 return Ok(taken);

@@ -205,8 +205,15 @@ impl<L: Ledger> Station<L> {
             let why = CallError::Site(TakeError::Memory);
             return Err(Returned { why, parcel });
         };
-        let event = Event::Take { parcel: copy };
-        let done = self.desk.lock(rt).take(alloc, *number, account, parcel);
+        let Ok(own) = copy.shared() else {
+            let why = CallError::Site(TakeError::Memory);
+            return Err(Returned { why, parcel });
+        };
+        let event = Event::Take { parcel: own };
+        let done = self
+            .desk
+            .lock(rt)
+            .take(alloc, *number, account, parcel, copy);
         match &done {
             Ok(told) => {
                 let answer = Answer::Taken(*told);

@@ -3,14 +3,14 @@ use Rattle.std.proofs.Math.Logic.{∥∥₁_map}
 use Rattle.geo_history.specs.Keeping.{story_of}
 use Rattle.geo_history.specs.Standings.{who_of}
 use Rattle.geo_history.proofs.Calls.{take_goes}
-use Rattle.geo_history.proofs.kept.Kept.take_for.Goals as goal
+use Rattle.geo_history.proofs.kept.Kept.take_kept.Goals as goal
 
 pub invariant_of-self : goal.invariant_of-self
 invariant_of-self c =
     let old = c.args.self.now in
-    let goes = take_goes (story_of old.parts) (story_of c.take_for.new.self) c.args.seat c.args.parcel c.take_for.result c.take_for.ensures.does in
+    let goes = take_goes (story_of old.parts) (story_of c.take_kept.new.self) c.args.seat c.args.parcel c.take_kept.result c.take_kept.ensures.does in
     record {
       kept = ∥∥₁_map old.kept goes.kept;
-      counted = c.take_for.ensures.counted;
-      who = goes.who ∙ old.who ∙ ap who_of (sym c.take_for.ensures.setup);
+      counted = c.take_kept.ensures.counted;
+      who = goes.who ∙ old.who ∙ ap who_of (sym c.take_kept.ensures.setup);
     }
