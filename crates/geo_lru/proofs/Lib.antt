@@ -2,4 +2,4 @@ pub mod Reversed
 pub mod Tallies
 pub mod Places
 pub mod Calls
-pub mod Actives
+pub mod Placing

@@ -1,33 +1,48 @@
-//! The list COLD, which is searched for active items.
-ghost use Rattle.std.specs.Prelude.{◌≡◌, ◌≤◌, ◌<◌, ◌^◌, [], ◌∷◌, length, is_some, nat_eq, false, Some, IfOk, OnOk, OnErr};
+//! The list COLD, whose active items are found by their places.
+ghost use Rattle.std.specs.Prelude.{◌≡◌, ◌≤◌, ◌<◌, ◌^◌, ℕ, [], ◌∷◌, length, is_some, nat_eq, true, false, cond, Some, IfOk, OnOk, OnErr};
+ghost use Rattle.std.specs.Ordering.{nat_cmp, is_eq};
+ghost use Rattle.std.specs.BTreeMap.{get};
 ghost use Rattle.std.specs.Map.{lookup};
 ghost use Rattle.lru.specs.LruCache.{last_entry};
 ghost use Rattle.geo_lru.specs.Lists.{present, touched_in, without, last_active};
+ghost use Rattle.geo_lru.specs.Placed.{seen};
 
 use crate::access::Access;
-use crate::ahead::Ahead;
-use crate::list::ItemList;
+use lru::LruCache;
 use std::alloc::{AllocError, Global};
+use std::collections::BTreeMap;
 use std::marker::Model;
 
-/// A list with the active items nearest its tail that a search found: the next moves need not search again. A hit that makes another
-/// item active, or an item that leaves in another way, makes it forget them.
+/// What is kept of an item here.
+#[derive(Clone, Copy)]
+pub(crate) struct Placed {
+    pub access: Access,
+    /// Items come to places that rise, at the head: the nearer the tail, the lower.
+    pub place: u64,
+}
+
+/// A list with an index of its active items by their places, so that the one nearest the tail is found without a walk. Where memory for
+/// the index is refused, or places are spent, the list is walked, until it has no active item.
 #[derive(Drop)]
 pub(crate) struct ColdList {
-    list: ItemList,
-    ahead: Ahead,
+    entries: LruCache<usize, Placed>,
+    /// The place of the next item that comes.
+    next: u64,
+    /// Whether the index has all active items.
+    whole: bool,
+    index: BTreeMap<u64, (usize, Access)>,
 }
 
 impl Model for ColdList {
     ghost use Rattle.std.specs.Prelude.{ℕ, List};
-    ghost use Rattle.geo_lru.specs.Ahead.{IsAhead};
+    ghost use Rattle.geo_lru.specs.Placed.{seen, IsPlaced};
     ghost use Rattle.geo_lru.specs.declared.access.Access.{Access as Bits};
 
     ghost Value = { List (ℕ × Bits) };
 
-    ghost view = { λ l. l.list };
+    ghost view = { λ l. seen l.entries.entries };
 
-    ghost invariant = { λ l. IsAhead l.list l.ahead };
+    ghost invariant = { λ l. IsPlaced l.entries.entries l.entries.cap l.next l.whole l.index };
 }
 
 impl ColdList {
@@ -36,8 +51,10 @@ impl ColdList {
         ensures { IfOk result (λ list. list ≡ []) }
     {
         Ok(ColdList {
-            list: ItemList::new(alloc)?,
-            ahead: Ahead::new(),
+            entries: LruCache::unbounded(alloc)?,
+            next: 0,
+            whole: true,
+            index: BTreeMap::new(alloc),
         })
     }
 
@@ -46,14 +63,15 @@ impl ColdList {
         ensures len { result ≡ length self.now }
         ensures fits { result < 2 ^ 63 }
     {
-        self.list.len()
+        self.entries.len()
     }
 
     /// The last item.
     pub(crate) fn tail(&self) -> Option<(usize, Access)>
         ensures { result ≡ last_entry self.now }
     {
-        self.list.tail()
+        let (item, placed) = self.entries.peek_lru()?;
+        Some((*item, placed.access))
     }
 
     /// The active item nearest the tail.
@@ -61,12 +79,28 @@ impl ColdList {
         ensures found { result ≡ last_active self.old }
         ensures unchanged { self.new ≡ self.old }
     {
-        let next = self.ahead.first();
-        if next.is_some() {
-            return next;
+        if !self.whole {
+            return self.search();
         }
-        self.list.search(&mut self.ahead);
-        self.ahead.first()
+        let Some((_, found)) = self.index.first_key_value() else {
+            return None;
+        };
+        Some(*found)
+    }
+
+    /// The same by a walk. Where it finds none, the index has all again.
+    fn search(&mut self) -> Option<(usize, Access)>
+        ensures found { result ≡ last_active self.old }
+        ensures unchanged { self.new ≡ self.old }
+    {
+        let Some(found) = search_from_tail(&self.entries) else {
+            self.index.clear();
+            if self.next < u64::MAX {
+                self.whole = true;
+            }
+            return None;
+        };
+        Some(found)
     }
 
     /// Notes a hit on the item, and tells whether it is here.
@@ -74,17 +108,15 @@ impl ColdList {
         ensures found { result ≡ is_some (lookup (nat_eq item) self.old) }
         ensures touched { self.new ≡ touched_in item self.old }
     {
-        let Some(before) = self.list.note_hit(item) else {
+        let Some(placed) = self.entries.peek_mut(&item) else {
             return false;
         };
+        let before = placed.access;
         let after = before.touched();
-        // The only active item is the next, wherever it stands. Among others its place isn't known.
+        let place = placed.place;
+        placed.access = after;
         if after.active {
-            if self.list.count_active() == 1 {
-                self.ahead.hold(item, after);
-            } else {
-                self.ahead.forget();
-            }
+            self.whole = add(&mut self.index, self.whole, place, item, after);
         }
         true
     }
@@ -96,7 +128,17 @@ impl ColdList {
         ensures pushed { OnOk result (self.new ≡ (item, access) ∷ self.old) }
         ensures unchanged { OnErr result (self.new ≡ self.old) }
     {
-        self.list.push_head(item, access)
+        // Its clauses say that nothing falls out at the tail.
+        let _len = self.entries.len();
+        let place = self.next;
+        self.entries.put(item, Placed { access, place })?;
+        if place < u64::MAX - 1 {
+            self.next = place + 1;
+        } else {
+            self.next = u64::MAX;
+            self.whole = false;
+        }
+        Ok(())
     }
 
     /// Takes out the active item nearest the tail.
@@ -105,8 +147,7 @@ impl ColdList {
         requires once { present last.0 self.old ≤ 1 }
         ensures { self.new ≡ without last.0 self.old }
     {
-        self.list.remove(last.0);
-        self.ahead.advance();
+        self.remove(last.0);
     }
 
     /// Takes the item out, and tells whether it was here.
@@ -114,7 +155,44 @@ impl ColdList {
         ensures found { result ≡ is_some (lookup (nat_eq item) self.old) }
         ensures removed { self.new ≡ without item self.old }
     {
-        self.ahead.forget();
-        self.list.remove(item)
+        // What goes is looked for in each list, and a list that has none needs no look-up.
+        if self.entries.len() == 0 {
+            return false;
+        }
+        let Some(placed) = self.entries.pop(&item) else {
+            return false;
+        };
+        if placed.access.active {
+            self.index.remove(&placed.place);
+        }
+        true
     }
+}
+
+/// Puts an active item into an index, and tells whether that has all then, where it had all others.
+fn add(
+    index: &mut BTreeMap<u64, (usize, Access)>,
+    whole: bool,
+    place: u64,
+    item: usize,
+    access: Access,
+) -> bool
+    ensures others { result ≡ true → whole ≡ true }
+    ensures added { result ≡ true → (q : ℕ) → get nat_cmp index.new q
+        ≡ cond (is_eq (nat_cmp place q)) (Some (item, access)) (get nat_cmp index.old q) }
+{
+    whole && index.insert(place, (item, access)).is_ok()
+}
+
+/// The active item nearest the tail, by a walk.
+fn search_from_tail(entries: &LruCache<usize, Placed>) -> Option<(usize, Access)>
+    ensures { result ≡ last_active (seen entries.now.entries) }
+{
+    let mut rest = entries.iter();
+    while let Some((item, placed)) = rest.next_back() {
+        if placed.access.active {
+            return Some((*item, placed.access));
+        }
+    }
+    None
 }

@@ -5,7 +5,6 @@
 #![tactic(auto)]
 
 pub mod access;
-mod ahead;
 mod cold;
 mod juggle;
 mod list;

@@ -1,12 +1,10 @@
 //! One of the three lists.
-ghost use Rattle.std.specs.Prelude.{◌≡◌, ◌≤◌, ◌<◌, ◌^◌, [], ◌∷◌, length, cond, is_some, nat_eq, nat_lt, slice_get, IfOk, OnOk, OnErr};
+ghost use Rattle.std.specs.Prelude.{◌≡◌, ◌≤◌, ◌<◌, ◌^◌, [], ◌∷◌, length, cond, is_some, nat_eq, nat_lt, IfOk, OnOk, OnErr};
 ghost use Rattle.std.specs.Map.{lookup};
 ghost use Rattle.lru.specs.LruCache.{last_entry};
-ghost use Rattle.geo_lru.specs.Lists.{present, unseen, touched_in, brought_forward, without, last_active, active_count};
-ghost use Rattle.geo_lru.specs.Ahead.{IsAhead};
+ghost use Rattle.geo_lru.specs.Lists.{present, unseen, touched_in, brought_forward, without};
 
 use crate::access::Access;
-use crate::ahead::Ahead;
 use lru::LruCache;
 use std::alloc::{AllocError, Global};
 use std::marker::Model;
@@ -57,18 +55,6 @@ impl ItemList {
         Some((*item, *access))
     }
 
-    /// Finds the active items nearest the tail.
-    pub(crate) fn search(&self, ahead: &mut Ahead)
-        ensures ahead { IsAhead self.now ahead.new }
-        ensures first { slice_get ahead.new 0 ≡ last_active self.now }
-    {
-        if self.active == 0 {
-            ahead.forget();
-        } else {
-            ahead.search(&self.entries, self.active);
-        }
-    }
-
     /// Notes a hit on the item, and tells whether it is here.
     pub(crate) fn touch(&mut self, item: usize) -> bool
         ensures found { result ≡ is_some (lookup (nat_eq item) self.old) }
@@ -94,13 +80,6 @@ impl ItemList {
             self.active += 1;
         }
         Some(before)
-    }
-
-    /// How many of its items are active.
-    pub(crate) fn count_active(&self) -> usize
-        ensures { result ≡ active_count self.now }
-    {
-        self.active
     }
 
     /// Puts an item at the head.
