@@ -181,18 +181,6 @@ fn before_backslash(text: &[u8]) -> usize
     }
 }
 
-/// Appends bytes at the front of what is left of a text. With the first of them it makes room for all that may follow: a text spells at
-/// most a byte by each of its own.
-fn push_front(bytes: &mut Vec<u8>, front: &[u8], left: usize) -> Result<(), AllocError>
-    ensures { OnOk result (bytes.new.items ≡ bytes.old.items ++ front.now) }
-{
-    if front.is_empty() {
-        return Ok(());
-    }
-    bytes.reserve(left)?;
-    bytes.extend_from_slice(front)
-}
-
 /// Appends the bytes up to the next backslash, where the reader of a text stands between two bytes. Where it then stands in the text.
 fn push_unspelled(
     bytes: &mut Vec<u8>,
@@ -211,7 +199,7 @@ fn push_unspelled(
     let (_, rest) = text.split_at(at);
     let count = before_backslash(rest);
     let (front, _) = rest.split_at(count);
-    push_front(bytes, front, rest.len())?;
+    bytes.extend_from_slice(front)?;
     Ok(at + count)
 }
 
