@@ -9,8 +9,8 @@ use std::alloc::{AllocError, Global};
 use std::marker::Model;
 
 /// The items of a slab class in memcached's three lists, each item once (`doc/new_lru.txt`). An item is a number that the
-/// caller chose. No call's work grows with the number of items, but that of a map that grows, and of a `juggle` that searches
-/// COLD where it has an active item.
+/// caller chose. No call's work grows with the number of items, but that of a map that grows, and that of an index of COLD's active
+/// items, by a logarithm. A `juggle` walks COLD where memory for the index was refused.
 #[derive(Drop)]
 pub struct Segments {
     pub(crate) hot: ItemList,
