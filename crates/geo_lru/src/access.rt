@@ -3,7 +3,7 @@ ghost use Rattle.std.specs.Prelude.{◌≡◌, true, false};
 ghost use Rattle.geo_lru.specs.Lists.{unseen, touched, moved};
 
 /// The two bits that memcached keeps of an item's hits.
-#[derive(Clone, Copy, Debug, Default, PartialEq, Eq)]
+#[derive(Clone, Copy, Debug, PartialEq, Eq)]
 pub struct Access {
     /// FETCHED: the item was hit since it came.
     pub fetched: bool,
