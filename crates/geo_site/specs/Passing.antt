@@ -1,9 +1,11 @@
 -- Which keys of a line came before.
-use Rattle.std.specs.Prelude.{◌≡◌, ℕ, List, MatchOption}
+use Rattle.std.specs.Prelude.{◌≡◌, ℕ, List, IsSome, MatchOption}
 use Rattle.std.specs.List.{list_any}
 use Rattle.geo_records.specs.Keys.{same_key}
+use Rattle.geo_site.specs.Entries.{Visible}
 use Rattle.geo_site.specs.declared.passed.Passed.{Passed}
 
--- a set has these keys and no others, where there is one
-abbrev pub HasPassed : Passed → List (List ℕ) → Type 0
-HasPassed passed before = MatchOption passed.keys (Unit {0}) (λ keys. (q : _) → list_any (λ k. same_key q k.now) keys.keys ≡ list_any (same_key q) before)
+-- of the keys that are visible, a set has those that came before and no others, where there is one
+abbrev pub HasPassed : Visible → Passed → List (List ℕ) → Type 0
+HasPassed visible passed before =
+    MatchOption passed.keys (Unit {0}) (λ keys. (q : _) → IsSome (visible q) → list_any (λ k. same_key q k.now) keys.keys ≡ list_any (same_key q) before)

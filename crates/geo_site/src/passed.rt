@@ -1,7 +1,8 @@
 //! Which keys a line named before.
-ghost use Rattle.std.specs.Prelude.{◌≡◌, ℕ, List, [], ◌∷◌, ◌++◌};
+ghost use Rattle.std.specs.Prelude.{◌≡◌, IsSome, [], ◌∷◌, ◌++◌};
 ghost use Rattle.std.specs.List.{list_any};
 ghost use Rattle.geo_records.specs.Keys.{same_key};
+ghost use Rattle.geo_site.specs.Entries.{Visible};
 ghost use Rattle.geo_site.specs.Passing.{HasPassed};
 
 use geo_versions::Key;
@@ -18,8 +19,8 @@ fn is_among(keys: &[Key], key: &Key) -> bool
     keys.iter().any(|other| key == other)
 }
 
-/// The keys of a line that came before one of them, in a set where the line is long: to look through them for each key takes time by
-/// the square of its length.
+/// The keys of a line that were found before one of them, in a set where the line is long: to look through all before each that is
+/// found takes time by the square of its length.
 #[derive(Drop)]
 pub(crate) struct Passed<'a> {
     keys: Option<HashSet<&'a Key>>,
@@ -28,7 +29,7 @@ pub(crate) struct Passed<'a> {
 impl<'a> Passed<'a> {
     /// No keys, of so many that come. Where nobody will ask for them, or the set finds no memory, there is none.
     pub(crate) fn none(alloc: Global, coming: usize, is_idle: bool) -> Passed<'a>
-        ensures { HasPassed result [] }
+        ensures { (visible : Visible) → HasPassed visible result [] }
     {
         if coming < MANY || is_idle {
             return Passed { keys: None };
@@ -38,25 +39,20 @@ impl<'a> Passed<'a> {
         }
     }
 
-    /// Whether a key came before, behind these keys.
-    pub(crate) fn has(&self, before: &[Key], key: &Key) -> bool
-        requires { HasPassed self.now before.now }
-        ensures { result ≡ list_any (same_key key.now) before.now }
+    /// Passes a key that is found, and tells whether it came before, behind these keys.
+    pub(crate) fn pass(&mut self, before: &[Key], key: &'a Key) -> bool
+        ensures { (visible : Visible) → HasPassed visible self.old before.now → IsSome (visible key.now)
+            → (result ≡ list_any (same_key key.now) before.now) × HasPassed visible self.new (before.now ++ key.now ∷ []) }
     {
-        match &self.keys {
-            None => is_among(before, key),
-            Some(keys) => keys.contains(&key),
-        }
-    }
-
-    /// Passes a key.
-    pub(crate) fn pass(&mut self, key: &'a Key)
-        ensures { (before : List (List ℕ)) → HasPassed self.old before → HasPassed self.new (before ++ key.now ∷ []) }
-    {
-        if let Some(keys) = &mut self.keys {
-            match keys.insert(key) {
-                Ok(_) => {}
-                Err(_) => self.keys = None,
+        let Some(keys) = &mut self.keys else {
+            return is_among(before, key);
+        };
+        match keys.insert(key) {
+            Ok(is_new) => !is_new,
+            // Only a key that isn't there wants memory.
+            Err(_) => {
+                self.keys = None;
+                false
             }
         }
     }

@@ -1,7 +1,8 @@
 //! Touches: they give a key another expiry and leave all else as it is.
-ghost use Rattle.std.specs.Prelude.{◌≡◌, ◌≤◌, ◌+◌, ℕ, Bool, List, [], ◌∷◌, nat_le, cond, false, length, IfOk, take, slice_index};
+ghost use Rattle.std.specs.Prelude.{◌≡◌, ◌≤◌, ◌+◌, ℕ, Bool, List, [], ◌∷◌, ◌++◌, nat_le, cond, false, length, IfOk, take, slice_index};
 ghost use Rattle.std.specs.List.{All};
 ghost use Rattle.geo_stamp.specs.Stamps.{last_time};
+ghost use Rattle.geo_memcache.specs.Entries.{is_live};
 ghost use Rattle.geo_grammar.specs.declared.reply.Found.{Found as FoundOf};
 ghost use Rattle.geo_records.specs.Operations.Act.{Touch};
 ghost use Rattle.geo_site.specs.Entries.{touches_of, found_after};
@@ -39,19 +40,22 @@ impl Site {
     }
 
     /// Whether a touch with this expiry finds a key, after those of the keys before it: one that ended it leaves nothing to find.
-    fn is_found(
+    /// Only a touch that ends what it finds asks what was passed: it passes the keys that are there.
+    fn is_found<'a>(
         &self,
         now: u64,
         expiry: u64,
-        passed: &Passed<'_>,
+        passed: &mut Passed<'a>,
         before: &[Key],
-        key: &Key,
+        key: &'a Key,
     ) -> bool
-        requires { HasPassed passed.now before.now }
-        ensures { (numbers : Bool) → length (found_after now expiry numbers (visible_in (state_in self.now) now) before.now key.now)
+        requires { is_live expiry now ≡ false → HasPassed (visible_in (state_in self.now) now) passed.old before.now }
+        ensures found { (numbers : Bool) → length (found_after now expiry numbers (visible_in (state_in self.now) now) before.now key.now)
             ≡ cond result 1 0 }
+        ensures passed { is_live expiry now ≡ false
+            → HasPassed (visible_in (state_in self.now) now) passed.new (before.now ++ key.now ∷ []) }
     {
-        self.entry(now, key).is_some() && (live(expiry, now) || !passed.has(before, key))
+        self.entry(now, key).is_some() && (live(expiry, now) || !passed.pass(before, key))
     }
 
     /// How many touches a fetch of these keys makes.
@@ -61,10 +65,9 @@ impl Site {
         let mut passed = Passed::none(alloc, keys.len(), live(expiry, now));
         let mut count = 0;
         for (index, key) in keys.iter().enumerate() {
-            if self.is_found(now, expiry, &passed, &keys[..index], key) {
+            if self.is_found(now, expiry, &mut passed, &keys[..index], key) {
                 count += 1;
             }
-            passed.pass(key);
         }
         count
     }
@@ -84,9 +87,7 @@ impl Site {
         let mut places = Places::new(alloc);
         let mut passed = Passed::none(alloc, keys.len(), live(expiry, now));
         for (index, key) in keys.iter().enumerate() {
-            let is_found = self.is_found(now, expiry, &passed, &keys[..index], key);
-            passed.pass(key);
-            if !is_found {
+            if !self.is_found(now, expiry, &mut passed, &keys[..index], key) {
                 continue;
             }
             if let Some((place, found)) = self.look(alloc, now, key, numbers)? {

@@ -21,7 +21,7 @@ loop-index-preserved c =
     let key = c.index-keys-index.result in
     let after = found_after c.args.now c.args.expiry c.args.numbers seen before key in
     let next = touched_next c.args.now c.args.expiry c.args.numbers seen c.args.keys.now c.loop-index.index key c.loop-index-test.true c.index-keys-index.is in
-    let is : after ≡ option_to_list (option_map second c.in_ok-place.field-0) = found_after_one c.args.now c.args.expiry c.args.numbers seen before key (c.is_found-is_found.ensures c.args.numbers ∙ ap (λ t. cond {A = ℕ} t 1 0) c.if-not-is_found.false) ∙ sym c.in_ok-place.ensures.looked in (
+    let is : after ≡ option_to_list (option_map second c.in_ok-place.field-0) = found_after_one c.args.now c.args.expiry c.args.numbers seen before key (c.is_found.ensures.found c.args.numbers ∙ ap (λ t. cond {A = ℕ} t 1 0) c.if-not-is_found.false) ∙ sym c.in_ok-place.ensures.looked in (
       elim c.match-branch-2.branch [
         | in-Some+in_ok-push+in_ok-push-2 w ↦
             let one : after ≡ w.in-Some.found ∷ [] = is ∙ ap (λ o. option_to_list (option_map second o)) w.in-Some.is in
@@ -30,7 +30,7 @@ loop-index-preserved c =
             let none : after ≡ [] = is ∙ ap (λ o. option_to_list (option_map second o)) w.in_default.is in
             ap (λ x. x.items) w.all-is ∙ c.loop-index.invariant.0 ∙ sym (append-nil (touched_of c.args.now c.args.expiry c.args.numbers seen before)) ∙ (λ i. touched_of c.args.now c.args.expiry c.args.numbers seen before ++ sym none i) ∙ sym next
       ],
-      passed_on c.loop-index.passed c.pass.new.self c.args.keys.now c.loop-index.index c.index-keys-index.result c.loop-index-test.true c.index-keys-index.is c.loop-index.invariant.1 c.pass.ensures,
+      λ ends. passed_on (visible_in (state_in c.args.self.now) c.args.now) c.is_found.new.passed c.args.keys.now c.loop-index.index c.index-keys-index.result c.loop-index-test.true c.index-keys-index.is (c.is_found.ensures.passed ends),
     )
 
 pub loop-index-preserved-then-not-is_found : goal.loop-index-preserved-then-not-is_found
@@ -39,8 +39,8 @@ loop-index-preserved-then-not-is_found c =
     let before = take c.loop-index.index c.args.keys.now in
     let key = c.index-keys-index.result in
     let next = touched_next c.args.now c.args.expiry c.args.numbers seen c.args.keys.now c.loop-index.index key c.loop-index-test.true c.index-keys-index.is in
-    let none : found_after c.args.now c.args.expiry c.args.numbers seen before key ≡ [] = found_after_none c.args.now c.args.expiry c.args.numbers seen before key (c.is_found-is_found.ensures c.args.numbers ∙ ap (λ t. cond {A = ℕ} t 1 0) c.if-not-is_found.true) in
-    (c.loop-index.invariant.0 ∙ sym (append-nil (touched_of c.args.now c.args.expiry c.args.numbers seen before)) ∙ (λ i. touched_of c.args.now c.args.expiry c.args.numbers seen before ++ sym none i) ∙ sym next, passed_on c.loop-index.passed c.pass.new.self c.args.keys.now c.loop-index.index c.index-keys-index.result c.loop-index-test.true c.index-keys-index.is c.loop-index.invariant.1 c.pass.ensures)
+    let none : found_after c.args.now c.args.expiry c.args.numbers seen before key ≡ [] = found_after_none c.args.now c.args.expiry c.args.numbers seen before key (c.is_found.ensures.found c.args.numbers ∙ ap (λ t. cond {A = ℕ} t 1 0) c.if-not-is_found.true) in
+    (c.loop-index.invariant.0 ∙ sym (append-nil (touched_of c.args.now c.args.expiry c.args.numbers seen before)) ∙ (λ i. touched_of c.args.now c.args.expiry c.args.numbers seen before ++ sym none i) ∙ sym next, λ ends. passed_on (visible_in (state_in c.args.self.now) c.args.now) c.is_found.new.passed c.args.keys.now c.loop-index.index c.index-keys-index.result c.loop-index-test.true c.index-keys-index.is (c.is_found.ensures.passed ends))
 
-pub is_found-is_found-requires : goal.is_found-is_found-requires
-is_found-is_found-requires c = c.loop-index.invariant.1
+pub is_found-requires : goal.is_found-requires
+is_found-requires c = c.loop-index.invariant.1

@@ -26,12 +26,12 @@ loop-index-preserved c = (
       let next = ap length (touched_next c.args.now c.args.expiry numbers seen c.args.keys.now c.loop-index.index key c.loop-index-test.true c.index-keys-index.is)
       ∙ length-append (touched_of c.args.now c.args.expiry numbers seen before) (found_after c.args.now c.args.expiry numbers seen before key) in
       let i = c.loop-index.invariant.0 numbers in
-      let one = c.is_found.ensures numbers in
+      let one = c.is_found.ensures.found numbers in
       elim c.if-is_found.branch [
         | then-is_found w ↦ let n = ap (λ t. cond {A = ℕ} t 1 0) w.if-is_found.true in let e = w.count-is in omega (arith, next, i, one, n, e)
         | else-is_found w ↦ let n = ap (λ t. cond {A = ℕ} t 1 0) w.if-is_found.false in let e = w.count-is in omega (arith, next, i, one, n, e)
       ],
-  passed_on c.loop-index.passed c.pass.new.self c.args.keys.now c.loop-index.index c.index-keys-index.result c.loop-index-test.true c.index-keys-index.is c.loop-index.invariant.1 c.pass.ensures,
+  λ ends. passed_on (visible_in (state_in c.args.self.now) c.args.now) c.is_found.new.passed c.args.keys.now c.loop-index.index c.index-keys-index.result c.loop-index-test.true c.index-keys-index.is (c.is_found.ensures.passed ends),
 )
 
 pub returns : goal.returns
