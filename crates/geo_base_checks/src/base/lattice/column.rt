@@ -30,7 +30,8 @@ struct Between {
 }
 
 impl Test<Register> for Between {
-    ghost passing = { λ t r. nat_lt (meaning_or 0 (λ p. p.0) r.register) t.before && meaning_or false (λ p. nat_lt t.after.stamp p.0) r.register };
+    ghost passing = { λ t r. nat_lt (meaning_or 0 (λ p. p.0) r.register) t.before
+        && meaning_or false (λ p. nat_lt t.after.stamp p.0) r.register };
 
     fn passes(&self, value: &Register) -> bool {
         let stamp = match value.get() {
@@ -93,6 +94,14 @@ impl Beside {
     }
 }
 
+fn finds_all_the_same(rt: &impl Abort, beside: &Beside) {
+    for stamp in 0..10 {
+        for before in 0..11 {
+            assert!(rt; beside.finds_the_same(stamp, before));
+        }
+    }
+}
+
 fn rows_beside(
     rt: &impl Abort,
     out: &mut String,
@@ -105,12 +114,11 @@ fn rows_beside(
         beside.step(out, hasher, *what, text)?;
         show_map(out, &beside.map)?;
         check(rt, out.as_str(), want);
-        for stamp in 0..10 {
-            for before in 0..11 {
-                assert!(rt; beside.finds_the_same(stamp, before));
-            }
-        }
+        finds_all_the_same(rt, &beside);
     }
+    // Without measures each value is looked at.
+    beside.column.forget();
+    finds_all_the_same(rt, &beside);
     Ok(())
 }
 
