@@ -1,3 +1,4 @@
 pub mod Bodies
 pub mod Above
 pub mod Normal
+pub mod ByEight

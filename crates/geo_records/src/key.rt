@@ -10,6 +10,7 @@ ghost use Rattle.std.proofs.Common.{rules};
 ghost use Rattle.geo_records.specs.Keys.{IsShortKey, is_key, is_key_byte};
 ghost use Rattle.std.specs.List.{list_all};
 
+use crate::order::{is_same, order};
 use geo_lattice::Twin;
 use smallvec::SmallVec;
 use std::alloc::{AllocError, Global};
@@ -46,7 +47,7 @@ impl PartialEq for Key {
     ghost laws = { partial_equiv_from_equiv nat_list_eq_equiv };
 
     fn eq(&self, other: &Key) -> bool {
-        self.bytes.as_slice() == other.bytes.as_slice()
+        is_same(self.bytes.as_slice(), other.bytes.as_slice())
     }
 }
 
@@ -64,7 +65,7 @@ impl Ord for Key {
     ghost matches_eq = { Prim.search (comparing, rules) };
 
     fn cmp(&self, other: &Key) -> Ordering {
-        self.bytes.as_slice().cmp(other.bytes.as_slice())
+        order(self.bytes.as_slice(), other.bytes.as_slice())
     }
 }
 

@@ -9,6 +9,7 @@ pub mod body;
 pub mod digest;
 pub mod key;
 pub mod length;
+pub(crate) mod order;
 pub mod version;
 
 pub use body::{Body, Rec};
