@@ -13,7 +13,7 @@ ghost use Rattle.geo_delta.specs.Changes.{Noted, Traced, KnowsBut, emptied, firs
 
 use crate::lookup::Lookup;
 use circular_buffer::HeapCircularBuffer;
-use geo_lattice::{Exact, Lattice, Lww, Pair, Twin};
+use geo_lattice::{Exact, Lattice, Lww, Pair};
 use geo_stamp::{Stamp, Vector};
 use geo_versions::{Key, Rec};
 use std::alloc::{AllocError, Global};
@@ -148,15 +148,15 @@ impl Buffer {
         Some(0)
     }
 
-    /// The keys of the changes from this one on.
-    fn keys_from(&self, alloc: Global, first: usize) -> Result<Vec<Key>, AllocError>
+    /// The keys of the changes from this one on, by reference: a key may have changed often, and a copy of a long one takes memory.
+    fn keys_from<'a>(&'a self, alloc: Global, first: usize) -> Result<Vec<&'a Key>, AllocError>
         requires { first ≤ length self.now.changes }
-        ensures { IfOk result (λ keys. keys.items ≡ map (λ (c : Noted). c.0) (drop first self.now.changes)) }
+        ensures { IfOk result (λ keys. map (λ k. k.now) keys.items ≡ map (λ (c : Noted). c.0) (drop first self.now.changes)) }
     {
         let mut keys = Vec::with_capacity(alloc, self.ring.len() - first)?;
         for i in first..self.ring.len() {
             if let Some(change) = self.ring.get(i) {
-                keys.push(change.0.twin(alloc)?)?;
+                keys.push(&change.0)?;
             }
         }
         Ok(keys)
@@ -164,9 +164,10 @@ impl Buffer {
 }
 
 /// The keys by their order, each once.
-fn sorted(mut keys: Vec<Key>) -> Vec<Key>
-    ensures rising { IsStrictlySortedBy (slice_cmp nat_cmp) result.items }
-    ensures same { (q : List ℕ) → list_any (same_key q) result.items ≡ list_any (same_key q) keys.items }
+fn sorted(mut keys: Vec<&Key>) -> Vec<&Key>
+    ensures rising { IsStrictlySortedBy (slice_cmp nat_cmp) (map (λ k. k.now) result.items) }
+    ensures same { (q : List ℕ)
+        → list_any (same_key q) (map (λ k. k.now) result.items) ≡ list_any (same_key q) (map (λ k. k.now) keys.entry.items) }
 {
     keys.sort_unstable();
     keys.dedup();
@@ -196,24 +197,24 @@ fn news_of<T: Lookup>(versions: &T, base: &Vector, key: &Key) -> Option<Rec>
     }
 }
 
-/// The records of these keys of which the vector does not know all.
+/// The records of these keys of which the vector does not know all, each with a copy of its key. No other key is copied.
 fn looked_up<T: Lookup>(
     alloc: Global,
     versions: &T,
     base: &Vector,
-    keys: Vec<Key>,
+    keys: Vec<&Key>,
 ) -> Result<Vec<(Key, Rec)>, AllocError>
-    requires { IsStrictlySortedBy (slice_cmp nat_cmp) keys.items }
+    requires { IsStrictlySortedBy (slice_cmp nat_cmp) (map (λ k. k.now) keys.items) }
     ensures rising { IfOk result (λ all. Rising all.items) }
     ensures records { IfOk result (λ all. (q : List ℕ)
-        → listed_at all.items q ≡ cond {A = Record} (list_any (same_key q) keys.items) (since base.now (T.record_of versions.now q))
-        (None, None)) }
+        → listed_at all.items q ≡ cond {A = Record} (list_any (same_key q) (map (λ k. k.now) keys.entry.items))
+        (since base.now (T.record_of versions.now q)) (None, None)) }
     ensures filled { IfOk result (λ all. All (λ e. rec_means e.1 ≡ (None, None) → ⊥) all.items) }
 {
     let mut all = Vec::new(alloc);
     for key in keys {
-        if let Some(rec) = news_of(versions, base, &key) {
-            all.push((key, rec))?;
+        if let Some(rec) = news_of(versions, base, key) {
+            all.push((key.copied(alloc)?, rec))?;
         }
     }
     Ok(all)
