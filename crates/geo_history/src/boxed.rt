@@ -40,7 +40,7 @@ impl BoxedParcel {
         BoxedParcel::new(alloc, parcel.twin(alloc)?)
     }
 
-    /// The same parcel for one owner more, which copies nothing.
+    /// The same parcel for one owner more, which copies nothing and asks for no memory. Err only where no further owner can be counted.
     pub fn shared(&self) -> Result<BoxedParcel, AllocError>
         ensures { IfOk result (λ boxed. boxed ≡ self.now) }
     {

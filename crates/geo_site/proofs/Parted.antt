@@ -1,5 +1,5 @@
 -- Records of which some are left out.
-use Rattle.std.proofs.Common.{◌≡◌, Bool, true, false, cond, ◌&&◌, not, is_some, List, [], ◌∷◌, ℕ, ◌≤◌, ◌+◌, refl, sym, ap, ◌∙◌, arith, true≢false}
+use Rattle.std.proofs.Common.{◌≡◌, Bool, true, false, cond, ◌&&◌, not, is_some, List, [], ◌∷◌, ◌≤◌, ◌+◌, refl, sym, ap, ◌∙◌, arith, true≢false}
 use Rattle.std.specs.List.{items_where_true, list_all}
 use Rattle.std.specs.Map.{lookup}
 use Rattle.std.proofs.lemmas.List.Sums.{sum_by-cons}

@@ -215,7 +215,8 @@ fn read_each(
     requires small { IsSmall start }
     ensures small { IfOk result (λ o. IfSome o (λ s. IsSmall s)) }
     ensures same { IfOk result (λ o. MatchOption o (behind bytes.old.items (unescaped_from start (drop from text.now)) ≡ None)
-        (λ s. behind bytes.new.items (unescaped_from s (drop to text.now)) ≡ behind bytes.old.items (unescaped_from start (drop from text.now)))) }
+        (λ s. behind bytes.new.items (unescaped_from s (drop to text.now))
+        ≡ behind bytes.old.items (unescaped_from start (drop from text.now)))) }
 {
     let mut spot = start;
     for at in from..to {

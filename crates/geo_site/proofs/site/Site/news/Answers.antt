@@ -1,7 +1,7 @@
-use Rattle.std.proofs.Common.{◌≡◌, ◌∙◌, sym, ap, subst, arith, List, ℕ}
+use Rattle.std.proofs.Common.{◌∙◌, ap, arith, List, ℕ}
 use Rattle.geo_lattice.specs.Maps.{missing}
 use Rattle.geo_records.specs.Keys.{same_key}
-use Rattle.geo_versions.specs.Maps.{Rec, rec_means, HasRoomFor}
+use Rattle.geo_versions.specs.Maps.{Rec, rec_means}
 use Rattle.geo_site.specs.Machine.{knows_record}
 use Rattle.geo_site.specs.Sites.{knows_all}
 use Rattle.geo_site.proofs.Parted.{all_left, missing_left}
