@@ -1,4 +1,5 @@
 mod lattice;
+mod random;
 mod stamp;
 mod text;
 mod versions;

@@ -51,6 +51,13 @@ column_after measured es es' cs cs' i column entries others own j k v m at is = 
     by (inl e) = subst (λ o. IfSome o (λ m. m ≡ measured v)) (subst (λ n. slice_get cs' n ≡ Some m) e is) (own (k, v) (subst (λ n. slice_get es' n ≡ Some (k, v)) e at))
     by (inr ne) = column j k v m (sym (entries j ne) ∙ at) (sym (others j ne) ∙ is)
 
+-- a column after a value was written at a place
+pub column_written : {K V : Type 0} (measured : V → ℕ) (es : List (K × V)) (cs cs' : List ℕ) (i : ℕ) (w : V) (n : ℕ) → IsColumn measured es cs → OthersStand cs cs' i → IfSome (slice_get cs' i) (λ m. m ≡ n) → n ≡ measured w
+    → IsColumn measured (set_value_at es i w) cs'
+column_written measured es cs cs' i w n column others own is =
+    column_after measured es (set_value_at es i w) cs cs' i column (others_set es i w) others
+    (λ e at. subst (λ x. IfSome (slice_get cs' i) (λ m. m ≡ x)) (is ∙ ap measured (sym (own_set es i w e at))) own)
+
 module _ {K V S : Type 0} (eq : K → K → Bool) (laws : IsEquivalence eq) (m : IndexMap K V S) (unique : IsUnique eq m) (i : ℕ) (k : K) where
   standing : (o : Option (K × V)) → slice_get m.entries i ≡ o → IsSomeAnd o (λ e. eq k e.0 ≡ true) → (e : K × V) × (slice_get m.entries i ≡ Some e) × (eq k e.0 ≡ true)
   standing None at h = absurd h

@@ -6,3 +6,4 @@ pub mod Changed
 pub mod Listing
 pub mod Showing
 pub mod Columns
+pub mod Dropped

@@ -2,6 +2,8 @@
 use Rattle.std.proofs.Common.{◌≡◌, take, get_or, length, zero, suc, ◌-◌, Bool, true, false, cond, not, is_some, List, [], ◌∷◌, ◌++◌, refl, sym, ap, ◌∙◌, ℕ, ◌≤◌, ◌<◌, ◌+◌, arith, true≢false}
 use Rattle.std.proofs.lemmas.List.Sums.{count_by-le-length, sum_by-cons, sum_by_push, sum_by-le-sum_by}
 use Rattle.std.proofs.lemmas.List.{take_more}
+use Rattle.std.proofs.lemmas.List.Sorted.{sum_by-IsPermutation, IsPermutation-swap}
+use Rattle.std.specs.List.{swap}
 use Rattle.std.specs.Map.{lookup}
 use Rattle.geo_lattice.specs.Maps.{missing}
 
@@ -65,3 +67,8 @@ module _ {K U V : Type 0} (eq : K → K → Bool) where
           let one : missing eq mine all ≡ missing eq mine es + 1 = ap (missing eq mine) is ∙ missing_push mine es k v ∙ ap (λ b. missing eq mine es + cond (not b) 1 0) p in
           let uses : ◌≡◌ {A = ℕ} (cond (is_some (lookup (eq k) mine)) 0 1) 1 = ap (λ b. cond b 0 1) p in
           let fewer = missing_fewer mine more es keeps in omega (arith, one, uses, fewer, fits, used)
+
+-- of the same entries in another order as many are missing
+pub missing_swapped : {K U V : Type 0} (eq : K → K → Bool) (mine : List (K × U)) (es es' : List (K × V)) (a b : ℕ) → a < length es → b < length es → es' ≡ swap es a b → missing eq mine es' ≡ missing eq mine es
+missing_swapped {K} {U} {V} eq mine es es' a b a-in b-in is =
+    sum_by-IsPermutation (λ (e : K × V). cond (not (is_some (lookup (eq e.0) mine))) 1 0) es es' (IsPermutation-swap es es' a b a-in b-in is)

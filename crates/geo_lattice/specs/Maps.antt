@@ -69,4 +69,10 @@ OthersStand es es' i = (j : ℕ) → (j ≡ i → ⊥) → slice_get es' j ≡ s
 
 -- a column has the measure of each entry beside which it has a number
 abbrev pub IsColumn : {K V : Type 0} → (V → ℕ) → List (K × V) → List ℕ → Type 0
-IsColumn {K} {V} measured es column = (i : ℕ) (k : K) (v : V) (m : ℕ) → slice_get es i ≡ Some (k, v) → slice_get column i ≡ Some m → m ≡ measured v
+IsColumn {K} {V} measured es column =
+    (i : ℕ) (k : K) (v : V) (m : ℕ) → slice_get es i ≡ Some (k, v) → slice_get column i ≡ Some m → m ≡ measured v
+
+-- what stands at a place in the second list stood there in the first, but that at one place, which stood last
+pub record SwappedOut {A : Type 0} (xs ys : List A) (i last : ℕ) : Type 0 where
+  pub moved : (x : A) → slice_get ys i ≡ Some x → slice_get xs last ≡ Some x
+  pub others : (j : ℕ) (x : A) → (j ≡ i → ⊥) → slice_get ys j ≡ Some x → slice_get xs j ≡ Some x

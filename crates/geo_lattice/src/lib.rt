@@ -7,6 +7,8 @@
 
 pub mod change;
 pub mod column;
+pub(crate) mod coming;
+pub(crate) mod dropping;
 pub mod exact;
 pub mod items;
 pub mod lattice;

@@ -411,7 +411,8 @@ impl<K: Twin + Ord + Hash, L: Bottom> MapOf<K, L> {
                 }
             }
         }
-        // Records come in runs by rising key, one of each parcel that was taken, and this sort makes use of that.
+        // Records come in runs by rising key, one of each parcel that was taken, but for those that a removal moved, and this sort makes
+        // use of that.
         all.sort_by(|a, b| a.0.cmp(&b.0))?;
         Ok(all)
     }

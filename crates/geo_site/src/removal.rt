@@ -17,8 +17,9 @@ impl Site {
     }
 
     /// Drops the records that have no version and no operation with a time above the horizon, and tells how many. What it drops no
-    /// site misses: a parcel that still brings it is sifted. Where it knows that there is none, it tells so at once; else it passes over
-    /// all records. It takes no memory.
+    /// site misses: a parcel that still brings it is sifted. Where it knows that there is none, it tells so at once; else it looks for
+    /// them as [`geo_versions::Versions::remove_below`] does. It takes no memory but what notes measures and order, the want of which
+    /// fails nothing.
     pub fn remove(&mut self) -> usize
         ensures { RemoveDoes self.old self.new result }
     {

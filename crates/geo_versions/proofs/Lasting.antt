@@ -15,7 +15,7 @@ use Rattle.geo_records.proofs.Above.{newer_none}
 use Rattle.geo_records.specs.Bodies.{body_cmp}
 use Rattle.geo_records.specs.Keys.{same_key}
 use Rattle.geo_records.specs.Operations.{Record, Register, above, above_both, is_above, record_joined, version_in}
-use Rattle.geo_versions.specs.Records.{Rec, rec_means, rec_above, is_old, is_over, remaining, LastsTo, time_in, lasting_of}
+use Rattle.geo_versions.specs.Records.{Rec, rec_means, rec_above, has_register, is_old, is_over, remaining, LastsTo, time_in, lasting_of}
 use Rattle.geo_records.specs.declared.body.Body.{Body}
 use Rattle.geo_records.specs.declared.body.Body.TheVariants.{Value, Gone}
 
@@ -221,3 +221,41 @@ lasts_touch time old new k x lasts there is q = subst (LastsTo time) (sym (is q)
     by : (t : Bool) → same_key k q ≡ t → LastsTo time (cond {A = Record} t (record_joined (old q) (None, x)) (old q))
     by true e = lasts_touched time (old q) x (lasts q) (λ h. there (ap old (same_text k q (sym e)) ∙ h))
     by false e = lasts q
+
+-- what has no version has none above a floor
+none_above : (f : Option Moment) (b : Register Body) (e : Register ℕ) → is_some (version_in (b, e)) ≡ false → is_some (version_in (above f b, above f e)) ≡ false
+none_above f b e none = elim (above_or f b) [
+  | inl p ↦ ap (λ (x : Register Body). is_some (version_in (x, above f e))) p
+  | inr p ↦ ap (λ (x : Register Body). is_some (version_in (x, above f e))) p ∙ by b e none (above f e)
+]
+  where
+    by : (b : Register Body) (e : Register ℕ) → is_some (version_in (b, e)) ≡ false → (d : Register ℕ) → is_some (version_in (b, d)) ≡ false
+    by None e none d = refl
+    by (Some (m, Gone)) e none d = refl
+    by (Some (m, Value digest flags length)) None none d = absurd (true≢false none)
+    by (Some (m, Value digest flags length)) (Some e) none d = absurd (true≢false none)
+
+both_true : (a b : Bool) → a && b ≡ true → (a ≡ true) × (b ≡ true)
+both_true true true h = (refl, refl)
+both_true true false h = absurd (true≢false (sym h))
+both_true false b h = absurd (true≢false (sym h))
+
+not_true : (a : Bool) → not a ≡ true → a ≡ false
+not_true true h = absurd (true≢false (sym h))
+not_true false h = refl
+
+at_most : (t h : ℕ) → nat_le t h ≡ true → t ≤ h
+at_most t h le = grind (arith, nat_tests, le)
+
+-- what a removal drops has a low time
+pub over_is_low : (f : Option Moment) (h : ℕ) (r : Record) → has_register r && is_over h r ≡ true → lasting_of f r ≤ h
+over_is_low f h (None, None) p = absurd (true≢false (sym p))
+over_is_low f h (Some b, e) p =
+    let none = not (is_some (version_in (Some b, e))) in
+    let both = is_old h (Some b) && is_old h e in
+    let over : (none ≡ true) × (both ≡ true) = both_true none both p in
+    let early : b.0.time ≤ h = at_most b.0.time h (both_true (nat_le b.0.time h) (is_old h e) over.1).0 in
+    subst (λ t. cond {A = ℕ} t 18446744073709551615 (min b.0.time (time_in e)) ≤ h) (sym (none_above f (Some b) e (not_true (is_some (version_in (Some b, e))) over.0))) (omega (arith, early))
+over_is_low f h (None, Some e) p =
+    let early : e.0.time ≤ h = at_most e.0.time h p in
+    subst (λ t. cond {A = ℕ} t 18446744073709551615 (min 18446744073709551615 e.0.time) ≤ h) (sym (none_above f None (Some e) refl)) (omega (arith, early))

@@ -1,5 +1,5 @@
 -- What a removal leaves of records, and what a take leaves out of them.
-use Rattle.std.proofs.Common.{◌≡◌, ℕ, Bool, true, false, cond, List, [], ◌∷◌, Option, None, Some, refl, ap, ◌∙◌, subst}
+use Rattle.std.proofs.Common.{◌≡◌, ◌&&◌, ℕ, Bool, true, false, cond, List, [], ◌∷◌, Option, None, Some, refl, ap, ◌∙◌, subst}
 use Rattle.std.specs.List.Retain.{RetainsInTurn}
 use Rattle.geo_lattice.specs.Maps.{meaning_or}
 use Rattle.geo_stamp.specs.Stamps.{Moment}
@@ -24,6 +24,17 @@ remaining_at h (Some r) = by (is_over h (rec_means r))
     by : (b : Bool) → rec_means (cond b (record { left = record { register = None }; right = record { register = None } }) r) ≡ cond {A = Record} b (None, None) (rec_means r)
     by true = refl
     by false = refl
+
+-- the same of what is dropped where it is over
+pub left_at : (h : ℕ) (o : Option Rec) → meaning_or (None, None) (λ v. cond {A = Record} (has_register (rec_means v) && is_over h (rec_means v)) (None, None) (rec_means v)) o ≡ remaining h (meaning_or (None, None) rec_means o)
+left_at h None = refl
+left_at h (Some r) = by (rec_means r) (is_over h (rec_means r)) refl
+  where
+    by : (r : Record) (t : Bool) → is_over h r ≡ t → cond {A = Record} (has_register r && t) (None, None) r ≡ cond {A = Record} t (None, None) r
+    by (None, None) true e = refl
+    by (None, None) false e = refl
+    by (Some b, e) t p = refl
+    by (None, Some e) t p = refl
 
 -- of what was above a floor, what is left is
 pub remaining_above : (floor : Option Moment) (h : ℕ) (r : Record) → above_both floor r ≡ r → above_both floor (remaining h r) ≡ remaining h r

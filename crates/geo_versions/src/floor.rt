@@ -1,10 +1,10 @@
 //! What a flush leaves: the operations above its stamp.
-ghost use Rattle.std.specs.Prelude.{◌≡◌, Option};
+ghost use Rattle.std.specs.Prelude.{◌≡◌, Option, not, is_some};
 ghost use Rattle.geo_records.specs.Operations.{above, is_above, floor_joined};
 ghost use Rattle.geo_versions.specs.Records.{rec_above};
 
 use crate::shown::copied;
-use geo_lattice::{Change, Exact, Lww, Show};
+use geo_lattice::{Change, Exact, Lww, Show, Test};
 use geo_records::Rec;
 use geo_stamp::Stamp;
 
@@ -51,6 +51,27 @@ impl Change<Rec> for AboveFloor {
     fn change(&self, value: &mut Rec) {
         drop_below(self.floor, &mut value.left);
         drop_below(self.floor, &mut value.right);
+    }
+}
+
+fn is_below<V: Exact + Drop>(floor: Option<Stamp>, register: &Lww<Stamp, V>) -> bool
+    ensures { result ≡ not (is_some (above floor register.now.register)) }
+{
+    match register.get() {
+        None => true,
+        Some((stamp, _)) => !counts(floor, *stamp),
+    }
+}
+
+/// The records of which nothing is above the floor.
+impl Test<Rec> for AboveFloor {
+    ghost use Rattle.std.specs.Prelude.{not};
+    ghost use Rattle.geo_versions.specs.Records.{has_register, rec_above, rec_means};
+
+    ghost passing = { λ c r. not (has_register (rec_means (rec_above c.floor r))) };
+
+    fn passes(&self, value: &Rec) -> bool {
+        is_below(self.floor, &value.left) && is_below(self.floor, &value.right)
     }
 }
 

@@ -6,7 +6,7 @@ ghost use Rattle.geo_records.specs.Operations.{above_both, version_in};
 ghost use Rattle.geo_versions.specs.Records.{rec_means, rec_recent, rec_remaining, time_in, lasting_of};
 
 use crate::floor::counts;
-use geo_lattice::{Bottom, Change, Exact, Lww, Measure};
+use geo_lattice::{Bottom, Change, Exact, Lww, Measure, Test};
 use geo_records::{Body, Key, Rec, shown_version};
 use geo_stamp::Stamp;
 
@@ -39,20 +39,31 @@ impl Change<Rec> for Recent {
     }
 }
 
-/// Drops the records without a version of which every site knows all.
+/// The records without a version of which every site knows all, which a removal drops.
 #[derive(Clone, Copy)]
-pub(crate) struct Remaining {
+pub(crate) struct Over {
     pub horizon: u64,
 }
 
-impl Change<Rec> for Remaining {
-    ghost changed = { λ c r. rec_remaining c.horizon r };
+impl Test<Rec> for Over {
+    ghost use Rattle.std.specs.Prelude.{◌&&◌};
+    ghost use Rattle.geo_versions.specs.Records.{has_register, is_over, rec_means};
 
-    fn change(&self, value: &mut Rec) {
-        if shown_version(value).is_none()
+    ghost passing = { λ o r. has_register (rec_means r) && is_over o.horizon (rec_means r) };
+
+    fn passes(&self, value: &Rec) -> bool {
+        !value.is_bottom()
+            && shown_version(value).is_none()
             && is_known(self.horizon, &value.left)
             && is_known(self.horizon, &value.right)
-        {
+    }
+}
+
+impl Change<Rec> for Over {
+    ghost changed = { λ o r. rec_remaining o.horizon r };
+
+    fn change(&self, value: &mut Rec) {
+        if self.passes(value) {
             *value = Rec::bottom();
         }
     }

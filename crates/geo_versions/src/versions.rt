@@ -1,12 +1,12 @@
 //! The floor, and what is kept of each key.
-ghost use Rattle.std.specs.Prelude.{List, ℕ};
+ghost use Rattle.std.specs.Prelude.{◌≡◌, List, ℕ};
 ghost use Rattle.geo_lattice.specs.Maps.{IsColumn};
-ghost use Rattle.geo_versions.specs.Records.{Rec, record_at, LastsTo, end_in};
+ghost use Rattle.geo_versions.specs.Records.{Rec, record_at, LastsTo, end_in, lasting_of, rec_means};
 ghost use Rattle.geo_records.specs.Normal.{IsNormal};
 ghost use Rattle.geo_records.proofs.Normal.{normal_prop};
 
 use crate::floor::{AboveFloor, counts, later};
-use crate::removal::{Lasting, Remaining};
+use crate::removal::{Lasting, Over};
 use crate::shown::{EndOf, Ended, Shown, UnknownTo, Whole, copied};
 use geo_lattice::{Bottom, Change, Column, Lattice, Lww, MapOf, Measure, Pair};
 use geo_records::{Body, Key, Rec, Version, shown_version};
@@ -21,9 +21,11 @@ pub struct Versions {
     records: MapOf<Key, Rec>,
     /// No removal at a horizon below this time drops a record.
     lasting: u64,
-    /// The end of each record, beside the records.
-    ends: Column<EndOf>,
+    /// The end of each record, and the time up to which no removal drops it, beside the records.
+    ends: Column<EndOf, Lasting>,
     ghost column: { IsColumn (λ (r : Rec). end_in r.right.register) records.entries ends.measures.items },
+    ghost lasting_column: { IsColumn (λ (r : Rec). lasting_of floor (rec_means r)) records.entries ends.others.items },
+    ghost cut: { ends.other.floor ≡ floor },
     ghost lasts: { (q : List ℕ) → LastsTo lasting (record_at records q) },
     ghost above: { IsNormal (floor, record_at records) } by { normal_prop (floor, record_at records) },
 }
@@ -46,7 +48,7 @@ impl Versions {
             floor: None,
             records: MapOf::with_hasher(alloc, hasher),
             lasting: u64::MAX,
-            ends: Column::new(alloc, EndOf),
+            ends: Column::new(alloc, EndOf, Lasting { floor: None }),
         }
     }
 
@@ -140,7 +142,7 @@ impl Versions {
         Ok(())
     }
 
-    /// Joins a touch of a key that has a record. It takes no memory.
+    /// Joins a touch of a key that has a record. It takes no memory but what notes its measures, the want of which fails nothing.
     pub fn touch(&mut self, key: &Key, stamp: Stamp, expiry: u64)
         requires { record_in self.old key.now ≡ (None, None) → ⊥ }
         ensures records { (q : List ℕ) → record_in self.new q
@@ -162,7 +164,7 @@ impl Versions {
         }
     }
 
-    /// Joins a flush: what is not above it is dropped. It takes no memory.
+    /// Joins a flush: what is not above it is dropped. It takes no memory but what notes measures, the want of which fails nothing.
     pub fn raise_floor(&mut self, stamp: Stamp)
         ensures floor { floor_in self.new ≡ floor_joined (floor_in self.old) (Some stamp) }
         ensures records { (q : List ℕ) → record_in self.new q ≡ above_both (floor_in self.new) (record_in self.old q) }
@@ -172,10 +174,11 @@ impl Versions {
         };
         if self.floor != above.floor {
             self.floor = above.floor;
+            self.ends.leave_out(&self.records, &above);
             self.records.change_all(&above);
             self.lasting = self
                 .ends
-                .note_all(&self.records, &Lasting { floor: self.floor });
+                .note_all(&self.records, Lasting { floor: self.floor });
         }
     }
 
@@ -194,8 +197,8 @@ impl Versions {
         self.records.ready_list(records)
     }
 
-    /// Joins a floor and records, for which there is room. It takes no memory, and looks at the other records only where the
-    /// floor rises.
+    /// Joins a floor and records, for which there is room. It takes no memory but what notes measures, the want of which fails nothing,
+    /// and looks at the other records only where the floor rises.
     pub fn join_records(&mut self, floor: Option<Stamp>, records: Vec<(Key, Rec)>)
         requires { HasRoomFor self.old records.items }
         ensures floor { floor_in self.new ≡ floor_joined (floor_in self.old) floor }
@@ -211,16 +214,19 @@ impl Versions {
         self.lasting = lasting;
         if self.floor != above.floor {
             self.floor = above.floor;
+            self.ends.leave_out(&self.records, &above);
             self.records.change_all(&above);
             self.lasting = self
                 .ends
-                .note_all(&self.records, &Lasting { floor: self.floor });
+                .note_all(&self.records, Lasting { floor: self.floor });
         }
     }
 
     /// Drops the records that have no version and no operation with a time above the horizon, up to which every site knows all, and
     /// tells how many it dropped (stable operations: Almeida et al. 2018). Where it knows that there is none, it tells so at once; else it
-    /// passes over all records. It takes no memory.
+    /// passes over the times up to which no removal drops a record, and looks at the records with a low one. Where there was no memory
+    /// for these, or so many go that the table would lose many places, it passes over all records. It takes no memory but what notes
+    /// measures and the order in which records came, the want of which fails nothing.
     pub fn remove_below(&mut self, horizon: u64) -> usize
         ensures records { (q : List ℕ) → record_in self.new q ≡ remaining horizon (record_in self.old q) }
         ensures floor { floor_in self.new ≡ floor_in self.old }
@@ -230,10 +236,16 @@ impl Versions {
             return 0;
         }
         let before = self.records.len();
-        self.records.change_all(&Remaining { horizon });
-        self.lasting = self
-            .ends
-            .note_all(&self.records, &Lasting { floor: self.floor });
+        let over = Over { horizon };
+        if self.ends.may_drop(&self.records, horizon) {
+            self.lasting = self.records.drop_low(&mut self.ends, horizon, &over);
+        } else {
+            self.ends.leave_out(&self.records, &over);
+            self.records.change_all(&over);
+            self.lasting = self
+                .ends
+                .note_all(&self.records, Lasting { floor: self.floor });
+        }
         before - self.records.len()
     }
 
@@ -308,17 +320,28 @@ impl Lattice for Versions {
     }
 
     fn join(&mut self, other: Self) {
-        let Versions { floor, records, .. } = other;
-        // What stands where is not told, so that the next pass over all records takes the ends anew.
+        let Versions {
+            floor: theirs,
+            mut records,
+            mut ends,
+            ..
+        } = other;
+        // They are joined from the last that came to the first.
+        records.settle(&mut ends);
+        // What stands where is not told, so that the next pass over all records takes all measures anew.
         self.ends.forget();
         let above = AboveFloor {
-            floor: later(self.floor, floor),
+            floor: later(self.floor, theirs),
         };
         self.records.join_changed(records, &above);
         self.lasting = 0;
         if self.floor != above.floor {
             self.floor = above.floor;
+            self.ends.leave_out(&self.records, &above);
             self.records.change_all(&above);
+            let _least = self
+                .ends
+                .note_all(&self.records, Lasting { floor: self.floor });
         }
     }
 

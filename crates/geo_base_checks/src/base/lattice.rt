@@ -13,6 +13,7 @@ use std::process::Abort;
 use std::test::Fail;
 
 mod column;
+mod dropping;
 mod table;
 
 use table::{MAPS, MapRow, NUMBERS, PAIRS, REGISTERS, Step, TWINS};

@@ -11,6 +11,7 @@ use std::process::Abort;
 use std::test::Fail;
 
 mod table;
+mod walked;
 
 use table::{
     At, CONTENTS, Content, KEYS, NEWS, RISING, Record, SIFTED, Step, TO_SIFT, VERSIONS, VersionRow,

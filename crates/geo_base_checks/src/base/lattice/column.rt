@@ -14,19 +14,20 @@ use std::hash::RandomState;
 use std::process::Abort;
 use std::test::Fail;
 
-/// A map, and a column of its stamps.
+/// A map, and a column of its stamps, which are both of its measures.
 #[derive(Drop)]
 struct Beside {
     map: Map,
-    column: Column<StampOf>,
+    column: Column<StampOf, StampOf>,
     ghost noted: { IsColumn (λ (r : Lww ℕ ℕ). meaning_or 0 (λ p. p.0) r.register) map.entries column.measures.items },
+    ghost times: { IsColumn (λ (r : Lww ℕ ℕ). meaning_or 0 (λ p. p.0) r.register) map.entries column.others.items },
 }
 
 /// Registers with a stamp later than one and before another.
 #[derive(Clone, Copy)]
-struct Between {
-    after: After,
-    before: u64,
+pub struct Between {
+    pub after: After,
+    pub before: u64,
 }
 
 impl Test<Register> for Between {
@@ -46,7 +47,7 @@ impl Beside {
     fn new(alloc: Global, hasher: RandomState) -> Beside {
         Beside {
             map: MapOf::with_hasher(alloc, hasher),
-            column: Column::new(alloc, StampOf),
+            column: Column::new(alloc, StampOf, StampOf),
         }
     }
 
@@ -80,7 +81,7 @@ impl Beside {
             _ => {
                 self.column.forget();
                 step(out, &mut self.map, hasher, what, text)?;
-                let _least = self.column.note_all(&self.map, &StampOf);
+                let _least = self.column.note_all(&self.map, StampOf);
             }
         }
         Ok(())

@@ -10,3 +10,12 @@ invariant-loop-place g l = record {
 
 abbrev pub decreases-loop-place : goal.decreases-loop-place
 decreases-loop-place g l = length l.self.measures.items - l.place
+
+abbrev pub invariant-loop-place-2 : goal.invariant-loop-place-2
+invariant-loop-place-2 g l = record {
+  on : l.from ≤ l.place;
+  above : (j : ℕ) → l.from ≤ j → j < l.place → IsSomeAnd (slice_get l.self.measures.items j) (λ m. l.bound ≤ m);
+}
+
+abbrev pub decreases-loop-place-2 : goal.decreases-loop-place-2
+decreases-loop-place-2 g l = length l.self.measures.items - l.place

@@ -6,6 +6,8 @@ use Rattle.geo_lattice.proofs.column.Column.note_all.Given as goal
 abbrev pub invariant-loop-place : goal.invariant-loop-place
 invariant-loop-place g l = record {
   column : IsColumn (g.M.Measure.measured l.self.measure) l.map-inside.entries.entries l.self.measures.items;
-  least : EachOf (λ k v. l.least ≤ g.N.Measure.measured l.other v) l.map-inside.entries.entries l.place;
+  other : IsColumn (g.N.Measure.measured l.self.other) l.map-inside.entries.entries l.self.others.items;
+  least : EachOf (λ k v. l.least ≤ g.N.Measure.measured l.self.other v) l.map-inside.entries.entries l.place;
   measure : l.self.measure ≡ l.fn.self.measure;
+  measured : l.self.other ≡ l.fn.other;
 }

@@ -15,10 +15,10 @@ loop-place-preserved g c =
     let next = c.next_below-place.result in
     each_next (λ (k : g.row.K.Denot) v. (nat_lt (measured v) bound && passing v) ≡ false) es next
     (none_between measured bound passing es cs column c.loop-place.place next c.next_below-place.ensures.above c.loop-place.invariant)
-    (λ k v at. subst (λ (p : g.row.K.Denot × g.row.L.Denot). (nat_lt (measured p.1) bound && passing p.1) ≡ false) (some_same (c.in-Some.ensures.entry ∙ at)) (sym c.is_sought.ensures ∙ c.if-is_sought.false))
+    (λ k v at. subst (λ (p : g.row.K.Denot × g.row.L.Denot). (nat_lt (measured p.1) bound && passing p.1) ≡ false) (some_same (c.in-Some-get_index.ensures.entry ∙ at)) (sym c.is_sought.ensures ∙ c.if-is_sought.false))
 
-pub returns-in_default : goal.returns-in_default
-returns-in_default g c = λ q.
+pub returns-in_default-get_index : goal.returns-in_default-get_index
+returns-in_default-get_index g c = λ q.
     let measured = g.M.Measure.measured c.args.column.now.measure in
     let bound = c.args.bound in
     let passing = g.T.Test.passing c.args.test.now in
@@ -28,7 +28,7 @@ returns-in_default g c = λ q.
     let next = c.next_below-place.result in
     let sought = λ (v : g.row.L.Denot). nat_lt (measured v) bound && passing v in
     ap (λ m. meaning_at false sought g.K.PartialEq.eq m q) (sym c.self.view_is)
-    ∙ none_passes sought es next (none_there es next (sym c.in_default.ensures.entry)) (none_between measured bound passing es cs column c.loop-place.place next c.next_below-place.ensures.above c.loop-place.invariant) (g.K.PartialEq.eq q)
+    ∙ none_passes sought es next (none_there es next (sym c.in_default-get_index.ensures.entry)) (none_between measured bound passing es cs column c.loop-place.place next c.next_below-place.ensures.above c.loop-place.invariant) (g.K.PartialEq.eq q)
 
 pub returns : goal.returns
 returns g c = λ q.

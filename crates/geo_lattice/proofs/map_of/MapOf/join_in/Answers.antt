@@ -1,9 +1,8 @@
-use Rattle.std.proofs.Common.{◌≡◌, ◌∙◌, sym, ap, subst, is_some, cond, slice_get, IfSome}
-use Rattle.indexmap.specs.IndexMap.{set_value_at}
+use Rattle.std.proofs.Common.{◌≡◌, ◌∙◌, sym, ap, subst, is_some, cond}
 use Rattle.geo_lattice.specs.Maps.{meaning_at, get, StandsAt, IsColumn}
 use Rattle.geo_lattice.proofs.Entries.{found_written}
 use Rattle.geo_lattice.proofs.Joining.{joined_least}
-use Rattle.geo_lattice.proofs.Columns.{column_after, others_set, own_set, found_at, found_set, joined_in, kept_in}
+use Rattle.geo_lattice.proofs.Columns.{column_written, found_at, found_set, joined_in, kept_in}
 use Rattle.geo_lattice.proofs.map_of.MapOf.join_in.Goals as goal
 
 pub invariant_of-self : goal.invariant_of-self
@@ -40,9 +39,12 @@ pub returns-clause-column : goal.returns-clause-column
 returns-clause-column g c =
     let measured = g.M.Measure.measured c.args.column.now.measure in
     let place = c.args.place in
-    let entries = set_value_at c.self.inside.entries.entries place c.join.new.self in
-    let numbers = c.set.new.self.measures.items in
     let column = subst (λ m. IsColumn measured m.entries c.args.column.now.measures.items) (sym c.self.view_is) c.requires.column in
-    subst (λ x. IsColumn (g.M.Measure.measured x) entries numbers) (sym c.set.ensures.measure)
-    (column_after measured c.self.inside.entries.entries entries c.args.column.now.measures.items numbers place column (others_set _ place c.join.new.self) c.set.ensures.others
-    (λ e at. subst (λ x. IfSome (slice_get numbers place) (λ m. m ≡ x)) (c.measure-measured.ensures ∙ ap measured (sym (own_set c.self.inside.entries.entries place c.join.new.self e at))) c.set.ensures.set))
+    column_written measured c.self.inside.entries.entries c.args.column.now.measures.items c.set.new.measures.items place c.join.new.self c.measure-measured.result column c.set.ensures.others c.set.ensures.set c.measure-measured.ensures
+
+pub returns-clause-other : goal.returns-clause-other
+returns-clause-other g c =
+    let measured = g.N.Measure.measured c.args.column.now.other in
+    let place = c.args.place in
+    let column = subst (λ m. IsColumn measured m.entries c.args.column.now.others.items) (sym c.self.view_is) c.requires.other in
+    column_written measured c.self.inside.entries.entries c.args.column.now.others.items c.set-2.new.measures.items place c.join.new.self c.measure-beside.result column c.set-2.ensures.others c.set-2.ensures.set c.measure-beside.ensures

@@ -24,5 +24,7 @@ loop-key-preserved g c =
           ∙ c.loop-key.invariant.total q;
       keys = room_for_others eq _ _ _ _ k v _ _ items c.loop-key.invariant.keys one.kept one.room;
       column = one.column;
-      measure = one.measure ∙ c.loop-key.invariant.measure;
+      other = one.other;
+      measure = one.measures.0 ∙ c.loop-key.invariant.measure;
+      measured = one.measures.1 ∙ c.loop-key.invariant.measured;
     }

@@ -12,7 +12,9 @@ invariant-loop-key g l =
       total : (q : g.row.K.Denot) → g.L.Lattice.joined (at (get eq l.self q)) (left l.values.items q) ≡ g.L.Lattice.joined (at (get eq l.initial.self q)) (left l.initial.values.items q);
       keys : missing eq l.self.entries l.values.items ≤ l.self.spare;
       column : IsColumn (g.M.Measure.measured l.column.measure) l.self.entries l.column.measures.items;
+      other : IsColumn (g.N.Measure.measured l.column.other) l.self.entries l.column.others.items;
       measure : l.column.measure ≡ l.initial.column.measure;
+      measured : l.column.other ≡ l.initial.column.other;
     }
 
 abbrev pub decreases-loop-key : goal.decreases-loop-key

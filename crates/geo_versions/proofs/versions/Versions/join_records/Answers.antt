@@ -1,6 +1,6 @@
-use Rattle.std.proofs.Common.{rules, ◌≡◌, ◌≤◌, ◌∙◌, ap, sym, subst, List, ℕ}
+use Rattle.std.proofs.Common.{rules, ◌≡◌, ◌≤◌, ◌∙◌, ap, sym, subst, List, ℕ, IfSome}
 use Rattle.std.specs.List.{All}
-use Rattle.geo_lattice.specs.Maps.{get}
+use Rattle.geo_lattice.specs.Maps.{get, IsColumn}
 use Rattle.geo_records.specs.Keys.{same_key}
 use Rattle.geo_records.specs.Operations.{above_both, record_joined}
 use Rattle.geo_versions.specs.Records.{Rec, rec_means, record_at, listed_at, LastsTo, lasting_of}
@@ -25,8 +25,11 @@ pub invariant_of-self-else-ne : goal.invariant_of-self-else-ne
 invariant_of-self-else-ne c =
     let v = c.args.self.now in
     let same : c.later.result ≡ v.floor = search rules in
+    let cut = ap (λ o. o.floor) c.join_list_beside.ensures.measures.1 ∙ v.cut in
     record {
       column = c.join_list_beside.ensures.column;
+      lasting_column = subst (λ f. IsColumn (λ (r : Rec). lasting_of f (rec_means r)) c.join_list_beside.new.self.entries c.join_list_beside.new.column.others.items) cut c.join_list_beside.ensures.other;
+      cut = cut;
       lasts = λ q.
           subst (LastsTo c.least-lasting.result) (sym (c.join_list_beside.ensures.joined q))
           (lasts_joined c.least-lasting.result (record_at v.records q) _ (lasts_less v.lasting c.least-lasting.result (record_at v.records q) c.least-lasting.ensures.most (v.lasts q))
@@ -44,8 +47,14 @@ invariant_of-self c =
     (joined_at_rise c.later.result (record_at v.records q) (record_at c.join_list_beside.new.self q) (record_at c.change_all.new.self q) (listed_at c.args.records.items q) _
     (listed_above c.later.result c.args.records.items q) (c.join_list_beside.ensures.joined q)
     (c.change_all.ensures.changed q ∙ changed_above c.later.result (get same_key c.join_list_beside.new.self q))) in
+    let all = c.note_all-self.ensures in
+    let new = c.change_all.new.self in
+    let result = c.note_all-self.result in
+    let cut = ap (λ o. o.floor) all.measures.1 in
     record {
-      column = c.note_all-self.ensures.column;
-      lasts = λ q. lasts_found c.later.result c.note_all-self.result (get same_key c.change_all.new.self q) (c.note_all-self.ensures.least q) (normal q);
+      column = all.column;
+      lasting_column = subst (λ f. IsColumn (λ (r : Rec). lasting_of f (rec_means r)) new.entries c.note_all-self.new.self.others.items) cut all.other;
+      cut = cut;
+      lasts = λ q. lasts_found c.later.result result (get same_key new q) (subst (λ f. IfSome (get same_key new q) (λ (v : Rec). result ≤ lasting_of f (rec_means v))) cut (all.least q)) (normal q);
       above = normal;
     }

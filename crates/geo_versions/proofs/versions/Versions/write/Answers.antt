@@ -1,6 +1,7 @@
-use Rattle.std.proofs.Common.{◌≡◌, ◌≤◌, ◌∙◌, sym, ap, Some, arith}
+use Rattle.std.proofs.Common.{◌≡◌, ◌≤◌, ◌∙◌, sym, ap, subst, Some, arith}
+use Rattle.geo_lattice.specs.Maps.{IsColumn}
 use Rattle.geo_records.specs.Operations.{Record, above_both}
-use Rattle.geo_versions.specs.Records.{record_at, lasting_of}
+use Rattle.geo_versions.specs.Records.{Rec, rec_means, record_at, lasting_of}
 use Rattle.geo_versions.proofs.Cut.{one_joined_normal, none_joined_is, write_above, write_below}
 use Rattle.geo_versions.proofs.Lasting.{lasts_less, lasts_normal, lasts_put, lasts_same}
 use Rattle.geo_versions.proofs.versions.Versions.write.Goals as goal
@@ -17,8 +18,11 @@ invariant_of-self c =
     let old = record_at v.records in
     let new = record_at c.put_beside.new.self in
     let same = c.in_err-put_beside.ensures.err in
+    let cut = ap (λ o. o.floor) c.put_beside.ensures.measures.1 ∙ v.cut in
     record {
       column = c.put_beside.ensures.column;
+      lasting_column = subst (λ f. IsColumn (λ (r : Rec). lasting_of f (rec_means r)) c.put_beside.new.self.entries c.put_beside.new.column.others.items) cut c.put_beside.ensures.other;
+      cut = cut;
       lasts = lasts_same v.lasting old new v.lasts same;
       above = λ q. ap (above_both v.floor) (same q) ∙ v.above q ∙ sym (same q);
     }
@@ -36,8 +40,11 @@ invariant_of-self-2 c =
     let measured : c.measure-lasting.result ≡ lasting_of v.floor x = c.measure-lasting.ensures in
     let before : c.min-self.result ≤ v.lasting = omega (arith, least) in
     let own : c.min-self.result ≤ lasting_of v.floor x = omega (arith, least, measured) in
+    let cut = ap (λ o. o.floor) c.put_beside.ensures.measures.1 ∙ v.cut in
     record {
       column = c.put_beside.ensures.column;
+      lasting_column = subst (λ f. IsColumn (λ (r : Rec). lasting_of f (rec_means r)) c.put_beside.new.self.entries c.put_beside.new.column.others.items) cut c.put_beside.ensures.other;
+      cut = cut;
       lasts = lasts_put c.min-self.result old new c.args.key.now x (λ q. lasts_less v.lasting c.min-self.result (old q) before (v.lasts q))
           (lasts_less (lasting_of v.floor x) c.min-self.result x own (lasts_normal v.floor x above)) joined;
       above = one_joined_normal v.floor old new c.args.key.now x v.above above joined;

@@ -12,6 +12,8 @@ invariant_of-self c =
     let kept = λ (q : List ℕ). ap (λ (f : List ℕ → Record). f q) c.ready.ensures.kept in
     record {
       column = forgotten _ _ _ c.forget.ensures.none;
+      lasting_column = forgotten _ _ _ c.forget.ensures.none_other;
+      cut = ap (λ o. o.floor) c.forget.ensures.measures.1 ∙ v.cut;
       lasts = lasts_same v.lasting (record_at v.records) (record_at c.ready.new.self) v.lasts kept;
       above = λ q. ap (above_both v.floor) (kept q) ∙ v.above q ∙ sym (kept q);
     }

@@ -1,0 +1,271 @@
+//! In what order values came.
+ghost use Rattle.std.specs.Prelude.{◌≡◌, ◌≤◌, length};
+
+use crate::change::Test;
+use crate::lattice::Bottom;
+use crate::map_of::MapOf;
+use crate::twin::Twin;
+use std::alloc::Global;
+use std::hash::Hash;
+
+/// Of so many values that came one after another, one bound is kept below all their measures.
+const BLOCK: usize = 32;
+
+/// Stands in the order for a value that went.
+const GONE: usize = usize::MAX;
+
+/// In what order the values came, by their places, of as many from the first on as there was memory for. It is noted from the time on
+/// at which a value is moved first: until then they came in the order in which they stand, and so did those without a note. No contract
+/// speaks of it: it decides which of several values that would do is given.
+#[derive(Drop)]
+pub(crate) struct Coming {
+    /// The places of the values in the order in which they came.
+    order: Vec<usize>,
+    /// Where in that order the value at a place stands.
+    came: Vec<usize>,
+    /// Of each block of the order, a number that no measure in it is below, of as many from the first on as it is known of.
+    lowest: Vec<u64>,
+}
+
+/// The measure at a place, 0 where there is none.
+fn measure_at(measures: &[u64], place: usize) -> u64 {
+    measures.get(place).copied().unwrap_or(0)
+}
+
+impl Coming {
+    pub(crate) fn new(alloc: Global) -> Coming {
+        Coming {
+            order: Vec::new(alloc),
+            came: Vec::new(alloc),
+            lowest: Vec::new(alloc),
+        }
+    }
+
+    /// Notes the order of all values, which have these measures, and tells whether there was memory for it.
+    pub(crate) fn begin(&mut self, measures: &[u64]) -> bool {
+        if self.came.is_empty() {
+            let count = measures.len();
+            if self.order.reserve(count).is_err() || self.came.reserve(count).is_err() {
+                return false;
+            }
+            for place in 0..count {
+                self.append(place);
+            }
+            self.change_all(measures);
+        }
+        self.came.len() == measures.len()
+    }
+
+    /// The value at this place has come, where those before it are noted.
+    fn append(&mut self, place: usize) {
+        if place != self.came.len()
+            || self.order.reserve(1).is_err()
+            || self.came.reserve(1).is_err()
+        {
+            return;
+        }
+        let index = self.order.len();
+        let _ = self.order.push(place);
+        let _ = self.came.push(index);
+    }
+
+    /// The value at this place has come with this measure, where those before it are noted.
+    pub(crate) fn push(&mut self, place: usize, measured: u64) {
+        if self.came.is_empty() {
+            return;
+        }
+        let index = self.order.len();
+        self.append(place);
+        if let Some(lowest) = self.lowest.get_mut(index / BLOCK) {
+            *lowest = (*lowest).min(measured);
+        } else if index % BLOCK == 0 && self.lowest.len() == index / BLOCK {
+            let _ = self.lowest.push(measured);
+        }
+    }
+
+    /// The measure of the value at a place is another than before.
+    pub(crate) fn change(&mut self, place: usize, before: u64, measures: &[u64]) {
+        let Some(index) = self.came.get(place) else {
+            return;
+        };
+        let block = *index / BLOCK;
+        let Some(lowest) = self.lowest.get_mut(block) else {
+            return;
+        };
+        let measured = measure_at(measures, place);
+        if measured < *lowest {
+            *lowest = measured;
+        } else if before <= *lowest && before < measured {
+            self.take_lowest(block, measures);
+        }
+    }
+
+    /// The least measure of a block.
+    fn least_of(&self, block: usize, measures: &[u64]) -> u64 {
+        let mut least = u64::MAX;
+        let first = block.saturating_mul(BLOCK);
+        for index in first..first.saturating_add(BLOCK).min(self.order.len()) {
+            let place = self.place(index);
+            if place != GONE {
+                least = least.min(measure_at(measures, place));
+            }
+        }
+        least
+    }
+
+    /// Takes the number of a block anew.
+    fn take_lowest(&mut self, block: usize, measures: &[u64]) {
+        let least = self.least_of(block, measures);
+        if let Some(lowest) = self.lowest.get_mut(block) {
+            *lowest = least;
+        }
+    }
+
+    /// All measures may be others than before. The values without a note came last, as they stand.
+    pub(crate) fn change_all(&mut self, measures: &[u64]) {
+        if self.came.is_empty() {
+            return;
+        }
+        for place in self.came.len()..measures.len() {
+            self.append(place);
+        }
+        self.lowest.clear();
+        for block in 0..self.order.len().div_ceil(BLOCK) {
+            let least = self.least_of(block, measures);
+            if self.lowest.push(least).is_err() {
+                return;
+            }
+        }
+    }
+
+    /// No measures are known any more, but the order stays.
+    pub(crate) fn forget(&mut self) {
+        self.lowest.clear();
+    }
+
+    /// How far the order goes.
+    pub(crate) fn len(&self) -> usize
+        ensures { result ≡ length self.now.order.items }
+    {
+        self.order.len()
+    }
+
+    /// The place of what stands somewhere in the order, [`GONE`] where it went.
+    pub(crate) fn place(&self, index: usize) -> usize {
+        self.order.get(index).copied().unwrap_or(GONE)
+    }
+
+    /// Where in the order, from somewhere on, what has a measure below a bound stands next. Blocks with no such measure are not looked at.
+    pub(crate) fn next_below(&self, from: usize, bound: u64, measures: &[u64]) -> usize
+        ensures on { from ≤ result }
+    {
+        let mut index = from;
+        while index < self.order.len() {
+            if index % BLOCK == 0 && self.is_high(index / BLOCK, bound) {
+                index = index.saturating_add(BLOCK);
+            } else {
+                let place = self.place(index);
+                if place != GONE && measure_at(measures, place) < bound {
+                    return index;
+                }
+                index += 1;
+            }
+        }
+        index
+    }
+
+    /// Whether no measure of a block is below a bound.
+    fn is_high(&self, block: usize, bound: u64) -> bool {
+        match self.lowest.get(block) {
+            Some(lowest) => *lowest >= bound,
+            None => false,
+        }
+    }
+
+    /// The value at a place went, which had this measure, and the last took its place.
+    pub(crate) fn swap_out(&mut self, place: usize, went: u64, measures: &[u64]) {
+        if place >= self.came.len() {
+            return;
+        }
+        let index = self.came.swap_remove(place);
+        if let Some(moved) = self.came.get(place) {
+            if let Some(stands) = self.order.get_mut(*moved) {
+                *stands = place;
+            }
+        }
+        if let Some(stood) = self.order.get_mut(index) {
+            *stood = GONE;
+        }
+        let block = index / BLOCK;
+        if self.is_high(block, went) {
+            self.take_lowest(block, measures);
+        }
+        if self.order.len() / 2 > self.came.len().saturating_add(BLOCK) {
+            self.close_up();
+            self.change_all(measures);
+        }
+    }
+
+    /// Leaves no place in the order to what went, and forgets the measures.
+    pub(crate) fn close_up(&mut self) {
+        let mut kept = 0;
+        for index in 0..self.order.len() {
+            let place = self.place(index);
+            if let Some(came) = self.came.get_mut(place) {
+                *came = kept;
+                self.order[kept] = place;
+                kept += 1;
+            }
+        }
+        self.order.truncate(kept);
+        self.forget();
+    }
+
+    /// What came so many places behind the first is to stand so many places behind the first: gives the place where it stands, where
+    /// that is noted, else this one. What stood there changes places with it.
+    pub(crate) fn swap_in(&mut self, place: usize) -> usize {
+        let (Some(from), Some(stood)) = (self.order.get(place), self.came.get(place)) else {
+            return place;
+        };
+        let (from, stood) = (*from, *stood);
+        if let Some(stands) = self.order.get_mut(stood) {
+            *stands = from;
+        }
+        if let Some(came) = self.came.get_mut(from) {
+            *came = stood;
+        }
+        from
+    }
+
+    /// The values stand in the order in which they came.
+    pub(crate) fn end(&mut self) {
+        self.order.clear();
+        self.came.clear();
+        self.lowest.clear();
+    }
+
+    /// Leaves out the values that pass a test, where the others stay in the order in which they stand.
+    pub(crate) fn leave_out<K: Twin + Eq + Hash, L: Bottom, T: Test<L>>(
+        &mut self,
+        map: &MapOf<K, L>,
+        test: &T,
+    ) {
+        let mut kept = 0;
+        for place in 0..self.came.len() {
+            let Some((_, value)) = map.entries.get_index(place) else {
+                break;
+            };
+            let index = self.came[place];
+            let passes = test.passes(value);
+            if let Some(stands) = self.order.get_mut(index) {
+                *stands = if passes { GONE } else { kept };
+            }
+            if !passes {
+                self.came[kept] = index;
+                kept += 1;
+            }
+        }
+        self.came.truncate(kept);
+        self.close_up();
+    }
+}
