@@ -3,6 +3,6 @@ pub mod Spans
 pub mod Ranged
 pub mod Sorting
 pub mod News
-pub mod Referred
+pub mod Heads
 pub mod Recent
 pub mod Facts

@@ -11,6 +11,7 @@ ghost use Rattle.geo_versions.specs.Maps.{Rising, is_unknown, listed_at, rec_mea
 ghost use Rattle.geo_records.specs.Operations.{Record, Register};
 ghost use Rattle.geo_delta.specs.Changes.{Noted, Traced, KnowsBut, emptied, first_ring, has_change, known_after, noted, nothing_pending};
 
+use crate::headed::Headed;
 use crate::lookup::Lookup;
 use circular_buffer::HeapCircularBuffer;
 use geo_lattice::{Exact, Lattice, Lww, Pair};
@@ -149,14 +150,14 @@ impl Buffer {
     }
 
     /// The keys of the changes from this one on, by reference: a key may have changed often, and a copy of a long one takes memory.
-    fn keys_from<'a>(&'a self, alloc: Global, first: usize) -> Result<Vec<&'a Key>, AllocError>
+    fn keys_from<'a>(&'a self, alloc: Global, first: usize) -> Result<Vec<Headed<'a>>, AllocError>
         requires { first ≤ length self.now.changes }
-        ensures { IfOk result (λ keys. map (λ k. k.now) keys.items ≡ map (λ (c : Noted). c.0) (drop first self.now.changes)) }
+        ensures { IfOk result (λ keys. keys.items ≡ map (λ (c : Noted). c.0) (drop first self.now.changes)) }
     {
         let mut keys = Vec::with_capacity(alloc, self.ring.len() - first)?;
         for i in first..self.ring.len() {
             if let Some(change) = self.ring.get(i) {
-                keys.push(&change.0)?;
+                keys.push(Headed::new(&change.0))?;
             }
         }
         Ok(keys)
@@ -164,10 +165,9 @@ impl Buffer {
 }
 
 /// The keys by their order, each once.
-fn sorted(mut keys: Vec<&Key>) -> Vec<&Key>
-    ensures rising { IsStrictlySortedBy (slice_cmp nat_cmp) (map (λ k. k.now) result.items) }
-    ensures same { (q : List ℕ)
-        → list_any (same_key q) (map (λ k. k.now) result.items) ≡ list_any (same_key q) (map (λ k. k.now) keys.entry.items) }
+fn sorted(mut keys: Vec<Headed>) -> Vec<Headed>
+    ensures rising { IsStrictlySortedBy (slice_cmp nat_cmp) result.items }
+    ensures same { (q : List ℕ) → list_any (same_key q) result.items ≡ list_any (same_key q) keys.entry.items }
 {
     keys.sort_unstable();
     keys.dedup();
@@ -202,17 +202,18 @@ fn looked_up<T: Lookup>(
     alloc: Global,
     versions: &T,
     base: &Vector,
-    keys: Vec<&Key>,
+    keys: Vec<Headed>,
 ) -> Result<Vec<(Key, Rec)>, AllocError>
-    requires { IsStrictlySortedBy (slice_cmp nat_cmp) (map (λ k. k.now) keys.items) }
+    requires { IsStrictlySortedBy (slice_cmp nat_cmp) keys.items }
     ensures rising { IfOk result (λ all. Rising all.items) }
     ensures records { IfOk result (λ all. (q : List ℕ)
-        → listed_at all.items q ≡ cond {A = Record} (list_any (same_key q) (map (λ k. k.now) keys.entry.items))
-        (since base.now (T.record_of versions.now q)) (None, None)) }
+        → listed_at all.items q ≡ cond {A = Record} (list_any (same_key q) keys.entry.items) (since base.now (T.record_of versions.now q))
+        (None, None)) }
     ensures filled { IfOk result (λ all. All (λ e. rec_means e.1 ≡ (None, None) → ⊥) all.items) }
 {
     let mut all = Vec::new(alloc);
-    for key in keys {
+    for headed in keys {
+        let key = headed.key();
         if let Some(rec) = news_of(versions, base, key) {
             all.push((key.copied(alloc)?, rec))?;
         }

@@ -6,6 +6,7 @@
 
 mod buffer;
 mod cutting;
+mod headed;
 mod lookup;
 mod parcel;
 mod ranges;

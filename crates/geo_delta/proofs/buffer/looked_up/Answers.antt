@@ -1,46 +1,52 @@
-use Rattle.std.proofs.Common.{◌≡◌, None, sym, ap, length, ◌∙◌, subst, arith}
-use Rattle.std.specs.List.{All}
-use Rattle.geo_versions.specs.Maps.{rec_means}
-use Rattle.geo_delta.proofs.News.{found_is_news, news_filled}
-use Rattle.geo_delta.proofs.Referred.{referred, copy_more, no_copy_more, copies_rise, copies_at}
+use Rattle.std.proofs.Common.{◌≡◌, cond, None, [], ◌∷◌, ◌++◌, sym, ap, length, ◌∙◌, subst, arith}
+use Rattle.std.specs.List.{All, list_any}
+use Rattle.std.specs.List.Sorted.{IsStrictlySortedBy}
+use Rattle.std.specs.Cmp.Lexicographic.{slice_cmp}
+use Rattle.std.specs.Ordering.{nat_cmp}
+use Rattle.geo_records.specs.Keys.{same_key}
+use Rattle.geo_versions.specs.Maps.{Rising, rec_means, since, listed_at}
+use Rattle.geo_records.specs.Operations.{Record}
+use Rattle.geo_delta.proofs.News.{found_is_news, one_more, none_more, news_rise, news_at, news_filled}
 use Rattle.geo_lattice.proofs.Showing.{rest_more, rest_none}
 use Rattle.geo_delta.proofs.buffer.looked_up.Goals as goal
 
-pub loop-key-preserved-in_ok-push : goal.loop-key-preserved-in_ok-push
-loop-key-preserved-in_ok-push g c =
+pub loop-headed-preserved-in_ok-push : goal.loop-headed-preserved-in_ok-push
+loop-headed-preserved-in_ok-push g c =
     let base = c.args.base.now in
     let at = g.T.Lookup.record_of c.args.versions.now in
-    let key = c.in-Some.key in
+    let key = c.in-Some.headed in
     let steps = c.in-Some.ensures.steps.0 in
     record {
       all =
-          copy_more base at c.loop-key.yielded key c.in_ok-copied.field-0 c.in-Some-news_of.rec c.loop-key.all.items _ c.loop-key.invariant.all c.in_ok-copied.ensures.same c.in_ok-push.ensures.items
-          (found_is_news base (at key.now) _ c.in-Some-news_of.ensures.record c.in-Some-news_of.ensures.filled);
-      rest = rest_more c.loop-key.yielded _ _ _ key c.loop-key.invariant.rest steps;
-      left = let was = c.loop-key.invariant.left in let gone = c.in-Some.ensures.steps.1 in let short = ap length steps in omega arith;
+          one_more base at c.loop-headed.yielded key c.in-Some-news_of.rec c.loop-headed.all.items _ c.loop-headed.invariant.all
+          (c.in_ok-push.ensures.items ∙ ap (λ k. c.loop-headed.all.items ++ (k, c.in-Some-news_of.rec) ∷ []) (c.in_ok-copied.ensures.same ∙ c.key-key.ensures))
+          (found_is_news base (at key) _ (c.in-Some-news_of.ensures.record ∙ ap (λ k. since base (at k)) c.key-key.ensures) c.in-Some-news_of.ensures.filled);
+      rest = rest_more c.loop-headed.yielded _ _ _ key c.loop-headed.invariant.rest steps;
+      left = let was = c.loop-headed.invariant.left in let gone = c.in-Some.ensures.steps.1 in let short = ap length steps in omega arith;
     }
 
-pub loop-key-preserved : goal.loop-key-preserved
-loop-key-preserved g c =
+pub loop-headed-preserved : goal.loop-headed-preserved
+loop-headed-preserved g c =
     let base = c.args.base.now in
     let at = g.T.Lookup.record_of c.args.versions.now in
-    let key = c.in-Some.key in
+    let key = c.in-Some.headed in
     let steps = c.in-Some.ensures.steps.0 in
     record {
-      all = no_copy_more base at c.loop-key.yielded key c.loop-key.all.items c.loop-key.invariant.all (found_is_news base (at key.now) None c.in_default.ensures.record tt);
-      rest = rest_more c.loop-key.yielded _ _ _ key c.loop-key.invariant.rest steps;
-      left = let was = c.loop-key.invariant.left in let gone = c.in-Some.ensures.steps.1 in let short = ap length steps in omega arith;
+      all = none_more base at c.loop-headed.yielded key c.loop-headed.all.items c.loop-headed.invariant.all (found_is_news base (at key) None (c.in_default.ensures.record ∙ ap (λ k. since base (at k)) c.key-key.ensures) tt);
+      rest = rest_more c.loop-headed.yielded _ _ _ key c.loop-headed.invariant.rest steps;
+      left = let was = c.loop-headed.invariant.left in let gone = c.in-Some.ensures.steps.1 in let short = ap length steps in omega arith;
     }
 
 pub returns-clause-rising : goal.returns-clause-rising
 returns-clause-rising g c =
-    let none : c.loop-key.yielded ≡ c.args.keys.items = rest_none _ _ _ c.loop-key.invariant.rest (sym c.loop-key.invariant.left ∙ c.in-None.ensures.steps.0) ∙ c.into_iter-key-iterator.ensures.into_iter_gives.0 in
-    copies_rise c.args.base.now (g.T.Lookup.record_of c.args.versions.now) c.loop-key.yielded c.args.keys.items c.loop-key.all.items c.loop-key.invariant.all none c.requires
+    let none : c.loop-headed.yielded ≡ c.args.keys.items = rest_none _ _ _ c.loop-headed.invariant.rest (sym c.loop-headed.invariant.left ∙ c.in-None.ensures.steps.0) ∙ c.into_iter-headed-iterator.ensures.into_iter_gives.0 in
+    subst Rising (sym c.loop-headed.invariant.all) (news_rise c.args.base.now (g.T.Lookup.record_of c.args.versions.now) c.loop-headed.yielded (subst (IsStrictlySortedBy (slice_cmp nat_cmp)) (sym none) c.requires))
 
 pub returns-clause-records : goal.returns-clause-records
 returns-clause-records g c = λ q.
-    let none : c.loop-key.yielded ≡ c.args.keys.items = rest_none _ _ _ c.loop-key.invariant.rest (sym c.loop-key.invariant.left ∙ c.in-None.ensures.steps.0) ∙ c.into_iter-key-iterator.ensures.into_iter_gives.0 in
-    copies_at c.args.base.now (g.T.Lookup.record_of c.args.versions.now) c.loop-key.yielded c.args.keys.items c.loop-key.all.items q c.loop-key.invariant.all none
+    let none : c.loop-headed.yielded ≡ c.args.keys.items = rest_none _ _ _ c.loop-headed.invariant.rest (sym c.loop-headed.invariant.left ∙ c.in-None.ensures.steps.0) ∙ c.into_iter-headed-iterator.ensures.into_iter_gives.0 in
+    ap (λ es. listed_at es q) c.loop-headed.invariant.all ∙ news_at c.args.base.now (g.T.Lookup.record_of c.args.versions.now) c.loop-headed.yielded q
+    ∙ ap (λ ks. cond {A = Record} (list_any (same_key q) ks) (since c.args.base.now (g.T.Lookup.record_of c.args.versions.now q)) (None, None)) none
 
 pub returns-clause-filled : goal.returns-clause-filled
-returns-clause-filled g c = subst (All (λ e. rec_means e.1 ≡ (None, None) → ⊥)) (sym c.loop-key.invariant.all) (news_filled c.args.base.now (g.T.Lookup.record_of c.args.versions.now) (referred c.loop-key.yielded))
+returns-clause-filled g c = subst (All (λ e. rec_means e.1 ≡ (None, None) → ⊥)) (sym c.loop-headed.invariant.all) (news_filled c.args.base.now (g.T.Lookup.record_of c.args.versions.now) c.loop-headed.yielded)

@@ -1,7 +1,6 @@
 use Rattle.std.proofs.Common.{◌≡◌, map, take, drop}
-use Rattle.geo_delta.proofs.Referred.{referred}
 use Rattle.geo_delta.proofs.Spans.{key_of}
 use Rattle.geo_delta.proofs.buffer.Buffer.keys_from.Given as goal
 
 abbrev pub invariant-loop-i : goal.invariant-loop-i
-invariant-loop-i l = referred l.keys.items ≡ map key_of (drop l.first (take l.i l.self-inside.ring.items))
+invariant-loop-i l = l.keys.items ≡ map key_of (drop l.first (take l.i l.self-inside.ring.items))
