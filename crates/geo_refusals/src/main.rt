@@ -8,12 +8,14 @@ mod course;
 mod devices;
 mod frames;
 mod lines;
+mod order;
 mod rows;
 mod scene;
 mod shown;
 
 use crate::course::Course;
 use crate::lines::{Line, Sites};
+use crate::order::Order;
 use crate::scene::{Scene, Stop};
 use std::alloc::Global;
 use std::io::{self, Input};
@@ -49,6 +51,18 @@ fn at_sites<R: Print + Wait + Clock + RandomSource>(
     }
 }
 
+/// Makes calls at versions that know nothing.
+fn at_versions<R: Print + Wait + Clock + RandomSource>(
+    rt: &R,
+    alloc: Global,
+    course: &mut Course,
+) -> io::Result<Result<(), Stop>> {
+    match Order::new(rt, alloc) {
+        Ok(mut scene) => carry_out(rt, alloc, &mut scene, course),
+        Err(stop) => Ok(Err(stop)),
+    }
+}
+
 /// Makes the calls of the scene of a name.
 fn run<R: Print + Wait + Clock + RandomSource>(
     rt: &R,
@@ -66,6 +80,7 @@ fn run<R: Print + Wait + Clock + RandomSource>(
         "touches" => at_sites(rt, alloc, 1, rows::TOUCHES, course),
         "deltas" => at_sites(rt, alloc, 2, rows::DELTAS, course),
         "commands" => at_sites(rt, alloc, 1, rows::COMMANDS, course),
+        "order" => at_versions(rt, alloc, course),
         _ => Ok(Err(Stop::Wrong("no such scene"))),
     }
 }

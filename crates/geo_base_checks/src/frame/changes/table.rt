@@ -57,6 +57,23 @@ pub const ROWS: &[(&[Op], &[u8])] = &[
     ),
     // A key that takes memory of its own is noted too.
     (&[Op::Delete(10_000, 1, 1), Op::Recent(0, 0)], b"1 reach 0"),
+    // Keys that begin alike are told by all their bytes, and a key stands before those that go on from it.
+    (
+        &[
+            Op::Delete(10_010, 1, 1),
+            Op::Delete(10_001, 1, 2),
+            Op::Delete(100, 1, 3),
+            Op::Delete(10_010, 1, 4),
+            Op::Delete(1, 1, 5),
+            Op::Delete(10, 1, 6),
+            Op::Delete(10_001, 1, 7),
+            Op::Delete(1_000, 1, 8),
+            Op::Delete(0, 1, 9),
+            Op::Recent(0, 0),
+            Op::Recent(3, 0),
+        ],
+        b"7 6 reach 0",
+    ),
     // Lost changes are known.
     (
         &[
