@@ -1,7 +1,7 @@
 //! Versions of which some are removed, so that others change places: what ended first is told whatever memory was refused meanwhile.
 use crate::lines::key;
 use crate::scene::{Scene, Stop};
-use crate::shown::{push_key, push_number};
+use crate::shown::{push_body_register, push_expiry_register, push_floor, push_key, push_number};
 use geo_stamp::Stamp;
 use geo_versions::{Body, Digest, Key, Length, Versions};
 use std::alloc::{AllocError, Global};
@@ -28,7 +28,7 @@ enum Call {
 /// So many keys are written before the other calls.
 const FIRST: usize = 40;
 
-/// What is called then. Two or three deletes at a time leave the others their places in the table.
+/// What is called then. So few are deleted at a time that a removal drops them one by one, and the last record takes the place of each.
 const CALLS: &[Call] = &[
     Call::Ended(1020),
     Call::Delete(3, 200),
@@ -87,7 +87,7 @@ fn body() -> Body {
 /// The call at a place.
 fn call_at(place: usize) -> Option<Call> {
     match place.checked_sub(FIRST) {
-        // Ends rise and fall, so that few stand together.
+        // Ends rise and fall, so that few low ones stand together.
         None => {
             let turn = (place as u64).wrapping_mul(23) % 60;
             Some(Call::Write(
@@ -200,11 +200,12 @@ impl Scene for Order {
 
     fn show(&self, _alloc: Global, out: &mut Vec<u8>) -> Result<(), AllocError> {
         push_number(out, self.versions.len() as u64)?;
+        push_floor(out, &self.versions.floor())?;
         for key in &self.keys {
-            if let Some(version) = self.versions.version_of(key) {
+            if let Some(rec) = self.versions.record(key) {
                 push_key(out, key)?;
-                push_number(out, version.stamp.cas())?;
-                push_number(out, version.expiry)?;
+                push_body_register(out, &rec.left)?;
+                push_expiry_register(out, &rec.right)?;
             }
         }
         Ok(())

@@ -22,7 +22,7 @@ fn push_stamp(out: &mut Vec<u8>, stamp: &Stamp) -> Result<(), AllocError> {
     push_number(out, stamp.cas())
 }
 
-fn push_floor(out: &mut Vec<u8>, floor: &Option<Stamp>) -> Result<(), AllocError> {
+pub fn push_floor(out: &mut Vec<u8>, floor: &Option<Stamp>) -> Result<(), AllocError> {
     match floor {
         Some(stamp) => push_stamp(out, stamp),
         None => push_number(out, 0),
@@ -64,7 +64,10 @@ fn push_body(out: &mut Vec<u8>, body: &Body) -> Result<(), AllocError> {
     }
 }
 
-fn push_body_register(out: &mut Vec<u8>, register: &Lww<Stamp, Body>) -> Result<(), AllocError> {
+pub fn push_body_register(
+    out: &mut Vec<u8>,
+    register: &Lww<Stamp, Body>,
+) -> Result<(), AllocError> {
     match register.get() {
         None => push_number(out, 0),
         Some((stamp, body)) => {
@@ -74,7 +77,10 @@ fn push_body_register(out: &mut Vec<u8>, register: &Lww<Stamp, Body>) -> Result<
     }
 }
 
-fn push_expiry_register(out: &mut Vec<u8>, register: &Lww<Stamp, u64>) -> Result<(), AllocError> {
+pub fn push_expiry_register(
+    out: &mut Vec<u8>,
+    register: &Lww<Stamp, u64>,
+) -> Result<(), AllocError> {
     match register.get() {
         None => push_number(out, 0),
         Some((stamp, expiry)) => {
