@@ -246,28 +246,42 @@ fn some_stamp(random: &mut Random, time: u64) -> Result<Stamp, Fail> {
     Ok(Stamp::new(random.behind(time, 10), site).ok_or("no stamp")?)
 }
 
+/// Whether few writes end at a time: then most that came together have no end below a moment.
+fn is_calm(time: u64) -> bool {
+    time / 600 == 1
+}
+
+/// When a write ends, 0 where it doesn't.
+fn some_end(random: &mut Random, time: u64, calm: bool) -> u64 {
+    if random.one_in(3) || (calm && !random.one_in(30)) {
+        return 0;
+    }
+    random.behind(time, 60)
+}
+
 /// A write that may end, or a delete.
-fn some_write(random: &mut Random, time: u64) -> (Body, u64) {
+fn some_write(random: &mut Random, time: u64, calm: bool) -> (Body, u64) {
     if random.one_in(3) {
         return (body(None), 0);
     }
-    let expiry = if random.one_in(3) {
-        0
-    } else {
-        random.behind(time, 60)
-    };
-    (body(Some(("v", 0, 1))), expiry)
+    (body(Some(("v", 0, 1))), some_end(random, time, calm))
 }
 
 /// What a client does.
-fn write_some(alloc: Global, random: &mut Random, both: &mut Both, time: u64) -> Result<(), Fail> {
+fn write_some(
+    alloc: Global,
+    random: &mut Random,
+    both: &mut Both,
+    time: u64,
+    calm: bool,
+) -> Result<(), Fail> {
     for _write in 0..random.below(20) {
         let key = some_key(alloc, random)?;
         let stamp = some_stamp(random, time)?;
         if random.one_in(4) {
-            both.touch(&key, stamp, random.behind(time, 60));
+            both.touch(&key, stamp, some_end(random, time, calm));
         } else {
-            let (body, expiry) = some_write(random, time);
+            let (body, expiry) = some_write(random, time, calm);
             both.write(alloc, &key, stamp, &body, expiry)?;
         }
     }
@@ -281,7 +295,7 @@ fn take_some(alloc: Global, random: &mut Random, both: &mut Both, time: u64) -> 
     for _record in 0..random.below(30) {
         let key = some_key(alloc, random)?;
         let stamp = some_stamp(random, time)?;
-        let (body, expiry) = some_write(random, time);
+        let (body, expiry) = some_write(random, time, is_calm(time));
         let left = Lww::of(stamp, body);
         let right = Lww::of(stamp, expiry);
         let record = Pair { left, right };
@@ -309,12 +323,12 @@ fn step(
         0 => both.flush(some_stamp(random, time.saturating_sub(50))?),
         1 => {
             let mut other = Both::new(alloc, hasher);
-            write_some(alloc, random, &mut other, time)?;
+            write_some(alloc, random, &mut other, time, false)?;
             both.join(alloc, other)?;
         }
         2..8 => take_some(alloc, random, both, time)?,
         8..16 => return Ok(both.remove(time.saturating_sub(random.below(60)))),
-        _ => write_some(alloc, random, both, time)?,
+        _ => write_some(alloc, random, both, time, is_calm(time))?,
     }
     Ok(true)
 }
@@ -340,9 +354,8 @@ fn what_ended_is_told_in_the_order_of_a_walk(rt: HostRuntime) -> Result<(), Fail
                 both = joined_anew(rt.alloc(), hasher, both)?;
             }
             for site in 1..4 {
-                assert!(&rt;
-                    both.ended_are_the_same(site, random.behind(time.saturating_sub(40), 90))
-                );
+                let before = random.behind(time.saturating_sub(40), 90);
+                assert!(&rt; both.ended_are_the_same(site, before));
             }
         }
     }
