@@ -4,6 +4,7 @@ pub mod Missing
 pub mod Listed
 pub mod Changed
 pub mod Listing
+pub mod Told
 pub mod Showing
 pub mod Columns
 pub mod Dropped

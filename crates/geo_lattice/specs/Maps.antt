@@ -1,6 +1,6 @@
 -- Maps as functions: what stands at a key, or the least where there is nothing.
 use Rattle.std.specs.Prelude.{◌≡◌, Bool, true, List, refl, [], ◌∷◌, if◌then◌else◌, not, is_some, count_by}
-use Rattle.std.specs.Prelude.{Option, None, Some, ℕ, ◌<◌, ◌≤◌, slice_get, IsSomeAnd}
+use Rattle.std.specs.Prelude.{Option, None, Some, ℕ, ◌+◌, ◌/◌, ◌<◌, ◌≤◌, nat_le, slice_get, IsSomeAnd}
 use Rattle.std.specs.Map.{lookup}
 use Rattle.std.specs.Coded.{Coded, code_by, coded×, coded_ℕ, coded_list}
 
@@ -76,3 +76,22 @@ IsColumn {K} {V} measured es column =
 pub record SwappedOut {A : Type 0} (xs ys : List A) (i last : ℕ) : Type 0 where
   pub moved : (x : A) → slice_get ys i ≡ Some x → slice_get xs last ≡ Some x
   pub others : (j : ℕ) (x : A) → (j ≡ i → ⊥) → slice_get ys j ≡ Some x → slice_get xs j ≡ Some x
+
+-- each of so many places stands where an order says that it came
+abbrev pub HasAll : List ℕ → List ℕ → ℕ → Type 0
+HasAll order came n = (p : ℕ) → p < n → IsSomeAnd (slice_get came p) (λ i. slice_get order i ≡ Some p)
+
+-- what is counted is no less than before, and no less than what is seen
+abbrev pub Counts : ℕ → ℕ → ℕ → Type 0
+Counts before now seen = (before ≤ now) × (seen ≤ now)
+
+-- how many numbers of a column are no greater than a bound
+abbrev pub low_count : ℕ → List ℕ → ℕ
+low_count most column = count_by (λ m. nat_le m most) column
+
+-- of a table's places so many may be lost: as many are left as it ever held values, and all but a sixteenth of those that it has and of
+-- the most that it ever had
+pub record MayLose (lost places most_values most_places : ℕ) : Type 0 where
+  pub values : most_values + lost ≤ places
+  pub few : lost ≤ places / 16
+  pub places_kept : most_places + lost ≤ places + most_places / 16

@@ -1,6 +1,6 @@
 //! A column of measures beside a map, by which the values with a low measure are found without a look at the others.
-ghost use Rattle.std.specs.Prelude.{[], ◌≡◌, ◌+◌, ◌≤◌, ◌<◌, ℕ, IfSome, IsOk, IsSome, OnOk, OnErr, MatchOption, Some, false, true, cond, is_some, nat_lt, ◌&&◌, slice_get, IsSomeAnd};
-ghost use Rattle.geo_lattice.specs.Maps.{get, meaning_at, all_joined, HasRoomForList, StandsAt, OthersStand, IsColumn};
+ghost use Rattle.std.specs.Prelude.{[], ◌≡◌, ◌+◌, ◌≤◌, ◌<◌, ℕ, IfSome, IsOk, IsSome, OnOk, OnErr, MatchOption, Some, false, true, cond, is_some, nat_lt, ◌&&◌, slice_get, IsSomeAnd, length};
+ghost use Rattle.geo_lattice.specs.Maps.{get, meaning_at, all_joined, HasRoomForList, StandsAt, OthersStand, IsColumn, Counts};
 
 use crate::change::{Change, Measure, Test};
 use crate::coming::Coming;
@@ -9,9 +9,6 @@ use crate::map_of::MapOf;
 use crate::twin::Twin;
 use std::alloc::{AllocError, Global};
 use std::hash::Hash;
-
-/// So many values with a low measure are asked in the order in which they came before it is known that one is sought.
-const FEW: usize = 32;
 
 /// Two measures of a map's values, by their places, of as many from the first on as there was memory for, and the order in which the
 /// values came. To want memory for them fails no call: values without a measure here are looked at one by one. Whoever drops values in
@@ -115,6 +112,8 @@ impl<K: Twin + Eq + Hash, L: Bottom + Flat> MapOf<K, L> {
         ensures column { IsColumn (M.measured column.new.measure) self.new.entries column.new.measures.items }
         ensures other { IsColumn (N.measured column.new.other) self.new.entries column.new.others.items }
         ensures measures { (column.new.measure ≡ column.old.measure) × (column.new.other ≡ column.old.other) }
+        ensures counted { Counts column.old.held column.new.held (length self.new.entries) }
+        ensures counted_places { Counts column.old.room column.new.room (length self.new.entries + self.new.spare) }
     {
         let place = self.entries.len();
         let measured = column.measure.measure(&value);
@@ -266,6 +265,7 @@ impl<M, N> Column<M, N> {
         ensures none { self.new.measures.items ≡ [] }
         ensures none_other { self.new.others.items ≡ [] }
         ensures measures { (self.new.measure ≡ self.old.measure) × (self.new.other ≡ self.old.other) }
+        ensures counted { (self.new.held ≡ self.old.held) × (self.new.room ≡ self.old.room) }
     {
         self.measures.clear();
         self.others.clear();
@@ -282,10 +282,11 @@ impl<M, N> Column<M, N> {
         ensures other { IsColumn (N.measured self.new.other) map.now.entries self.new.others.items }
         ensures least { (q : K) → IfSome (get K.eq map.now q) (λ v. result ≤ N.measured self.new.other v) }
         ensures measures { (self.new.measure ≡ self.old.measure) × (self.new.other ≡ other) }
+        ensures counted { Counts self.old.held self.new.held (length map.now.entries) }
+        ensures counted_places { Counts self.old.room self.new.room (length map.now.entries + map.now.spare) }
     {
         self.forget();
         self.other = other;
-        self.count(map);
         let mut least = u64::MAX;
         for place in 0..map.entries.len() {
             if let Some((_, value)) = map.entries.get_index(place) {
@@ -297,6 +298,7 @@ impl<M, N> Column<M, N> {
             }
         }
         self.coming.change_all(self.measures.as_slice());
+        self.count(map);
         least
     }
 
@@ -305,18 +307,20 @@ impl<M, N> Column<M, N> {
         ensures column { self.new.measures.items ≡ self.old.measures.items }
         ensures other { self.new.others.items ≡ self.old.others.items }
         ensures measures { (self.new.measure ≡ self.old.measure) × (self.new.other ≡ self.old.other) }
+        ensures counted { Counts self.old.held self.new.held (length map.now.entries) }
+        ensures counted_places { Counts self.old.room self.new.room (length map.now.entries + map.now.spare) }
     {
         self.room = self.room.max(map.entries.capacity());
         self.held = self.held.max(map.entries.len());
     }
 
-    /// Whether a value has a measure below a bound, and passes a test.
+    /// Whether a value has a measure below a bound, and passes a test, which is asked first.
     fn is_sought<L, T: Test<L>>(&self, value: &L, bound: u64, test: &T) -> bool
     where
         M: Measure<L>,
         ensures { result ≡ nat_lt (M.measured self.now.measure value.now) bound && T.passing test.now value.now }
     {
-        self.measure.measure(value) < bound && test.passes(value)
+        test.passes(value) && self.measure.measure(value) < bound
     }
 
     /// The first place from one on that has a measure below a bound, or none at all.
@@ -342,35 +346,32 @@ impl<M, N> Column<M, N> {
 }
 
 impl<K: Twin + Eq + Hash, L: Bottom> MapOf<K, L> {
-    /// The key of the value that came first of those sought, as far as it is noted in what order they came, and where it is among the
-    /// first so many that have a low measure.
+    /// The key of the value that came first of those sought, as far as it is noted in what order they came.
     fn first_come<T: Test<L>, M: Measure<L>, N>(
         &self,
         column: &Column<M, N>,
         bound: u64,
         test: &T,
-        most: usize,
     ) -> Option<&K>
         ensures { IfSome result (λ key. meaning_at false
             (λ v. nat_lt (M.measured column.now.measure v) bound && T.passing test.now v) K.eq self.now key.now ≡ true) }
     {
         let measures = column.measures.as_slice();
-        let mut index = column.coming.next_below(0, bound, measures);
-        let mut left = most;
-        while index < column.coming.len() && left > 0 {
+        let mut index = column.coming.first_below(bound, measures);
+        while index < column.coming.len() {
             if let Some((key, value)) = self.entries.get_index(column.coming.place(index)) {
                 if column.is_sought(value, bound, test) {
                     return Some(key);
                 }
             }
             index = column.coming.next_below(index + 1, bound, measures);
-            left -= 1;
         }
         None
     }
 
     /// The key of the value that came first of those with a measure below a bound that pass a test, None exactly where there is no such
-    /// value. It looks at the column, and at the values that have no measure there or a low one. It takes no memory.
+    /// value. It looks at the column, and at the values up to that one that have no measure there or a low one; where there is none, and it
+    /// is noted in what order they came, twice. It takes no memory.
     pub fn found_below<T: Test<L>, M: Measure<L>, N>(
         &self,
         column: &Column<M, N>,
@@ -384,10 +385,11 @@ impl<K: Twin + Eq + Hash, L: Bottom> MapOf<K, L> {
             (λ key. meaning_at false (λ v. nat_lt (M.measured column.now.measure v) bound && T.passing test.now v) K.eq self.now key.now
             ≡ true) }
     {
-        if let Some(key) = self.first_come(column, bound, test, FEW) {
+        if let Some(key) = self.first_come(column, bound, test) {
             return Some(key);
         }
-        // Whether there is one is told by the places: what the order tells no proof goes by.
+        // That there is none is told by the places: what the order tells no proof goes by. What has no note there came after all that has
+        // one, in the order in which it stands.
         let mut place = 0;
         while place < self.entries.len() {
             place = column.next_below(place, bound);
@@ -395,11 +397,7 @@ impl<K: Twin + Eq + Hash, L: Bottom> MapOf<K, L> {
                 return None;
             };
             if column.is_sought(value, bound, test) {
-                // What has no note came after all that has one, in the order in which it stands.
-                return match self.first_come(column, bound, test, usize::MAX) {
-                    Some(first) => Some(first),
-                    None => Some(key),
-                };
+                return Some(key);
             }
             place += 1;
         }

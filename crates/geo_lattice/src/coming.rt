@@ -1,5 +1,6 @@
 //! In what order values came.
-ghost use Rattle.std.specs.Prelude.{◌≡◌, ◌≤◌, length};
+ghost use Rattle.std.specs.Prelude.{◌≡◌, ◌≤◌, ℕ, Some, MatchOption, true, length, slice_get};
+ghost use Rattle.geo_lattice.specs.Maps.{HasAll};
 
 use crate::change::Test;
 use crate::lattice::Bottom;
@@ -15,14 +16,17 @@ const BLOCK: usize = 32;
 const GONE: usize = usize::MAX;
 
 /// In what order the values came, by their places, of as many from the first on as there was memory for. It is noted from the time on
-/// at which a value is moved first: until then they came in the order in which they stand, and so did those without a note. No contract
-/// speaks of it: it decides which of several values that would do is given.
+/// at which a value is moved first: until then they came in the order in which they stand, and so did those without a note. It decides
+/// which of several values that would do is given, of which no contract speaks; a list of all goes by it only where it is seen to have
+/// each of them.
 #[derive(Drop)]
 pub(crate) struct Coming {
     /// The places of the values in the order in which they came.
     order: Vec<usize>,
     /// Where in that order the value at a place stands.
     came: Vec<usize>,
+    /// So many from the first on went.
+    gone: usize,
     /// Of each block of the order, a number that no measure in it is below, of as many from the first on as it is known of.
     lowest: Vec<u64>,
 }
@@ -37,6 +41,7 @@ impl Coming {
         Coming {
             order: Vec::new(alloc),
             came: Vec::new(alloc),
+            gone: 0,
             lowest: Vec::new(alloc),
         }
     }
@@ -155,6 +160,35 @@ impl Coming {
         self.order.get(index).copied().unwrap_or(GONE)
     }
 
+    /// Whether each of so many values stands where the order says that it came.
+    pub(crate) fn has_all(&self, count: usize) -> bool
+        ensures { result ≡ true → HasAll self.now.order.items self.now.came.items count }
+    {
+        for place in 0..count {
+            let Some(index) = self.came.get(place) else {
+                return false;
+            };
+            let Some(stands) = self.standing(*index) else {
+                return false;
+            };
+            if stands != place {
+                return false;
+            }
+        }
+        true
+    }
+
+    /// The place of the value that came somewhere in the order, if it is there still.
+    pub(crate) fn standing(&self, index: usize) -> Option<usize>
+        ensures { MatchOption result
+            ((p : ℕ) → slice_get self.now.order.items index ≡ Some p → slice_get self.now.came.items p ≡ Some index → ⊥)
+            (λ p. (slice_get self.now.order.items index ≡ Some p) × (slice_get self.now.came.items p ≡ Some index)) }
+    {
+        let place = *self.order.get(index)?;
+        let came = *self.came.get(place)?;
+        if came == index { Some(place) } else { None }
+    }
+
     /// Where in the order, from somewhere on, what has a measure below a bound stands next. Blocks with no such measure are not looked at.
     pub(crate) fn next_below(&self, from: usize, bound: u64, measures: &[u64]) -> usize
         ensures on { from ≤ result }
@@ -182,6 +216,22 @@ impl Coming {
         }
     }
 
+    /// Counts those that went before all that are there. One goes but once.
+    fn pass_gone(&mut self) {
+        for index in self.gone..self.order.len() {
+            if self.place(index) != GONE {
+                return;
+            }
+            self.gone = index + 1;
+        }
+    }
+
+    /// Where in the order, from the first that is there on, what has a measure below a bound stands first.
+    pub(crate) fn first_below(&self, bound: u64, measures: &[u64]) -> usize {
+        // From a block's first on, so that its bound is asked.
+        self.next_below(self.gone / BLOCK * BLOCK, bound, measures)
+    }
+
     /// The value at a place went, which had this measure, and the last took its place.
     pub(crate) fn swap_out(&mut self, place: usize, went: u64, measures: &[u64]) {
         if place >= self.came.len() {
@@ -196,8 +246,10 @@ impl Coming {
         if let Some(stood) = self.order.get_mut(index) {
             *stood = GONE;
         }
+        self.pass_gone();
         let block = index / BLOCK;
-        if self.is_high(block, went) {
+        // Where what went had the greatest measure of all, no number is too low without it.
+        if went < u64::MAX && self.is_high(block, went) {
             self.take_lowest(block, measures);
         }
         if self.order.len() / 2 > self.came.len().saturating_add(BLOCK) {
@@ -218,6 +270,7 @@ impl Coming {
             }
         }
         self.order.truncate(kept);
+        self.gone = 0;
         self.forget();
     }
 
@@ -241,22 +294,23 @@ impl Coming {
     pub(crate) fn end(&mut self) {
         self.order.clear();
         self.came.clear();
+        self.gone = 0;
         self.lowest.clear();
     }
 
     /// Leaves out the values that pass a test, where the others stay in the order in which they stand.
+    /// Those with a measure above a bound are known not to pass.
     pub(crate) fn leave_out<K: Twin + Eq + Hash, L: Bottom, T: Test<L>>(
         &mut self,
         map: &MapOf<K, L>,
+        measures: &[u64],
+        most: u64,
         test: &T,
     ) {
         let mut kept = 0;
         for place in 0..self.came.len() {
-            let Some((_, value)) = map.entries.get_index(place) else {
-                break;
-            };
             let index = self.came[place];
-            let passes = test.passes(value);
+            let passes = measure_at(measures, place) <= most && map.passes_at(place, test);
             if let Some(stands) = self.order.get_mut(index) {
                 *stands = if passes { GONE } else { kept };
             }

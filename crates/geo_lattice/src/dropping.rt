@@ -1,7 +1,7 @@
 //! What drops values from a map with a column beside it, each by the last value in its place.
 ghost use Rattle.std.specs.Prelude.{[], ◌≡◌, ◌+◌, ◌-◌, ◌≤◌, ◌<◌, ℕ, List, IfSome, IsSomeAnd, None, true, cond, length, slice_get};
 ghost use Rattle.std.specs.Map.{lookup};
-ghost use Rattle.geo_lattice.specs.Maps.{get, meaning_at, missing, IsColumn, SwappedOut};
+ghost use Rattle.geo_lattice.specs.Maps.{get, meaning_at, missing, low_count, IsColumn, SwappedOut, MayLose};
 
 use crate::change::{Measure, Test};
 use crate::column::Column;
@@ -63,32 +63,49 @@ impl<M, N> Column<M, N> {
         ensures column { self.new.measures.items ≡ self.old.measures.items }
         ensures other { self.new.others.items ≡ self.old.others.items }
         ensures measures { (self.new.measure ≡ self.old.measure) × (self.new.other ≡ self.old.other) }
+        ensures kept { result ≡ true → MayLose (low_count most self.old.others.items) (length map.now.entries + map.now.spare)
+            self.old.held self.old.room }
     {
         let count = map.entries.len();
         if self.measures.len() != count || self.others.len() != count {
             return false;
         }
         let low = self.others.iter().filter(|other| **other <= most).count();
-        let wanted = self.held.max(self.room - self.room / 16);
-        map.entries.capacity().saturating_sub(low) >= wanted
+        let places = map.entries.capacity();
+        // A call that made room and brought nothing counted no places.
+        let room = self.room.max(places);
+        let wanted = self.held.max(room - room / 16);
+        low <= places
+            && wanted <= places - low
             && (low == 0 || self.coming.begin(self.measures.as_slice()))
     }
 
     /// Leaves out of the order in which values came those that pass a test, before a pass drops them that keeps the others as they stand.
+    /// Of those with a second measure above a bound it is known that they don't pass: they are not looked at.
     pub fn leave_out<K: Twin + Eq + Hash, L: Bottom, T: Test<L>>(
         &mut self,
         map: &MapOf<K, L>,
+        most: u64,
         test: &T,
     )
         ensures column { self.new.measures.items ≡ self.old.measures.items }
         ensures other { self.new.others.items ≡ self.old.others.items }
         ensures measures { (self.new.measure ≡ self.old.measure) × (self.new.other ≡ self.old.other) }
     {
-        self.coming.leave_out(map, test);
+        self.coming
+            .leave_out(map, self.others.as_slice(), most, test);
     }
 }
 
 impl<K: Twin + Eq + Hash, L: Bottom> MapOf<K, L> {
+    /// Whether a value stands at a place that passes a test.
+    pub(crate) fn passes_at<T: Test<L>>(&self, place: usize, test: &T) -> bool {
+        match self.entries.get_index(place) {
+            None => false,
+            Some((_, value)) => test.passes(value),
+        }
+    }
+
     /// Drops what stands at a place. The last takes its place.
     fn drop_at<M: Measure<L>, N: Measure<L>>(&mut self, column: &mut Column<M, N>, place: usize)
         requires place { place < length self.old.entries }
@@ -98,6 +115,7 @@ impl<K: Twin + Eq + Hash, L: Bottom> MapOf<K, L> {
             (q : K) → get K.eq self.new q ≡ cond (K.eq e.0 q) None (get K.eq self.old q)) }
         ensures swapped { SwappedOut self.old.entries self.new.entries place (length self.old.entries - 1) }
         ensures fewer { length self.new.entries + 1 ≡ length self.old.entries }
+        ensures room { self.old.spare ≤ self.new.spare }
         ensures column { IsColumn (M.measured column.new.measure) self.new.entries column.new.measures.items }
         ensures other { IsColumn (N.measured column.new.other) self.new.entries column.new.others.items }
         ensures measures { (column.new.measure ≡ column.old.measure) × (column.new.other ≡ column.old.other) }
@@ -127,6 +145,7 @@ impl<K: Twin + Eq + Hash, L: Bottom> MapOf<K, L> {
         ensures other { IsColumn (N.measured column.new.other) self.new.entries column.new.others.items }
         ensures measures { (column.new.measure ≡ column.old.measure) × (column.new.other ≡ column.old.other) }
         ensures no_more { length self.new.entries ≤ length self.old.entries }
+        ensures room { self.old.spare ≤ self.new.spare }
     {
         let mut least = u64::MAX;
         let mut place = 0;

@@ -4,9 +4,11 @@ ghost use Rattle.std.specs.Map.{keys_of, lookup};
 ghost use Rattle.std.specs.List.Sorted.{IsStrictlySortedBy};
 ghost use Rattle.std.specs.Option.{option_and_then};
 ghost use Rattle.std.specs.List.{IsDistinct};
-ghost use Rattle.geo_lattice.specs.Maps.{get, meaning_or, meaning_at, RoomFor, HasRoomFor, HasRoomForList, missing, EachFound, all_joined};
+ghost use Rattle.geo_lattice.specs.Maps.{get, meaning_or, meaning_at, RoomFor, HasRoomFor, HasRoomForList, missing, EachFound, all_joined, HasAll};
 
 use crate::change::{Change, Measure, Show, Test};
+use crate::column::Column;
+use crate::coming::Coming;
 use crate::lattice::{Bottom, Flat, Lattice};
 use crate::twin::Twin;
 use indexmap::IndexMap;
@@ -119,6 +121,21 @@ impl<K: Twin + Eq + Hash, L: Bottom> MapOf<K, L> {
         ensures filled { EachFound (λ v. L.meaning v ≡ L.least → ⊥) K.eq self.now.entries }
     {
         self.entries.get(key)
+    }
+
+    /// What is at a key, as [`MapOf::get`] tells it, and the place before the one where it stands, where it stands. It is found without a
+    /// look-up where it stands at the place that is told.
+    pub fn get_near(&self, place: usize, key: &K) -> (Option<&L>, usize)
+        ensures value { option_copied result.0 ≡ get K.eq self.now key.now }
+        ensures filled { EachFound (λ v. L.meaning v ≡ L.least → ⊥) K.eq self.now.entries }
+    {
+        match self.entries.get_index(place) {
+            Some((other, value)) if other == key => (Some(value), place.saturating_sub(1)),
+            _ => match self.entries.get_full(key) {
+                Some((found, _, value)) => (Some(value), found.saturating_sub(1)),
+                None => (None, place),
+            },
+        }
     }
 
     /// The key of some value that passes a test, None exactly where no value does. It looks at one value after another, and takes no
@@ -390,14 +407,12 @@ impl<K: Twin + Eq + Hash, L: Bottom + Flat> MapOf<K, L> {
 }
 
 impl<K: Twin + Ord + Hash, L: Bottom> MapOf<K, L> {
-    /// The values that show something, each with a copy of its key, by rising key. To sort is to move what is sorted again and again:
-    /// a key and a reference take less than half of what a key and a record take.
-    fn showing<'a, S: Show<L>>(
+    /// The values that show something, each with a copy of its key, in the order in which they stand.
+    fn standing<'a, S: Show<L>>(
         &'a self,
         alloc: Global,
         show: &S,
     ) -> Result<Vec<(K, &'a L)>, AllocError>
-        ensures rising { IfOk result (λ all. IsStrictlySortedBy K.cmp (keys_of all.items)) }
         ensures unique { IfOk result (λ all. IsDistinct K.eq (keys_of all.items)) }
         ensures shown { IfOk result (λ all. (q : K)
             → option_and_then (λ v. S.shown show.now v.now) (lookup (K.eq q) all.items)
@@ -411,9 +426,94 @@ impl<K: Twin + Ord + Hash, L: Bottom> MapOf<K, L> {
                 }
             }
         }
-        // Records come in runs by rising key, one of each parcel that was taken, but for those that a removal moved, and this sort makes
-        // use of that.
+        Ok(all)
+    }
+
+    /// The same in the order in which they came.
+    fn as_they_came<'a, S: Show<L>>(
+        &'a self,
+        alloc: Global,
+        coming: &Coming,
+        show: &S,
+    ) -> Result<Vec<(K, &'a L)>, AllocError>
+        requires all { HasAll coming.now.order.items coming.now.came.items (length self.now.entries) }
+        ensures unique { IfOk result (λ all. IsDistinct K.eq (keys_of all.items)) }
+        ensures shown { IfOk result (λ all. (q : K)
+            → option_and_then (λ v. S.shown show.now v.now) (lookup (K.eq q) all.items)
+            ≡ option_and_then (S.shown show.now) (get K.eq self.now q)) }
+    {
+        // Its clauses say that no two keys are equal.
+        let _count = self.entries.len();
+        let mut all = Vec::new(alloc);
+        for index in 0..coming.len() {
+            if let Some(place) = coming.standing(index) {
+                if let Some((key, value)) = self.entries.get_index(place) {
+                    if show.show(value).is_some() {
+                        all.push((key.twin(alloc)?, value))?;
+                    }
+                }
+            }
+        }
+        Ok(all)
+    }
+
+    /// The same in the order in which they came, where that is known of all, else in the order in which they stand.
+    fn gathered<'a, S: Show<L>>(
+        &'a self,
+        alloc: Global,
+        coming: &Coming,
+        show: &S,
+    ) -> Result<Vec<(K, &'a L)>, AllocError>
+        ensures unique { IfOk result (λ all. IsDistinct K.eq (keys_of all.items)) }
+        ensures shown { IfOk result (λ all. (q : K)
+            → option_and_then (λ v. S.shown show.now v.now) (lookup (K.eq q) all.items)
+            ≡ option_and_then (S.shown show.now) (get K.eq self.now q)) }
+    {
+        if coming.has_all(self.entries.len()) {
+            return self.as_they_came(alloc, coming, show);
+        }
+        self.standing(alloc, show)
+    }
+
+    /// The values that show something, each with a copy of its key, by rising key. To sort is to move what is sorted again and again:
+    /// a key and a reference take less than half of what a key and a record take.
+    fn showing<'a, S: Show<L>>(
+        &'a self,
+        alloc: Global,
+        coming: &Coming,
+        show: &S,
+    ) -> Result<Vec<(K, &'a L)>, AllocError>
+        ensures rising { IfOk result (λ all. IsStrictlySortedBy K.cmp (keys_of all.items)) }
+        ensures unique { IfOk result (λ all. IsDistinct K.eq (keys_of all.items)) }
+        ensures shown { IfOk result (λ all. (q : K)
+            → option_and_then (λ v. S.shown show.now v.now) (lookup (K.eq q) all.items)
+            ≡ option_and_then (S.shown show.now) (get K.eq self.now q)) }
+    {
+        let mut all = self.gathered(alloc, coming, show)?;
+        // Records come in runs by falling key, one of each parcel that was taken: this sort makes use of that, and moves one run without
+        // memory of its own.
         all.sort_by(|a, b| a.0.cmp(&b.0))?;
+        Ok(all)
+    }
+
+    fn listed_by<S: Show<L>>(
+        &self,
+        alloc: Global,
+        coming: &Coming,
+        show: &S,
+    ) -> Result<Vec<(K, S::Item)>, AllocError>
+        ensures rising { IfOk result (λ all. IsStrictlySortedBy K.cmp (keys_of all.items)) }
+        ensures unique { IfOk result (λ all. IsDistinct K.eq (keys_of all.items)) }
+        ensures shown { IfOk result (λ all. (q : K)
+            → lookup (K.eq q) all.items ≡ option_and_then (S.shown show.now) (get K.eq self.now q)) }
+    {
+        let showing = self.showing(alloc, coming, show)?;
+        let mut all = Vec::with_capacity(alloc, showing.len())?;
+        for (key, value) in showing {
+            if let Some(item) = show.show(value) {
+                all.push((key, item))?;
+            }
+        }
         Ok(all)
     }
 
@@ -428,13 +528,22 @@ impl<K: Twin + Ord + Hash, L: Bottom> MapOf<K, L> {
         ensures shown { IfOk result (λ all. (q : K)
             → lookup (K.eq q) all.items ≡ option_and_then (S.shown show.now) (get K.eq self.now q)) }
     {
-        let showing = self.showing(alloc, show)?;
-        let mut all = Vec::with_capacity(alloc, showing.len())?;
-        for (key, value) in showing {
-            if let Some(item) = show.show(value) {
-                all.push((key, item))?;
-            }
-        }
-        Ok(all)
+        self.listed_by(alloc, &Coming::new(alloc), show)
+    }
+
+    /// The same, where a column beside the map tells in what order the values came. They are gathered in that order, so that values that
+    /// came by falling or by rising key are sorted in one pass and without memory for it, also where a removal moved some.
+    pub fn listed_beside<S: Show<L>, M, N>(
+        &self,
+        alloc: Global,
+        column: &Column<M, N>,
+        show: &S,
+    ) -> Result<Vec<(K, S::Item)>, AllocError>
+        ensures rising { IfOk result (λ all. IsStrictlySortedBy K.cmp (keys_of all.items)) }
+        ensures unique { IfOk result (λ all. IsDistinct K.eq (keys_of all.items)) }
+        ensures shown { IfOk result (λ all. (q : K)
+            → lookup (K.eq q) all.items ≡ option_and_then (S.shown show.now) (get K.eq self.now q)) }
+    {
+        self.listed_by(alloc, &column.coming, show)
     }
 }

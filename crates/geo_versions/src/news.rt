@@ -7,16 +7,20 @@ ghost use Rattle.geo_versions.specs.Maps.{record_in, rec_means, listed_at};
 use crate::versions::Versions;
 use geo_lattice::{Bottom, Lattice};
 use geo_records::{Key, Rec};
+use std::cell::Cell;
 
 impl Versions {
-    /// Whether a record of a key changes something where it is joined.
-    fn brings(&self, key: &Key, rec: &Rec) -> bool
-        ensures { (result ≡ false) ↔ (record_joined (record_in self.now key.now) (rec_means rec.now) ≡ record_in self.now key.now) }
+    /// Whether a record of a key changes something where it is joined, and the place before the one where the key stands: it is found
+    /// without a look-up where it stands at the place that is told.
+    fn brings(&self, place: usize, key: &Key, rec: &Rec) -> (bool, usize)
+        ensures { (result.0 ≡ false) ↔ (record_joined (record_in self.now key.now) (rec_means rec.now) ≡ record_in self.now key.now) }
     {
-        match self.record(key) {
+        let (own, before) = self.record_near(place, key);
+        let brings = match own {
             None => !rec.is_bottom(),
             Some(own) => !own.covers(rec),
-        }
+        };
+        (brings, before)
     }
 
     /// Leaves out of records those that would change nothing here: what they tell is known. It takes no memory.
@@ -26,6 +30,12 @@ impl Versions {
         ensures same { (q : List ℕ) → record_joined (record_in self.now q) (listed_at records.new.items q)
             ≡ record_joined (record_in self.now q) (listed_at records.old.items q) }
     {
-        records.retain(|(key, rec)| self.brings(key, rec));
+        // What came together once stands together, the greatest key first.
+        let place = Cell::new(usize::MAX);
+        records.retain(|(key, rec)| {
+            let (brings, before) = self.brings(place.get(), key, rec);
+            place.set(before);
+            brings
+        });
     }
 }

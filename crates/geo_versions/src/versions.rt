@@ -67,6 +67,15 @@ impl Versions {
         self.records.get(key)
     }
 
+    /// What is kept of a key, and the place before the one where it stands. It is found without a look-up where it stands at the place
+    /// that is told.
+    pub(crate) fn record_near(&self, place: usize, key: &Key) -> (Option<&Rec>, usize)
+        ensures value { meaning_or (None, None) rec_means (option_copied result.0) ≡ record_in self.now key.now }
+        ensures there { IsSome result.0 ↔ (record_in self.now key.now ≡ (None, None) → ⊥) }
+    {
+        self.records.get_near(place, key)
+    }
+
     /// How many keys have a record.
     pub fn len(&self) -> usize
         ensures len { result ≡ count_in self.now }
@@ -101,7 +110,8 @@ impl Versions {
 
     /// A key whose version is a write of this site that ended before a moment, in seconds: its expiry isn't 0, and is below
     /// `before`. None exactly where there is no such key. A site finds so its own writes whose time to live is over, and deletes
-    /// them for all sites. It passes over the ends of all records, and looks at the records that have ended. It takes no memory.
+    /// them for all sites. It passes over the ends of records, and looks at those that have ended up to the one that it gives. It takes no
+    /// memory.
     pub fn ended(&self, site: u8, before: u64) -> Option<&Key>
         ensures { MatchOption result ((q : List ℕ)
             → has_ended site before (version_in (record_in self.now q)) ≡ false)
@@ -174,7 +184,7 @@ impl Versions {
         };
         if self.floor != above.floor {
             self.floor = above.floor;
-            self.ends.leave_out(&self.records, &above);
+            self.ends.leave_out(&self.records, u64::MAX, &above);
             self.records.change_all(&above);
             self.lasting = self
                 .ends
@@ -214,7 +224,7 @@ impl Versions {
         self.lasting = lasting;
         if self.floor != above.floor {
             self.floor = above.floor;
-            self.ends.leave_out(&self.records, &above);
+            self.ends.leave_out(&self.records, u64::MAX, &above);
             self.records.change_all(&above);
             self.lasting = self
                 .ends
@@ -240,7 +250,7 @@ impl Versions {
         if self.ends.may_drop(&self.records, horizon) {
             self.lasting = self.records.drop_low(&mut self.ends, horizon, &over);
         } else {
-            self.ends.leave_out(&self.records, &over);
+            self.ends.leave_out(&self.records, horizon, &over);
             self.records.change_all(&over);
             self.lasting = self
                 .ends
@@ -259,7 +269,7 @@ impl Versions {
         let unknown = UnknownTo {
             base: base.copied(),
         };
-        let all = self.records.listed(alloc, &unknown)?;
+        let all = self.records.listed_beside(alloc, &self.ends, &unknown)?;
         Ok(all)
     }
 
@@ -268,7 +278,7 @@ impl Versions {
         ensures rising { IfOk result (λ all. Rising all.items) }
         ensures records { IfOk result (λ all. (q : List ℕ) → listed_at all.items q ≡ record_in self.now q) }
     {
-        let all = self.records.listed(alloc, &Whole)?;
+        let all = self.records.listed_beside(alloc, &self.ends, &Whole)?;
         Ok(all)
     }
 
@@ -277,7 +287,7 @@ impl Versions {
         ensures rising { IfOk result (λ all. Rising all.items) }
         ensures versions { IfOk result (λ all. (q : List ℕ) → lookup (same_key q) all.items ≡ version_in (record_in self.now q)) }
     {
-        let all = self.records.listed(alloc, &Shown)?;
+        let all = self.records.listed_beside(alloc, &self.ends, &Shown)?;
         Ok(all)
     }
 }
@@ -337,7 +347,7 @@ impl Lattice for Versions {
         self.lasting = 0;
         if self.floor != above.floor {
             self.floor = above.floor;
-            self.ends.leave_out(&self.records, &above);
+            self.ends.leave_out(&self.records, u64::MAX, &above);
             self.records.change_all(&above);
             let _least = self
                 .ends

@@ -4,7 +4,7 @@ ghost use Rattle.std.specs.Prelude.{ℕ, None, cond, nat_le, nat_lt, nat_eq, ◌
 ghost use Rattle.geo_lattice.specs.Maps.{IsColumn, meaning_or};
 ghost use Rattle.geo_lattice.specs.declared.lww.Lww.{Lww};
 
-use crate::base::lattice::{After, Map, Name, Register, StampOf, register};
+use crate::base::lattice::{After, AsItIs, Map, Name, Register, StampOf, register};
 use crate::base::random::Random;
 use geo_lattice::{Change, Column, Lww, MapOf, Measure, Test};
 use std::alloc::{AllocError, Global};
@@ -120,7 +120,7 @@ impl Both {
         let least = if may_drop {
             self.map.drop_low(&mut self.column, spent.most, spent)
         } else {
-            self.column.leave_out(&self.map, spent);
+            self.column.leave_out(&self.map, spent.most, spent);
             self.map.change_all(spent);
             self.column.note_all(&self.map, StampOf)
         };
@@ -132,6 +132,19 @@ impl Both {
         let after = After { stamp };
         let found = self.map.found_below(&self.column, bound, &after);
         found == self.walked.found(&Below { after, bound })
+    }
+
+    /// Whether the same is listed of both.
+    fn lists_the_same(&self, alloc: Global) -> Result<bool, AllocError> {
+        let listed = self.map.listed_beside(alloc, &self.column, &AsItIs)?;
+        let walked = self.walked.listed(alloc, &AsItIs)?;
+        let pairs = listed.iter().zip(walked.iter());
+        Ok(
+            listed.len() == walked.len()
+                && pairs.fold(true, |same, (one, other)| {
+                    same && one.0 == other.0 && one.1.get() == other.1.get()
+                }),
+        )
     }
 
     /// Whether a walk finds the same name first in both.
@@ -201,6 +214,8 @@ fn removals(
             assert!(rt; both.walks_the_same(random.behind(first, 200), random.below(2000)));
         } else if forgets {
             both.forget();
+        } else if step % 20 == 19 {
+            assert!(rt; both.lists_the_same(alloc)?);
         }
         let reach = if random.one_in(8) { 150 } else { 25 };
         let before = both.map.len();
@@ -230,6 +245,54 @@ fn dropped_one_by_one_or_in_a_pass_the_same_is_left_and_found(rt: HostRuntime) -
         let counts = removals(&rt, rt.alloc(), hasher, seed, names)?;
         // In a small table each drop would lose too much of it.
         assert!(&rt; counts.passes > 5 && (names < 300 || counts.dropped > 300));
+    }
+    Ok(())
+}
+
+/// Of many values most go, a few at a time and one by one, so that the order in which they came is closed up; then others come.
+fn most_go(
+    rt: &impl Abort,
+    alloc: Global,
+    hasher: RandomState,
+    names: u64,
+) -> Result<u64, AllocError> {
+    let mut random = Random { state: names };
+    let mut both = Both::new(alloc, hasher);
+    let mut dropped = 0u64;
+    for name in 0..names {
+        let content = random.below(1000).wrapping_mul(2);
+        both.put(alloc, &Name(name), u64::wrapping_add(name, 1), content)?;
+    }
+    for step in 1..66 {
+        let before = both.map.len();
+        let (may_drop, is_least) = both.remove(&Spent {
+            most: u64::wrapping_mul(step, 10),
+        });
+        assert!(rt; is_least && both.map.len() == both.walked.len());
+        if may_drop {
+            dropped = dropped.wrapping_add(before.saturating_sub(both.map.len()) as u64);
+        }
+        put_some(
+            alloc,
+            &mut random,
+            &mut both,
+            40,
+            u64::wrapping_add(names, step),
+        )?;
+        assert!(rt; both.finds_the_same(0, random.below(2000)) && both.finds_the_same(names, 2000));
+    }
+    assert!(rt; both.lists_the_same(alloc)?);
+    Ok(dropped)
+}
+
+#[test]
+fn where_most_went_one_by_one_the_others_are_found_in_their_order(
+    rt: HostRuntime,
+) -> Result<(), Fail> {
+    let hasher = RandomState::new(&rt)?;
+    for names in [700, 1500] {
+        // A pass takes its turn only where the table would lose too many places.
+        assert!(&rt; most_go(&rt, rt.alloc(), hasher, names)? >= 500);
     }
     Ok(())
 }

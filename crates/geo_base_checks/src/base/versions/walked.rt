@@ -361,3 +361,55 @@ fn what_ended_is_told_in_the_order_of_a_walk(rt: HostRuntime) -> Result<(), Fail
     }
     Ok(())
 }
+
+/// The key of a number below 400.
+fn key_of(alloc: Global, number: u64) -> Result<Key, Fail> {
+    let letters = *b"abcdefghijklmnopqrst";
+    let first = letters.get((number / 20) as usize).copied();
+    let second = letters.get((number % 20) as usize).copied();
+    let name = [first.unwrap_or(b'-'), second.unwrap_or(b'-')];
+    Ok(Key::new(alloc, &name)?.ok_or("no key")?)
+}
+
+/// Writes a number of keys, of which so many are one site's and those behind them another's, and each ends.
+fn write_each(alloc: Global, both: &mut Both, others: u64, all: u64) -> Result<(), Fail> {
+    for number in 0..all {
+        let key = key_of(alloc, number)?;
+        let site = if number < others { 2 } else { 1 };
+        let stamp = Stamp::new(u64::wrapping_add(number, 1), site).ok_or("no stamp")?;
+        let end = u64::wrapping_add(number.wrapping_mul(7) % 50, 100);
+        both.write(alloc, &key, stamp, &body(Some(("v", 0, 1))), end)?;
+    }
+    Ok(())
+}
+
+/// Deletes a key, which every site knows then, and removes what is known so.
+fn delete_and_remove(alloc: Global, both: &mut Both, number: u64, time: u64) -> Result<bool, Fail> {
+    let key = key_of(alloc, number)?;
+    let stamp = Stamp::new(time, 2).ok_or("no stamp")?;
+    both.write(alloc, &key, stamp, &body(None), 0)?;
+    Ok(both.remove(time))
+}
+
+#[test]
+fn many_of_anothers_writes_end_before_the_first_own(rt: HostRuntime) -> Result<(), Fail> {
+    let hasher = RandomState::new(&rt)?;
+    for others in [20, 40, 100, 300] {
+        let mut both = Both::new(rt.alloc(), hasher);
+        write_each(rt.alloc(), &mut both, others, u64::wrapping_add(others, 30))?;
+        for turn in 0..8 {
+            // The last record takes the place of each that goes.
+            let number = u64::wrapping_mul(turn, 2);
+            assert!(&rt;
+                delete_and_remove(rt.alloc(), &mut both, number, u64::wrapping_add(1000, turn))?
+            );
+            for before in [100, 101, 120, 149, 200] {
+                assert!(&rt; both.ended_are_the_same(1, before));
+                assert!(&rt;
+                    both.ended_are_the_same(2, before) && both.ended_are_the_same(3, before)
+                );
+            }
+        }
+    }
+    Ok(())
+}

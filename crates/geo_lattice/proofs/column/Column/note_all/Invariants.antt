@@ -10,4 +10,5 @@ invariant-loop-place g l = record {
   least : EachOf (λ k v. l.least ≤ g.N.Measure.measured l.self.other v) l.map-inside.entries.entries l.place;
   measure : l.self.measure ≡ l.fn.self.measure;
   measured : l.self.other ≡ l.fn.other;
+  counted : (l.self.held ≡ l.fn.self.held) × (l.self.room ≡ l.fn.self.room);
 }

@@ -76,4 +76,5 @@ loop-place-preserved-then-passes g c =
       measure = one.measures.0 ∙ i.measure;
       measured = one.measures.1 ∙ i.measured;
       fewer = let f = one.fewer in let was = i.fewer in omega (arith, f, was);
+      room = let r = one.room in let was = i.room in omega (arith, r, was);
     }

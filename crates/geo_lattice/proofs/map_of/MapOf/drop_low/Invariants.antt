@@ -15,6 +15,7 @@ invariant-loop-place g l =
       measure : l.column.measure ≡ l.initial.column.measure;
       measured : l.column.other ≡ l.initial.column.other;
       fewer : length l.self.entries ≤ length l.initial.self.entries;
+      room : l.initial.self.spare ≤ l.self.spare;
     }
 
 abbrev pub decreases-loop-place : goal.decreases-loop-place

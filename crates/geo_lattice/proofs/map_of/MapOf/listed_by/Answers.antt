@@ -5,7 +5,7 @@ use Rattle.std.specs.Map.{keys_of, lookup}
 use Rattle.std.specs.Option.{option_and_then}
 use Rattle.geo_lattice.proofs.Listing.{one_shown, none_shown, shown_distinct, shown_at}
 use Rattle.geo_lattice.proofs.Showing.{rest_more, rest_none, more_shown, shown_rising}
-use Rattle.geo_lattice.proofs.map_of.MapOf.listed.Goals as goal
+use Rattle.geo_lattice.proofs.map_of.MapOf.listed_by.Goals as goal
 
 pub loop-key-preserved-in-Continue-branch-3 : goal.loop-key-preserved-in-Continue-branch-3
 loop-key-preserved-in-Continue-branch-3 g c =

@@ -1,7 +1,7 @@
 use Rattle.std.proofs.Common.{◌≡◌, ◌++◌, length}
 use Rattle.std.specs.Vec.Iter.{into_iter_items, into_iter_len}
 use Rattle.geo_lattice.proofs.Listing.{shown_of}
-use Rattle.geo_lattice.proofs.map_of.MapOf.listed.Given as goal
+use Rattle.geo_lattice.proofs.map_of.MapOf.listed_by.Given as goal
 
 abbrev pub invariant-loop-key : goal.invariant-loop-key
 invariant-loop-key g l = record {
