@@ -1,12 +1,12 @@
 -- How many items of a list are active, before and after each change.
-use Rattle.std.proofs.Common.{◌≡◌, ℕ, ◌+◌, ◌≤◌, Bool, true, false, not, nat_eq, cond, List, [], ◌∷◌, Some, None, refl, ◌∙◌, arith, reverse}
+use Rattle.std.proofs.Common.{◌≡◌, ℕ, ◌+◌, Bool, true, false, nat_eq, cond, List, [], ◌∷◌, Some, None, refl, ◌∙◌, arith, reverse}
 use Rattle.std.proofs.lemmas.List.Sums.{sum_by-cons}
 use Rattle.std.proofs.lemmas.Map.Entries.{sum_by-set_value, sum_by-remove_entry}
 use Rattle.std.specs.List.{find}
 use Rattle.std.specs.Map.{lookup, set_value, values_of}
 use Rattle.geo_lru.proofs.Reversed.{sum_by-reverse}
 use Rattle.geo_lru.specs.declared.access.Access.{Access}
-use Rattle.geo_lru.specs.Lists.{active_count, without, touched, last_active}
+use Rattle.geo_lru.specs.Lists.{active_count, without, last_active}
 
 abbrev one_if_active : Access → ℕ
 one_if_active a = cond a.active 1 0
@@ -16,14 +16,6 @@ one b h = rw h refl
 
 pub none : (b : Bool) → b ≡ false → cond {A = ℕ} b 1 0 ≡ 0
 none b h = rw h refl
-
-pub not_true : (b : Bool) → not b ≡ true → b ≡ false
-not_true true h = cc
-not_true false h = refl
-
-pub not_false : (b : Bool) → not b ≡ false → b ≡ true
-not_false true h = refl
-not_false false h = cc
 
 pub active-cons : (i : ℕ) (a : Access) (es : List (ℕ × Access)) → active_count ((i, a) ∷ es) ≡ cond a.active 1 0 + active_count es
 active-cons i a es = sum_by-cons one_if_active a (values_of es)
@@ -35,21 +27,6 @@ active-set_value i es a b h = sum_by-set_value one_if_active (nat_eq i) es a b h
 pub active-without : (i : ℕ) (es : List (ℕ × Access)) (a : Access) → lookup (nat_eq i) es ≡ Some a
     → active_count (without i es) + cond a.active 1 0 ≡ active_count es
 active-without i es a h = rw h at (sum_by-remove_entry one_if_active (nat_eq i) es)
-
-pub active-missing : (i : ℕ) (es : List (ℕ × Access)) → lookup (nat_eq i) es ≡ None → active_count (without i es) ≡ active_count es
-active-missing i es h = let same = rw h at (sum_by-remove_entry one_if_active (nat_eq i) es) in omega (arith, same)
-
--- an item that goes to the head of its own list
-pub active-brought : (i : ℕ) (es : List (ℕ × Access)) (a b : Access) → lookup (nat_eq i) es ≡ Some a → b.active ≡ false
-    → active_count ((i, b) ∷ without i es) + cond a.active 1 0 ≡ active_count es
-active-brought i es a b h is = omega (arith, active-cons i b (without i es), active-without i es a h, none b.active is)
-
--- a hit leaves an active item active
-pub still_active : (a : Access) → cond a.active 1 0 ≤ cond (touched a).active 1 0
-still_active a = elim a.fetched as (λ f. cond a.active 1 0 ≤ cond (cond f (record a { active = true }) (record a { fetched = true })).active 1 0) [
-  | true ↦ elim a.active as (λ b. cond b 1 0 ≤ 1) [ true ↦ omega arith | false ↦ omega arith ]
-  | false ↦ omega arith
-]
 
 -- where none is active, none is found
 none_active : (es : List (ℕ × Access)) → active_count es ≡ 0 → find (λ e. e.1.active) es ≡ None

@@ -2,7 +2,6 @@
 pub use Rattle.geo_lru.specs.Rules.{unseen, touched, moved, active_count, last_active, entered, victim_of, count, hot_limit, warm_limit, leaves_list, warm_leaves}
 use Rattle.geo_lru.specs.Rules.{ListsOf, present_by, places_by, touched_in_by, without_by, brought_forward_by, touched_by, left_by, hot_tail_moved_by, warm_tail_moved_by, cold_active_moved_by, hot_juggled_by, warm_juggled_by, cold_juggled_by, juggled_by}
 use Rattle.std.specs.Prelude.{◌≡◌, ℕ, ◌-◌, ◌^◌, ◌≤◌, nat_eq, List, Option}
-use Rattle.lru.specs.LruCache.{LruCache}
 use Rattle.geo_lru.specs.declared.access.Access.{Access}
 
 abbrev pub Lists : Type 0
@@ -18,10 +17,10 @@ places = places_by nat_eq
 pub record IsApart (l : Lists) : Type 0 where
   pub once : (item : ℕ) → places item l ≤ 1
 
--- a list that nothing falls out of, beside the number of its active items
-pub record Tallied (list : LruCache ℕ Access) (active : ℕ) : Type 0 where
-  pub unbounded : list.cap ≡ 2 ^ 64 - 1
-  pub tally : active ≡ active_count list.entries
+-- items in a list that nothing falls out of, beside the number of those that are active
+pub record Tallied (items : List (ℕ × Access)) (cap active : ℕ) : Type 0 where
+  pub unbounded : cap ≡ 2 ^ 64 - 1
+  pub tally : active ≡ active_count items
 
 abbrev pub touched_in : ℕ → List (ℕ × Access) → List (ℕ × Access)
 touched_in = touched_in_by nat_eq

@@ -39,6 +39,15 @@ impl Access {
         }
     }
 
+    /// Whether one more hit makes it active.
+    pub(crate) fn wakes(self) -> bool
+        ensures idle { result ≡ true → self.active ≡ false }
+        ensures active { result ≡ true → (touched self).active ≡ true }
+        ensures kept { result ≡ false → (touched self).active ≡ self.active }
+    {
+        self.fetched && !self.active
+    }
+
     /// The bits after a move.
     pub(crate) fn moved(self) -> Access
         ensures { result ≡ moved self }

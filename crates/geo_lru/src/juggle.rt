@@ -124,7 +124,7 @@ fn transfer(
     Ok(())
 }
 
-// The same, where the other list is COLD: an item comes there without its ACTIVE bit, so what was found of COLD stays so.
+// The same, where the other list is COLD: an item comes there without its ACTIVE bit, so nothing has to be filed.
 fn cool(
     list: &mut ItemList,
     cold: &mut ColdList,

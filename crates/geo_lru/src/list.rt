@@ -14,20 +14,17 @@ use std::marker::Model;
 pub(crate) struct ItemList {
     // The items are the caller's own numbers, so a hasher of a fixed seed serves.
     pub(crate) entries: LruCache<usize, Access>,
-    // How many of them are active: where there is none, nobody need look for one.
-    active: usize,
 }
 
 impl Model for ItemList {
-    ghost use Rattle.std.specs.Prelude.{ℕ, List};
-    ghost use Rattle.geo_lru.specs.Lists.{Tallied};
+    ghost use Rattle.std.specs.Prelude.{◌≡◌, ◌^◌, ◌-◌, ℕ, List};
     ghost use Rattle.geo_lru.specs.declared.access.Access.{Access as Bits};
 
     ghost Value = { List (ℕ × Bits) };
 
     ghost view = { λ l. l.entries.entries };
 
-    ghost invariant = { λ l. Tallied l.entries l.active };
+    ghost invariant = { λ l. l.entries.cap ≡ 2 ^ 64 - 1 };
 }
 
 impl ItemList {
@@ -36,7 +33,7 @@ impl ItemList {
         ensures { IfOk result (λ list. list ≡ []) }
     {
         let entries = LruCache::unbounded(alloc)?;
-        Ok(ItemList { entries, active: 0 })
+        Ok(ItemList { entries })
     }
 
     /// How many items it has.
@@ -60,26 +57,11 @@ impl ItemList {
         ensures found { result ≡ is_some (lookup (nat_eq item) self.old) }
         ensures touched { self.new ≡ touched_in item self.old }
     {
-        self.note_hit(item).is_some()
-    }
-
-    /// The same, and tells what was seen of the item before.
-    pub(crate) fn note_hit(&mut self, item: usize) -> Option<Access>
-        ensures found { result ≡ lookup (nat_eq item) self.old }
-        ensures touched { self.new ≡ touched_in item self.old }
-    {
-        // Its clauses bound the count of active items.
-        let _len = self.entries.len();
         let Some(access) = self.entries.peek_mut(&item) else {
-            return None;
+            return false;
         };
-        let before = *access;
-        let after = before.touched();
-        *access = after;
-        if after.active && !before.active {
-            self.active += 1;
-        }
-        Some(before)
+        *access = access.touched();
+        true
     }
 
     /// Puts an item at the head.
@@ -91,9 +73,6 @@ impl ItemList {
         // Its clauses say that nothing falls out at the tail.
         let _len = self.entries.len();
         self.entries.put(item, access)?;
-        if access.active {
-            self.active += 1;
-        }
         Ok(())
     }
 
@@ -104,11 +83,7 @@ impl ItemList {
         let Some(access) = self.entries.get_mut(&item) else {
             return;
         };
-        let before = *access;
-        *access = before.moved();
-        if before.active {
-            self.active -= 1;
-        }
+        *access = access.moved();
     }
 
     /// Moves the item to the head, as one that has just come, and tells whether it is here. Where it is not, nothing changes.
@@ -119,11 +94,8 @@ impl ItemList {
         let Some(access) = self.entries.get_mut(&item) else {
             return false;
         };
-        let before = *access;
-        *access = Access::unseen();
-        if before.active {
-            self.active -= 1;
-        }
+        let fresh = Access::unseen();
+        *access = fresh;
         true
     }
 
@@ -136,12 +108,6 @@ impl ItemList {
         if self.entries.len() == 0 {
             return false;
         }
-        let Some(access) = self.entries.pop(&item) else {
-            return false;
-        };
-        if access.active {
-            self.active -= 1;
-        }
-        true
+        self.entries.pop(&item).is_some()
     }
 }

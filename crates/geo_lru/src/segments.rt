@@ -9,8 +9,10 @@ use std::alloc::{AllocError, Global};
 use std::marker::Model;
 
 /// The items of a slab class in memcached's three lists, each item once (`doc/new_lru.txt`). An item is a number that the
-/// caller chose. No call's work grows with the number of items, but that of a map that grows, and that of an index of COLD's active
-/// items, by a logarithm. A `juggle` walks COLD where memory for the index was refused.
+/// caller chose. `enter`, `renew`, `hit`, `leave` and `victim` are one step, but for a map or list that grows. So is a `juggle` that
+/// moves an item of HOT or WARM. One that comes to COLD takes the items that became active there since the last one into an index, each
+/// by a logarithm, and out of it those that it meets there and that have left. Where memory for that was refused, or most of them have
+/// left, it goes through COLD.
 #[derive(Drop)]
 pub struct Segments {
     pub(crate) hot: ItemList,

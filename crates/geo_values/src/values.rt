@@ -117,7 +117,8 @@ impl Values {
         self.parts.held(alloc)
     }
 
-    /// Notes a hit on a key. Where it is not held, nothing changes. It takes no memory.
+    /// Notes a hit on a key. Where it is not held, nothing changes. What notes that an item of COLD is active may ask for memory, the
+    /// want of which fails nothing.
     pub fn hit(&mut self, key: &Key)
         ensures hit { Same (hit_at key.now (stock_in self.old)) (stock_in self.new) }
         ensures absent { (stock_in self.old).held key.now ≡ None → Same (stock_in self.old) (stock_in self.new) }

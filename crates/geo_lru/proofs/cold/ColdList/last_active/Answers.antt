@@ -1,17 +1,29 @@
-use Rattle.std.proofs.Common.{◌≡◌, [], true, true≢false, sym, ◌∙◌, subst, IsSome}
-use Rattle.geo_lru.proofs.Placing.{none-active, empty-index, no-entries, lowest-active}
+use Rattle.std.proofs.Common.{◌≡◌, refl, sym, subst, arith, inr}
+use Rattle.std.proofs.lemmas.Bool.{ltb-true}
+use Rattle.geo_lru.specs.Lists.{active_count}
+use Rattle.geo_lru.specs.Placed.{IsFiled, IsIndexed}
+use Rattle.geo_lru.proofs.Placing.{each-idle, each-more, falling-more}
+use Rattle.geo_lru.proofs.Tallies.{last_active-none}
 use Rattle.geo_lru.proofs.cold.ColdList.last_active.Goals as goal
 
-pub returns-in_default-clause-found : goal.returns-in_default-clause-found
-returns-in_default-clause-found c =
-    let whole : c.self.inside.whole ≡ true = c.if-not-self.false in
-    let none : c.self.inside.index.entries ≡ [] = no-entries c.self.inside.index.entries (λ some. true≢false (sym (c.in_default.ensures.variant.1 some))) in
-    rw (← c.self.view_is) (sym (none-active c.self.inside.entries.entries (λ q. sym (c.self.invariant.each whole q) ∙ empty-index c.self.inside.index none q)))
+pub invariant_of-self : goal.invariant_of-self
+invariant_of-self c = record {
+  tallied = c.self.invariant.tallied;
+  falling = c.self.invariant.falling;
+  below = λ t. ltb-true _ _ t;
+  each = λ t. each-idle (IsFiled c.shrink_to.new.self.items c.clear-then-is_idle.new.self) c.self.inside.entries.entries (subst (λ l. active_count l ≡ 0) (sym c.self.view_is) (c.if-is_idle.ensures refl));
+}
 
-pub returns-clause-found : goal.returns-clause-found
-returns-clause-found c =
-    let whole : c.self.inside.whole ≡ true = c.if-not-self.false in
-    let place = c.in-Some.field-0-0.now in
-    rw (← c.self.view_is) (sym (lowest-active c.self.inside.next place c.self.inside.entries.entries c.in-Some.found.now (c.self.invariant.falling (c.self.invariant.below whole))
-    (sym (c.self.invariant.each whole place) ∙ c.in-Some.ensures.value)
-    (λ q some. c.in-Some.ensures.least q (subst IsSome (sym (c.self.invariant.each whole q)) some))))
+pub returns-then-is_idle-clause-found : goal.returns-then-is_idle-clause-found
+returns-then-is_idle-clause-found c = sym (last_active-none c.args.self.now (c.if-is_idle.ensures refl))
+
+pub first_active-requires-clause-falling : goal.first_active-requires-clause-falling
+first_active-requires-clause-falling c = falling-more c.self.inside.next 18446744073709551616 c.self.inside.entries.entries (omega (arith, c.if-self-ge-PLACES.false)) (c.self.invariant.falling (omega (arith, c.if-self-ge-PLACES.false)))
+
+pub invariant_of-self-2 : goal.invariant_of-self-2
+invariant_of-self-2 c = record {
+  tallied = c.self.invariant.tallied;
+  falling = c.self.invariant.falling;
+  below = λ t. omega (arith, c.if-self-ge-PLACES.false);
+  each = λ t. each-more (IsIndexed c.first_active.new.index) (IsFiled c.index_all-self-inside.new.noted.items c.first_active.new.index) c.self.inside.entries.entries (λ q i has. inr has) c.first_active.ensures.indexed;
+}
