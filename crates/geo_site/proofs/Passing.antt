@@ -40,7 +40,9 @@ passed_by visible p before key none has = match_mapped (λ keys held q there.
     ∙ passed_more before key q) p.keys has
 
 -- those before the next key are those before this one, and this one
+pub one_taken : (keys : List (List ℕ)) (i : ℕ) (key : List ℕ) → i < length keys → key ≡ get_or keys i key → take i keys ++ key ∷ [] ≡ take (i + 1) keys
+one_taken keys i key lt at = ap (λ k. take i keys ++ k ∷ []) at ∙ sym (take_more keys i key lt)
+
 pub passed_on : (visible : Visible) (p : Passed) (keys : List (List ℕ)) (i : ℕ) (key : List ℕ) → i < length keys → key ≡ get_or keys i key
     → HasPassed visible p (take i keys ++ key ∷ []) → HasPassed visible p (take (i + 1) keys)
-passed_on visible p keys i key lt at =
-    subst (HasPassed visible p) (ap (λ k. take i keys ++ k ∷ []) at ∙ sym (take_more keys i key lt))
+passed_on visible p keys i key lt at = subst (HasPassed visible p) (one_taken keys i key lt at)

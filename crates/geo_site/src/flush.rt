@@ -47,7 +47,7 @@ impl Site {
     }
 
     /// Carries out a flush that waits, where its moment, in seconds, has come and a stamp is left for it, and tells whether there
-    /// was one. It takes no memory.
+    /// was one. It takes no memory but what notes measures, the want of which fails nothing.
     pub fn tick(&mut self, now: u64) -> bool
         ensures { TickDoes self.old self.new now result }
     {
@@ -63,7 +63,7 @@ impl Site {
     }
 
     /// Flushes at once, or leaves a flush waiting for its moment (protocol.txt, "flush_all"). A flush that waited is given up in
-    /// both cases. It takes no memory.
+    /// both cases. It takes no memory but what notes measures, the want of which fails nothing.
     pub(crate) fn flush_all(&mut self, now: u64, delay: i64) -> Reply
         requires moment { now ≤ 2 ^ 40 }
         ensures issued { IssuesAs [] self.old self.new (flush_acts delay now) Done result }

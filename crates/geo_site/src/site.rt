@@ -26,6 +26,8 @@ use std::hash::RandomState;
 pub struct Site {
     pub(crate) number: u8,
     pub(crate) limits: Limits,
+    /// How a set of keys hashes them, as the maps below do.
+    pub(crate) hasher: RandomState,
     pub(crate) vector: Vector,
     /// What it last heard of each site's vector.
     pub(crate) heard: Acks,
@@ -101,6 +103,7 @@ impl Site {
                 max_records: setup.max_records,
                 reap_after: setup.reap_after,
             },
+            hasher: setup.hasher,
             vector: Vector::new(setup.sites as usize),
             heard: Acks::new(setup.sites as usize),
             versions: Versions::new(alloc, setup.hasher),

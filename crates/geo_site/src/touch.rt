@@ -24,7 +24,7 @@ use geo_versions::Key;
 use std::alloc::{AllocError, Global};
 
 impl Site {
-    /// Gives a key another expiry. It takes no memory.
+    /// Gives a key another expiry. It takes no memory but what notes measures, the want of which fails nothing.
     pub(crate) fn renew(&mut self, stamp: Stamp, key: &Key, expiry: u64)
         requires next { stamp ≡ next_stamp_of self.old }
         requires there { HasRecord self.old key.now }
@@ -43,10 +43,11 @@ impl Site {
     /// Only a touch that ends what it finds asks what was passed: it passes the keys that are there.
     fn is_found<'a>(
         &self,
+        alloc: Global,
         now: u64,
         expiry: u64,
         passed: &mut Passed<'a>,
-        before: &[Key],
+        before: &'a [Key],
         key: &'a Key,
     ) -> bool
         requires { is_live expiry now ≡ false → HasPassed (visible_in (state_in self.now) now) passed.old before.now }
@@ -55,17 +56,17 @@ impl Site {
         ensures passed { is_live expiry now ≡ false
             → HasPassed (visible_in (state_in self.now) now) passed.new (before.now ++ key.now ∷ []) }
     {
-        self.entry(now, key).is_some() && (live(expiry, now) || !passed.pass(before, key))
+        self.entry(now, key).is_some() && (live(expiry, now) || !passed.pass(alloc, before, key))
     }
 
     /// How many touches a fetch of these keys makes.
     fn touch_count(&self, alloc: Global, now: u64, expiry: u64, keys: &[Key]) -> usize
         ensures { (numbers : Bool) → result ≡ length (touched_in self.now now expiry keys.now numbers) }
     {
-        let mut passed = Passed::none(alloc, keys.len(), live(expiry, now));
+        let mut passed = Passed::none(self.hasher, keys.len());
         let mut count = 0;
         for (index, key) in keys.iter().enumerate() {
-            if self.is_found(now, expiry, &mut passed, &keys[..index], key) {
+            if self.is_found(alloc, now, expiry, &mut passed, &keys[..index], key) {
                 count += 1;
             }
         }
@@ -85,9 +86,9 @@ impl Site {
     {
         let mut all = Vec::new(alloc);
         let mut places = Places::new(alloc);
-        let mut passed = Passed::none(alloc, keys.len(), live(expiry, now));
+        let mut passed = Passed::none(self.hasher, keys.len());
         for (index, key) in keys.iter().enumerate() {
-            if !self.is_found(now, expiry, &mut passed, &keys[..index], key) {
+            if !self.is_found(alloc, now, expiry, &mut passed, &keys[..index], key) {
                 continue;
             }
             if let Some((place, found)) = self.look(alloc, now, key, numbers)? {

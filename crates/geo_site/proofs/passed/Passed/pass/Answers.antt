@@ -11,7 +11,7 @@ not_not false = refl
 
 pub returns-in-Ok : goal.returns-in-Ok
 returns-in-Ok c = λ visible passed there.
-    let held = subst (λ keys. MatchOption keys (Unit {0}) (λ keys. (q : List ℕ) → IsSome (visible q) → list_any (λ k. same_key q k.now) keys.keys ≡ list_any (same_key q) c.args.before.now)) c.in-Some.is passed in (
+    let held = subst (λ keys. MatchOption keys (Unit {0}) (λ keys. (q : List ℕ) → IsSome (visible q) → list_any (λ k. same_key q k.now) keys.keys ≡ list_any (same_key q) c.args.before.now)) c.in-Some.is (c.count_found.ensures visible passed) in (
       ap not c.in-Ok.ensures.added ∙ not_not (list_any (λ k. same_key c.args.key.now k.now) c.in-Some.keys.keys) ∙ held c.args.key.now there,
       λ q seen.
           c.in-Ok.ensures.updates.0 (record { ref_ptr = c.args.key.ref_ptr; now = q })
