@@ -1,8 +1,9 @@
 """The whole program with an allocation refused: worked scripts, and a server whose clients try each command. tests/memory runs it.
 
-A script's output is a beginning of what it writes with memory at hand, with status 3, or all of it with status 0. A server that
-starts answers each request with what is owed or that it is out of memory, or closes the connection and counts that; the next client is
-served; it ends by itself.
+With memory at hand a script writes what it owes by its own comments, and a server answers each request of a client and ends well.
+With an allocation refused a script's output is a beginning of that, with status 3, or all of it with status 0. A server that starts
+answers each request with what is owed or that it is out of memory, or closes the connection, and counts that as a fault or doesn't count
+the session; where one allocation alone is refused, the next request, or the next client, is answered; it ends by itself.
 """
 import os
 import socket
@@ -15,6 +16,8 @@ PATIENCE = 30
 OUT_OF_MEMORY = b"out of memory\n"
 REFUSED = b"SERVER_ERROR out of memory\r\n"
 SESSIONS = 6
+# How often a server is started whose port another program took meanwhile.
+STARTS = 3
 # Worked scripts, of crates/geo_worked/data.
 SCRIPTS = [
     "append_and_incr",
@@ -42,7 +45,8 @@ class Script:
         self.program, self.library, self.name = program, library, f"script {name}"
         with open(f"{ROOT}/crates/geo_worked/data/{name}.script", "rb") as file:
             self.text = file.read()
-        self.whole, (self.counted, _) = self.run(0, False)
+        self.whole, (counted, refused) = self.run(0, False)
+        self.counted = counted if self.whole == (0, owed_by(self.text), b"") and refused == 0 else 0
 
     def run(self, number, later):
         """Its status with its output, and how many allocations were counted and refused."""
@@ -53,12 +57,19 @@ class Script:
 
     def fault(self, number, later):
         """What is wrong with the run of which this allocation is refused, or None."""
-        (status, output, errors), _ = self.run(number, later)
+        (status, output, errors), (_, refused) = self.run(number, later)
+        if (refused > 0) != (number <= self.counted):
+            return f"{refused} allocations were refused"
         if (status, output, errors) == self.whole:
             return None
         if status == 3 and errors in (b"", OUT_OF_MEMORY) and self.whole[1].startswith(output):
             return None
         return f"status {status}, {len(output)} bytes of {len(self.whole[1])}, {errors!r}"
+
+
+def owed_by(text):
+    """What a worked script is to write: its comments that begin with `#> `."""
+    return b"".join(line[3:] + b"\n" for line in text.split(b"\n") if line.startswith(b"#> "))
 
 
 def counts_in(report):
@@ -96,7 +107,7 @@ class Client:
                 raise Wrong(f"{came!r} in place of {owed!r}")
         return came
 
-    def ask(self, line, owed):
+    def ask(self, line, owed, talk):
         """Asks until memory is there, three times at most."""
         for _ in range(3):
             try:
@@ -105,6 +116,7 @@ class Client:
                 raise Closed from None
             if self.reply(owed) == owed:
                 return True
+            talk.refused += 1
         return False
 
     def close(self):
@@ -149,13 +161,35 @@ def free_ports(count):
     return ports
 
 
+class Talk:
+    """What came of the clients that try each command: how many connections were opened and closed by the server, how many requests
+    were told that memory was wanted, and whether a client was answered to its end."""
+
+    def __init__(self):
+        self.opened = self.closed = self.refused = 0
+        self.is_done = False
+
+    def fault(self, told, later):
+        """What is wrong with it beside the end's sums, or None."""
+        faults, lost = told[b"faults"], 2 * SESSIONS - told[b"sessions"]
+        if lost < 0 or self.closed > faults + lost:
+            return f"{self.closed} connections were closed, {faults} faults and {lost} lost"
+        if later:
+            return None
+        # One allocation costs one request its answer, or one connection its life.
+        if not self.is_done or self.closed + self.refused > 1 or faults + lost > 1:
+            return f"{self.closed} closed, {self.refused} refused, {faults} faults and {lost} lost for one allocation"
+        return None
+
+
 class Server:
     """Two sites, and a client that tries each command at the first while the second is told of it."""
 
     def __init__(self, program, library, link):
         self.program, self.library, self.link, self.name = program, library, link, f"serve over {link}"
-        (counted, _), wrong = self.run(0, False)
-        self.counted = 0 if wrong else counted
+        (counted, refused), wrong, talk = self.run(0, False)
+        is_well = wrong is None and refused == 0 and talk.is_done and talk.closed + talk.refused == 0
+        self.counted = counted if is_well else 0
 
     def started(self, number, later, report):
         ports = free_ports(4)
@@ -183,24 +217,23 @@ class Server:
         return None
 
     def talk(self, process, port):
-        """How many connections were opened, and how many the server closed."""
-        opened = closed = 0
+        """Clients try each command, one after another until one is answered to its end, three at most."""
+        talk = Talk()
         for attempt in range(3):
             client = self.connect(process, port)
             if client is None:
                 break
-            opened += 1
+            talk.opened += 1
             try:
-                for line, owed in conversation(b"k%d" % attempt):
-                    if not client.ask(line, owed):
-                        break
+                talk.is_done = all(client.ask(line, owed, talk) for line, owed in conversation(b"k%d" % attempt))
                 client.socket.sendall(b"quit\r\n")
                 client.close()
-                break
             except (Closed, ConnectionError):
-                closed += 1
+                talk.closed += 1
                 client.close()
-        return opened, closed
+            if talk.is_done:
+                break
+        return talk
 
     def use_up(self, process, port, opened):
         """Opens the connections that are left, so that the program ends."""
@@ -211,17 +244,28 @@ class Server:
             client.close()
 
     def run(self, number, later):
+        """How many allocations were counted and refused, what is wrong, and what came of the clients."""
+        for _ in range(STARTS):
+            counts, wrong, talk, errors = self.run_once(number, later)
+            if not errors.startswith(b"cannot listen"):
+                break
+        return counts, wrong, talk
+
+    def run_once(self, number, later):
+        """The same, and what it wrote to standard error."""
         with tempfile.NamedTemporaryFile() as report:
             process, ports, file = self.started(number, later, report)
             with process, file:
+                talk = Talk()
                 try:
-                    opened, closed = self.talk(process, ports[0])
-                    self.use_up(process, ports[0], opened)
+                    talk = self.talk(process, ports[0])
+                    self.use_up(process, ports[0], talk.opened)
                     self.use_up(process, ports[1], 0)
                     output, errors = process.communicate(timeout=PATIENCE)
-                    return counts_in(report), fault_of(process.returncode, output, errors, closed)
+                    counts = counts_in(report)
+                    return counts, self.fault_of(process.returncode, output, errors, talk, counts, number, later), talk, errors
                 except (Wrong, subprocess.TimeoutExpired) as why:
-                    return (0, 1), f"{why}"
+                    return (0, 1), f"{why}", talk, b""
                 finally:
                     process.kill()
 
@@ -229,20 +273,22 @@ class Server:
         """What is wrong with the run of which this allocation is refused, or None."""
         return self.run(number, later)[1]
 
-
-def fault_of(status, output, errors, closed):
-    """What is wrong with how a server ended, or None."""
-    if errors and not errors.startswith(b"cannot "):
-        return f"status {status}, {errors!r}"
-    if status in (3, 4) and not output:
-        return None
-    if status != 0:
-        return f"status {status}, {output!r}"
-    told = dict(line.split(b" ", 1) for line in output.splitlines())
-    lost = 2 * SESSIONS - int(told[b"sessions"])
-    if closed > int(told[b"faults"]) + lost:
-        return f"{closed} connections were closed: {output!r}"
-    return None if told[b"audit"] == b"sound" else f"{output!r}"
+    def fault_of(self, status, output, errors, talk, counts, number, later):
+        """What is wrong with how a server ended, or None."""
+        counted, refused = counts
+        # Threads make as many allocations as their turns come to, so that the last of a run may be none of another.
+        if (refused > 0) != (0 < number <= counted):
+            return f"{refused} of {counted} allocations were refused"
+        if errors and not errors.startswith(b"cannot "):
+            return f"status {status}, {errors!r}"
+        if number > 0 and refused > 0 and status in (3, 4) and not output:
+            return None
+        if status != 0:
+            return f"status {status}, {output!r}"
+        told = dict(line.split(b" ", 1) for line in output.splitlines())
+        if told[b"audit"] != b"sound":
+            return f"{output!r}"
+        return talk.fault({name: int(told[name]) for name in (b"sessions", b"faults")}, later)
 
 
 def subjects(program, library):

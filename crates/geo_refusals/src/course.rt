@@ -149,7 +149,12 @@ impl Course {
     ) -> Result<(), Stop> {
         let is_glance = scene.glance() == glance;
         self.look(alloc, scene)?;
-        if self.is_before(place) && is_glance || self.is_begun(place) {
+        let stands = if self.is_before(place) {
+            is_glance
+        } else {
+            self.is_begun(place)
+        };
+        if stands {
             return Ok(());
         }
         Err(Stop::Wrong("a refused call left something else"))

@@ -1,7 +1,7 @@
 //! Frames of which a bit or a field is another, or whose end is missing, and what is told of each.
-use crate::lines::{Line, Sites, word};
+use crate::lines::{Line, Sites, frame_of, word};
 use crate::scene::{Scene, Stop};
-use geo_frame::{FrameFault, decode, encode, fits};
+use geo_frame::{FrameFault, decode};
 use geo_versions::Digest;
 use std::alloc::{AllocError, Global};
 use std::random::RandomSource;
@@ -48,10 +48,13 @@ impl Counts {
         }
     }
 
-    /// Counts what is told of a frame.
-    fn count(&mut self, alloc: Global, frame: &[u8]) {
+    /// Counts what is told of a frame that comes to sites. One that is read is taken, which changes the site that it names.
+    fn count(&mut self, alloc: Global, sites: &mut Sites, frame: &[u8]) {
         match decode(alloc, frame) {
-            Ok(_) => self.read = self.read.saturating_add(1),
+            Ok(parcel) => {
+                self.read = self.read.saturating_add(1);
+                sites.hand(alloc, parcel);
+            }
             Err(fault) => {
                 if let Some(count) = self.faults.get_mut(place_of(fault)) {
                     *count = count.saturating_add(1);
@@ -74,7 +77,7 @@ impl Counts {
 }
 
 /// What is told where one bit is another, each in turn. The frame is the same afterwards.
-fn flipped(alloc: Global, frame: &mut Vec<u8>) -> Counts {
+fn flipped(alloc: Global, sites: &mut Sites, frame: &mut Vec<u8>) -> Counts {
     let mut counts = Counts::none();
     for place in 0..frame.len() {
         for bit in 0..8u32 {
@@ -85,7 +88,7 @@ fn flipped(alloc: Global, frame: &mut Vec<u8>) -> Counts {
             if let Some(cell) = frame.get_mut(place) {
                 *cell = other;
             }
-            counts.count(alloc, frame.as_slice());
+            counts.count(alloc, sites, frame.as_slice());
             if let Some(cell) = frame.get_mut(place) {
                 *cell = byte;
             }
@@ -95,26 +98,20 @@ fn flipped(alloc: Global, frame: &mut Vec<u8>) -> Counts {
 }
 
 /// What is told where the end is missing, from each place on.
-fn cut(alloc: Global, frame: &[u8]) -> Counts {
+fn cut(alloc: Global, sites: &mut Sites, frame: &[u8]) -> Counts {
     let mut counts = Counts::none();
     for place in 0..frame.len() {
         let (front, _) = frame.split_at(place);
-        counts.count(alloc, front);
+        counts.count(alloc, sites, front);
     }
     counts
 }
 
 /// The frame of a parcel of a scene.
-fn frame_of(alloc: Global, sites: &Sites, number: usize) -> Result<Vec<u8>, Stop> {
-    let Some(parcel) = sites.parcel(number) else {
-        return Err(Stop::Wrong("no such parcel"));
-    };
-    if !fits(parcel) {
-        return Err(Stop::Wrong("a parcel out of range"));
-    }
-    match encode(alloc, parcel) {
-        Ok(frame) => Ok(frame),
-        Err(_) => Err(Stop::Memory),
+fn frame_at(alloc: Global, sites: &Sites, number: usize) -> Result<Vec<u8>, Stop> {
+    match sites.parcel(number) {
+        Some(parcel) => frame_of(alloc, parcel),
+        None => Err(Stop::Wrong("no such parcel")),
     }
 }
 
@@ -128,20 +125,20 @@ fn made<R: Wait + Clock>(rt: &R, alloc: Global, sites: &mut Sites) -> Result<(),
 }
 
 /// Tells what comes of a parcel's frame that is spoiled in each way, and that the sites are what they were.
-fn spoil(alloc: Global, sites: &Sites, number: usize, out: &mut Vec<u8>) -> Result<(), Stop> {
+fn spoil(alloc: Global, sites: &mut Sites, number: usize, out: &mut Vec<u8>) -> Result<(), Stop> {
     let mut before = Vec::new(alloc);
     let mut after = Vec::new(alloc);
     sites.show(alloc, &mut before)?;
-    let mut frame = frame_of(alloc, sites, number)?;
+    let mut frame = frame_at(alloc, sites, number)?;
     word(out, b"bytes ", frame.len() as u64)?;
     out.extend_from_slice(b"\n  flipped: ")?;
-    flipped(alloc, &mut frame).push(out)?;
+    flipped(alloc, sites, &mut frame).push(out)?;
     out.extend_from_slice(b"  cut: ")?;
-    cut(alloc, frame.as_slice()).push(out)?;
+    cut(alloc, sites, frame.as_slice()).push(out)?;
     out.extend_from_slice(b"  longer: ")?;
     let mut counts = Counts::none();
     frame.push(0)?;
-    counts.count(alloc, frame.as_slice());
+    counts.count(alloc, sites, frame.as_slice());
     counts.push(out)?;
     sites.show(alloc, &mut after)?;
     if before.as_slice() != after.as_slice() {
@@ -182,7 +179,7 @@ fn spoil_each<R: Wait + Clock + RandomSource>(
     let mut sites = Sites::new(rt, alloc, 2, lines)?;
     made(rt, alloc, &mut sites)?;
     for number in numbers {
-        spoil(alloc, &sites, *number, out)?;
+        spoil(alloc, &mut sites, *number, out)?;
     }
     Ok(())
 }
@@ -285,7 +282,7 @@ fn tell_patches<R: Wait + Clock + RandomSource>(
 ) -> Result<(), Stop> {
     let mut sites = Sites::new(rt, alloc, 2, lines)?;
     made(rt, alloc, &mut sites)?;
-    let frame = frame_of(alloc, &sites, 0)?;
+    let frame = frame_at(alloc, &sites, 0)?;
     for patch in patches {
         tell_patch(alloc, frame.as_slice(), patch, out)?;
     }

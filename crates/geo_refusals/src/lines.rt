@@ -4,6 +4,7 @@ use crate::shown::{name_of_take, push_number, push_parcel, push_state, push_step
 use geo_delta::Parcel;
 use geo_equal::Equal;
 use geo_fixtures::opened;
+use geo_frame::{EncodeFault, FrameFault, decode, encode, fits};
 use geo_grammar::{Item, Reader, Request, ValueBytes, Verb, push_reply};
 use geo_history::{BoxedParcel, Kept};
 use geo_lattice::Twin;
@@ -26,6 +27,8 @@ pub enum Line {
     Send(u8, u8),
     /// The parcel of this number, which stays there to be taken again.
     Take(u8, usize),
+    /// The parcel of this number, as a frame that is read again.
+    Frame(usize),
     Remove(u8),
     Evict(u8, &'static [u8]),
     Tick(u8, u64),
@@ -156,6 +159,32 @@ fn take(alloc: Global, kept: &mut Kept, parcel: &Parcel, out: &mut Vec<u8>) -> R
     }
 }
 
+/// The frame of a parcel.
+pub fn frame_of(alloc: Global, parcel: &Parcel) -> Result<Vec<u8>, Stop> {
+    if !fits(parcel) {
+        return Err(Stop::Wrong("a parcel out of range"));
+    }
+    match encode(alloc, parcel) {
+        Ok(frame) => Ok(frame),
+        Err(EncodeFault::Memory) => Err(Stop::Memory),
+        Err(EncodeFault::TooLong) => Err(Stop::Wrong("a frame too long")),
+    }
+}
+
+/// Spells a parcel as a frame, and reads it again.
+fn frame(alloc: Global, parcel: &Parcel, out: &mut Vec<u8>) -> Result<(), Stop> {
+    let frame = frame_of(alloc, parcel)?;
+    let read = match decode(alloc, frame.as_slice()) {
+        Ok(read) => read,
+        Err(FrameFault::Memory) => return Err(Stop::Memory),
+        Err(_) => return Err(Stop::Wrong("no parcel was read")),
+    };
+    if !read.equals(parcel) {
+        return Err(Stop::Wrong("another parcel was read"));
+    }
+    Ok(word(out, b"bytes ", frame.len() as u64)?)
+}
+
 fn tell(out: &mut Vec<u8>, told: bool, yes: &[u8]) -> Result<(), Stop> {
     let text: &[u8] = if told { yes } else { b"nothing" };
     Ok(out.extend_from_slice(text)?)
@@ -239,6 +268,10 @@ fn exchange(
         Line::Send(site, to) => send(alloc, site_of(sites, site)?, to, parcels, out),
         Line::Take(site, number) => match parcels.get(number) {
             Some(parcel) => take(alloc, site_of(sites, site)?, parcel, out),
+            None => Err(Stop::Wrong("no such parcel")),
+        },
+        Line::Frame(number) => match parcels.get(number) {
+            Some(parcel) => frame(alloc, parcel, out),
             None => Err(Stop::Wrong("no such parcel")),
         },
         _ => Err(Stop::Wrong("another call")),
@@ -328,6 +361,15 @@ impl Sites {
     pub fn parcel(&self, number: usize) -> Option<&Parcel> {
         self.parcels.get(number)
     }
+
+    /// Hands a parcel to the site that it names, as whoever reads its frame would.
+    pub fn hand(&mut self, alloc: Global, parcel: Parcel) {
+        if let Ok(kept) = site_of(&mut self.sites, parcel.to) {
+            if kept.left(0) >= 2 {
+                let _done = kept.take_for(alloc, 0, parcel);
+            }
+        }
+    }
 }
 
 impl Scene for Sites {
@@ -354,7 +396,7 @@ impl Scene for Sites {
     ) -> Result<(), Stop> {
         match self.lines.get(place) {
             None => Err(Stop::Wrong("no such call")),
-            Some(line @ (Line::Send(..) | Line::Take(..))) => {
+            Some(line @ (Line::Send(..) | Line::Take(..) | Line::Frame(_))) => {
                 exchange(alloc, &mut self.sites, &mut self.parcels, *line, out)
             }
             Some(line) => alone(alloc, &mut self.sites, *line, out),

@@ -68,6 +68,44 @@ pub const LISTS: &[Line] = &[
     Line::Act(1, 100, b"touch b 0\r\n"),
 ];
 
+/// Four values of a quarter of a mebibyte fill their class and come to COLD. What is hit there twice goes to WARM by a juggle; of what
+/// is hit so and leaves before one, for a store or by a delete, nothing is left to move.
+pub const COLD: &[Line] = &[
+    Line::Store(1, b"a", 262_144),
+    Line::Store(1, b"b", 262_144),
+    Line::Store(1, b"c", 262_144),
+    Line::Store(1, b"d", 262_144),
+    Line::Juggle(1, 12),
+    Line::Juggle(1, 12),
+    Line::Juggle(1, 12),
+    Line::Juggle(1, 12),
+    Line::Act(1, 100, b"touch a 0\r\n"),
+    Line::Act(1, 100, b"touch a 0\r\n"),
+    Line::Act(1, 100, b"touch c 0\r\n"),
+    Line::Act(1, 100, b"touch c 0\r\n"),
+    Line::Store(1, b"e", 262_144),
+    Line::Act(1, 100, b"touch a 0\r\n"),
+    Line::Juggle(1, 12),
+    Line::Juggle(1, 12),
+    Line::Juggle(1, 12),
+    Line::Act(1, 100, b"touch b 0\r\n"),
+    Line::Act(1, 100, b"touch b 0\r\n"),
+    Line::Act(1, 100, b"touch e 0\r\n"),
+    Line::Act(1, 100, b"touch e 0\r\n"),
+    Line::Act(1, 100, b"delete b\r\n"),
+    Line::Juggle(1, 12),
+    Line::Juggle(1, 12),
+    Line::Juggle(1, 12),
+    Line::Store(1, b"f", 262_144),
+    Line::Store(1, b"g", 262_144),
+    Line::Act(1, 100, b"touch d 0\r\n"),
+    Line::Store(1, b"h", 262_144),
+    Line::Act(1, 100, b"touch c 0\r\n"),
+    Line::Store(1, b"i", 262_144),
+    Line::Act(1, 100, b"touch e 0\r\n"),
+    Line::Act(1, 100, b"touch f 0\r\n"),
+];
+
 /// A flush waits for its moment, and comes before the next request.
 pub const FLUSH: &[Line] = &[
     Line::Act(1, 100, b"set a 0 0 2\r\nhi\r\n"),
@@ -93,15 +131,64 @@ pub const TOUCHES: &[Line] = &[
     Line::Act(1, 100, b"stats\r\n"),
 ];
 
+/// More keys are touched by one line than are sought among all before them, and end by it. Each shows once: `a` is named again while
+/// they are looked through, `b` behind the key at which a set is made of those before it, and `6` is put into that set itself.
+pub const REPEATS: &[Line] = &[
+    Line::Act(1, 100, b"set a 0 0 1\r\na\r\n"),
+    Line::Act(1, 100, b"set b 0 0 1\r\nb\r\n"),
+    Line::Act(1, 100, b"set c 0 0 1\r\nc\r\n"),
+    Line::Act(1, 100, b"set d 0 0 1\r\nd\r\n"),
+    Line::Act(1, 100, b"set e 0 0 1\r\ne\r\n"),
+    Line::Act(1, 100, b"set f 0 0 1\r\nf\r\n"),
+    Line::Act(1, 100, b"set g 0 0 1\r\ng\r\n"),
+    Line::Act(1, 100, b"set h 0 0 1\r\nh\r\n"),
+    Line::Act(1, 100, b"set i 0 0 1\r\ni\r\n"),
+    Line::Act(1, 100, b"set j 0 0 1\r\nj\r\n"),
+    Line::Act(1, 100, b"set k 0 0 1\r\nk\r\n"),
+    Line::Act(1, 100, b"set l 0 0 1\r\nl\r\n"),
+    Line::Act(1, 100, b"set m 0 0 1\r\nm\r\n"),
+    Line::Act(1, 100, b"set n 0 0 1\r\nn\r\n"),
+    Line::Act(1, 100, b"set o 0 0 1\r\no\r\n"),
+    Line::Act(1, 100, b"set p 0 0 1\r\np\r\n"),
+    Line::Act(1, 100, b"set q 0 0 1\r\nq\r\n"),
+    Line::Act(1, 100, b"set r 0 0 1\r\nr\r\n"),
+    Line::Act(1, 100, b"set s 0 0 1\r\ns\r\n"),
+    Line::Act(1, 100, b"set t 0 0 1\r\nt\r\n"),
+    Line::Act(1, 100, b"set u 0 0 1\r\nu\r\n"),
+    Line::Act(1, 100, b"set v 0 0 1\r\nv\r\n"),
+    Line::Act(1, 100, b"set w 0 0 1\r\nw\r\n"),
+    Line::Act(1, 100, b"set x 0 0 1\r\nx\r\n"),
+    Line::Act(1, 100, b"set y 0 0 1\r\ny\r\n"),
+    Line::Act(1, 100, b"set z 0 0 1\r\nz\r\n"),
+    Line::Act(1, 100, b"set 0 0 0 1\r\n0\r\n"),
+    Line::Act(1, 100, b"set 1 0 0 1\r\n1\r\n"),
+    Line::Act(1, 100, b"set 2 0 0 1\r\n2\r\n"),
+    Line::Act(1, 100, b"set 3 0 0 1\r\n3\r\n"),
+    Line::Act(1, 100, b"set 4 0 0 1\r\n4\r\n"),
+    Line::Act(1, 100, b"set 5 0 0 1\r\n5\r\n"),
+    Line::Act(1, 100, b"set 6 0 0 1\r\n6\r\n"),
+    Line::Act(1, 100, b"set 7 0 0 1\r\n7\r\n"),
+    Line::Act(
+        1,
+        100,
+        b"gat -1 a b a c d e f g h i j k l m n o p q r s t u v w x y z 0 1 2 3 4 5 b 6 _ 7 6\r\n",
+    ),
+    Line::Act(1, 100, b"get a 7\r\n"),
+    Line::Act(1, 100, b"stats\r\n"),
+];
+
 /// What a site was heard to know is left out of what it is told.
 pub const DELTAS: &[Line] = &[
     Line::Act(1, 100, b"set a 0 0 2\r\nhi\r\n"),
     Line::Send(1, 2),
+    Line::Frame(0),
     Line::Take(2, 0),
     Line::Send(2, 1),
+    Line::Frame(1),
     Line::Take(1, 1),
     Line::Act(1, 100, b"set b 0 0 2\r\nyo\r\n"),
     Line::Send(1, 2),
+    Line::Frame(2),
     Line::Take(2, 2),
 ];
 
