@@ -249,40 +249,54 @@ fn dropped_one_by_one_or_in_a_pass_the_same_is_left_and_found(rt: HostRuntime) -
     Ok(())
 }
 
-/// Of many values most go, a few at a time and one by one, so that the order in which they came is closed up; then others come.
-fn most_go(
-    rt: &impl Abort,
+/// Puts a value under each name, with stamps from 1 on.
+fn put_all(
     alloc: Global,
-    hasher: RandomState,
+    random: &mut Random,
+    both: &mut Both,
     names: u64,
-) -> Result<u64, AllocError> {
-    let mut random = Random { state: names };
-    let mut both = Both::new(alloc, hasher);
-    let mut dropped = 0u64;
+) -> Result<(), AllocError> {
     for name in 0..names {
         let content = random.below(1000).wrapping_mul(2);
         both.put(alloc, &Name(name), u64::wrapping_add(name, 1), content)?;
     }
-    for step in 1..66 {
-        let before = both.map.len();
-        let (may_drop, is_least) = both.remove(&Spent {
-            most: u64::wrapping_mul(step, 10),
-        });
-        assert!(rt; is_least && both.map.len() == both.walked.len());
-        if may_drop {
-            dropped = dropped.wrapping_add(before.saturating_sub(both.map.len()) as u64);
-        }
-        put_some(
-            alloc,
-            &mut random,
-            &mut both,
-            40,
-            u64::wrapping_add(names, step),
-        )?;
-        assert!(rt; both.finds_the_same(0, random.below(2000)) && both.finds_the_same(names, 2000));
+    Ok(())
+}
+
+/// Drops what has a stamp up to one: how many values were dropped one by one, None where something else is left in both.
+fn dropped_up_to(both: &mut Both, most: u64) -> Option<u64> {
+    let before = both.map.len();
+    let (may_drop, is_least) = both.remove(&Spent { most });
+    if !is_least || both.map.len() != both.walked.len() {
+        return None;
     }
-    assert!(rt; both.lists_the_same(alloc)?);
-    Ok(dropped)
+    let fewer = before.saturating_sub(both.map.len()) as u64;
+    Some(if may_drop { fewer } else { 0 })
+}
+
+/// Of many values most go, a few at a time and one by one, so that the order in which they came is closed up, and others come.
+fn most_go(
+    alloc: Global,
+    random: &mut Random,
+    both: &mut Both,
+    names: u64,
+) -> Result<Option<u64>, AllocError> {
+    let mut dropped = 0u64;
+    for step in 1..66 {
+        let Some(fewer) = dropped_up_to(both, u64::wrapping_mul(step, 10)) else {
+            return Ok(None);
+        };
+        dropped = dropped.wrapping_add(fewer);
+        put_some(alloc, random, both, 40, u64::wrapping_add(names, step))?;
+        if !both.finds_the_same(0, random.below(2000)) || !both.finds_the_same(names, 2000) {
+            return Ok(None);
+        }
+    }
+    Ok(if both.lists_the_same(alloc)? {
+        Some(dropped)
+    } else {
+        None
+    })
 }
 
 #[test]
@@ -291,8 +305,12 @@ fn where_most_went_one_by_one_the_others_are_found_in_their_order(
 ) -> Result<(), Fail> {
     let hasher = RandomState::new(&rt)?;
     for names in [700, 1500] {
+        let mut random = Random { state: names };
+        let mut both = Both::new(rt.alloc(), hasher);
+        put_all(rt.alloc(), &mut random, &mut both, names)?;
         // A pass takes its turn only where the table would lose too many places.
-        assert!(&rt; most_go(&rt, rt.alloc(), hasher, names)? >= 500);
+        let dropped = most_go(rt.alloc(), &mut random, &mut both, names)?;
+        assert!(&rt; dropped.unwrap_or(0) >= 500);
     }
     Ok(())
 }

@@ -36,7 +36,10 @@ pub const ROWS: &[(&'static str, &'static str)] = &[
     ("e12345 h112 jjjj h33 l3 e3 jj d", "+++++.24513-"),
     // One that comes to COLD again and is hit there moves by its new place, not by the one that it left.
     ("e12345 h112 jjjj h33 l3 e36 jj h3344 j d", "+++++++253146-"),
-    ("e12345 h112 jjjj h2233 j l3 e36 jj h3344 j d", "++++++++531246-"),
+    (
+        "e12345 h112 jjjj h2233 j l3 e36 jj h3344 j d",
+        "++++++++531246-",
+    ),
     // An active tail of WARM, where it is too long, goes round, and one that is not goes to COLD. A move leaves an item hit once.
     ("e12345 h112 jjjj h2331 jj d", "++++++41235-"),
     ("e12345 h112 jjjj h2331 jjj d", "+++++++42315-"),
