@@ -16,7 +16,7 @@ use std::random::RandomSource;
 
 /// A verdict without its schedule.
 #[derive(Clone, Copy, Debug, PartialEq, Eq)]
-enum Told {
+pub enum Told {
     /// How many events the schedule has.
     Sound(usize),
     /// How many steps of the first and of the second history were taken.
@@ -271,7 +271,7 @@ fn counted(rt: &(impl Abort + RandomSource), alloc: Global) -> Vec<History> {
 }
 
 /// Stops a test where an audit finds another thing.
-fn check(rt: &impl Abort, alloc: Global, histories: &[History], want: Told) {
+pub fn check(rt: &impl Abort, alloc: Global, histories: &[History], want: Told) {
     let found = audited(alloc, histories);
     let is_wanted = found == Some(want);
     assert!(rt; is_wanted, "{found:?} and not {want:?}");

@@ -11,6 +11,8 @@ mod histories;
 #[cfg(test)]
 mod links;
 #[cfg(test)]
+mod pairs;
+#[cfg(test)]
 mod rounds;
 #[cfg(test)]
 mod shown;

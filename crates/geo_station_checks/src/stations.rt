@@ -3,6 +3,7 @@ ghost use Rattle.std.specs.Prelude.{◌≡◌, ◌≤◌, ◌^◌, ℕ, []};
 ghost use Rattle.geo_history.specs.Keeping.{opened_with};
 ghost use Rattle.geo_history.specs.Stories.{story_in};
 
+use crate::audits::{Told, check};
 use crate::calls::request;
 use crate::shown::show_steps;
 use geo_fixtures::{opened, setup_of};
@@ -191,18 +192,47 @@ fn other_site(rt: &impl RandomSource, alloc: Global) -> Option<Site> {
     Some(site)
 }
 
-/// The history's era, if it isn't the first, and how many steps the first seat had made before.
-fn show_era(out: &mut Vec<u8>, history: &History) -> Option<()> {
+/// How many steps the first seat made: those before the history opened, and those in it. By what `close` promises that is the
+/// seat's share of the ledger.
+fn share_of(history: &History) -> u64 {
+    let before = history.opening.counts.first().map_or(0, |count| *count);
+    let mut share = before;
+    for place in 0..history.steps.len() {
+        if history.steps.get(place).map(|step| step.seat) == Some(0) {
+            share = share.saturating_add(1);
+        }
+    }
+    share
+}
+
+/// The first seat's share, and the history's era if it isn't the first, with how many steps the seat had made before.
+fn show_share(out: &mut Vec<u8>, history: &History) -> Option<()> {
     let alloc = *out.allocator();
     let (era, before) = (history.opening.era, history.opening.counts.first());
     if let Some(before) = before {
-        let text = format!(in alloc; "era {era} behind {before}\n").ok()?;
+        let text = format!(in alloc; "era {era} behind {before}, ").ok()?;
         out.extend_from_slice(text.as_bytes()).ok()?;
     }
-    Some(())
+    let share = share_of(history);
+    let text = format!(in alloc; "share {share}\n").ok()?;
+    out.extend_from_slice(text.as_bytes()).ok()
 }
 
-/// What the calls answer, how many the seat keeps, whether there is a third seat, why one is too few to close, and the steps.
+/// Carries out calls at the first of so many sites, writes what they answer, how many the seat keeps, whether there is a third seat
+/// and why one is too few to close, and gives the history.
+fn history_of<R: Wait + Abort + RandomSource>(
+    rt: &R,
+    alloc: Global,
+    sites: u8,
+    calls: &[Call],
+    out: &mut Vec<u8>,
+) -> History {
+    let mut other = other_site(rt, alloc).expect(rt, "another site");
+    let kept = opened(rt, alloc, 1, sites).expect(rt, "a site");
+    carried::<Brand, _>(rt, alloc, Blank::new(2), kept, &mut other, calls, out)
+}
+
+/// What the calls answer and leave, the seat's share, and the steps.
 fn shown<R: Wait + Abort + RandomSource>(
     rt: &R,
     alloc: Global,
@@ -210,16 +240,25 @@ fn shown<R: Wait + Abort + RandomSource>(
     calls: &[Call],
     out: &mut Vec<u8>,
 ) {
-    let mut other = other_site(rt, alloc).expect(rt, "another site");
-    let kept = opened(rt, alloc, 1, sites).expect(rt, "a site");
-    let history = carried::<Brand, _>(rt, alloc, Blank::new(2), kept, &mut other, calls, out);
-    show_era(out, &history).expect(rt, "memory");
+    let history = history_of(rt, alloc, sites, calls, out);
+    show_share(out, &history).expect(rt, "memory");
     show_steps(out, &history.steps).expect(rt, "memory");
 }
 
+/// Three calls and two more, with a new era asked for behind each: after three steps.
+const RENEWED: &[Call] = &[
+    Call::Act(b"set a 0 0 2\r\nhi\r\n"),
+    Call::Act(b"get a\r\n"),
+    Call::Act(b"get b\r\n"),
+    Call::Renew(3),
+    Call::Act(b"get a\r\n"),
+    Call::Act(b"delete a\r\n"),
+    Call::Renew(3),
+];
+
 /// How many sites there are, the calls, and what is shown.
 const ROWS: &[(u8, &[Call], &[u8])] = &[
-    (1, &[], b"0 calls, false, Missing\n"),
+    (1, &[], b"0 calls, false, Missing\nshare 0\n"),
     // Of two writes the one that ended at 150 is reaped, and what is left of it dropped; the other's value is moved on in the lists.
     (
         1,
@@ -231,6 +270,7 @@ const ROWS: &[(u8, &[Call], &[u8])] = &[
         b"STORED\r\nSTORED\r\n\
           Maintained { flushed: false, reaped: 1, removed: 1, juggled: 1, refused: false }\n\
           2 calls, false, Missing\n\
+          share 4\n\
           seat 0 step 1: act at 100; STORED\r\n\n\
           seat 0 step 2: act at 100; STORED\r\n\n\
           seat 0 step 3: reap at 211; reaped true\n\
@@ -248,6 +288,7 @@ const ROWS: &[(u8, &[Call], &[u8])] = &[
         ],
         b"STORED\r\nVALUE a 0 2\r\nhi\r\nEND\r\nEND\r\nSome(Site(NoSuchSite))\n\
           6 calls, false, Missing\n\
+          share 6\n\
           seat 0 step 1: act at 100; STORED\r\n\n\
           seat 0 step 2: act at 100; VALUE a 0 2\r\nhi\r\nEND\r\n\n\
           seat 0 step 3: send to 2; sent to 2\n\
@@ -255,21 +296,13 @@ const ROWS: &[(u8, &[Call], &[u8])] = &[
           seat 0 step 5: act at 100; END\r\n\n\
           seat 0 step 6: send to 1; NoSuchSite\n",
     ),
-    // A new era begins behind three steps, and not again behind two more.
+    // A new era begins behind three steps, and not again behind two more; the share goes on.
     (
         1,
-        &[
-            Call::Act(b"set a 0 0 2\r\nhi\r\n"),
-            Call::Act(b"get a\r\n"),
-            Call::Act(b"get b\r\n"),
-            Call::Renew(3),
-            Call::Act(b"get a\r\n"),
-            Call::Act(b"delete a\r\n"),
-            Call::Renew(3),
-        ],
+        RENEWED,
         b"STORED\r\nVALUE a 0 2\r\nhi\r\nEND\r\nEND\r\ntrue\nVALUE a 0 2\r\nhi\r\nEND\r\nDELETED\r\nfalse\n\
           5 calls, false, Missing\n\
-          era 1 behind 3\n\
+          era 1 behind 3, share 5\n\
           seat 0 step 4: act at 100; VALUE a 0 2\r\nhi\r\nEND\r\n\n\
           seat 0 step 5: act at 100; DELETED\r\n\n",
     ),
@@ -282,4 +315,14 @@ fn a_station_closes_with_the_steps_of_its_seats(rt: HostRuntime) {
         shown(&rt, rt.alloc(), *sites, calls, &mut out);
         assert_eq!(rt; out.as_slice(), *text);
     }
+}
+
+#[test]
+fn an_audit_tells_a_renewed_station(rt: HostRuntime) {
+    let alloc = rt.alloc();
+    let mut out = Vec::new(alloc);
+    let first = history_of(&rt, alloc, 1, &[Call::Act(b"get a\r\n")], &mut out);
+    check(&rt, alloc, &[first], Told::Sound(1));
+    let later = history_of(&rt, alloc, 1, RENEWED, &mut out);
+    check(&rt, alloc, &[later], Told::LaterEra(1));
 }

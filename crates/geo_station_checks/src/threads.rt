@@ -5,8 +5,9 @@ ghost use Rattle.geo_history.specs.Stories.{story_in};
 
 use crate::stations::{act, closed};
 use geo_fixtures::opened;
-use geo_history::{Event, History, Kept};
-use geo_station::{Seat, Station};
+use geo_grammar::{Reply, Request};
+use geo_history::{Answer, Event, History, Kept};
+use geo_station::{Call, Seat, Station};
 use std::alloc::Global;
 use std::marker::Brand;
 use std::process::Abort;
@@ -15,6 +16,41 @@ use std::sync::Wait;
 use std::sync::ledger::{Blank, Ledger};
 use std::thread::{Threads, join};
 
+/// What a thread asks, and what is found then.
+struct Row {
+    set: &'static [u8],
+    get: &'static [u8],
+    found: &'static [u8],
+}
+
+const ONE: Row = Row {
+    set: b"set a 0 0 2\r\nhi\r\n",
+    get: b"get a\r\n",
+    found: b"VALUE a 0 2\r\nhi\r\nEND\r\n",
+};
+
+const TWO: Row = Row {
+    set: b"set b 0 0 2\r\nyo\r\n",
+    get: b"get b\r\n",
+    found: b"VALUE b 0 2\r\nyo\r\nEND\r\n",
+};
+
+/// Whether a request is answered so.
+fn is_answered<L: Ledger>(
+    rt: &impl Wait,
+    alloc: Global,
+    station: &Station<L>,
+    seat: &mut Seat<L>,
+    text: &[u8],
+    wanted: &[u8],
+) -> bool {
+    let mut out = Vec::new(alloc);
+    match act(rt, alloc, station, seat, text, &mut out) {
+        Some(()) => out.as_slice() == wanted,
+        None => false,
+    }
+}
+
 /// Sets a key and gets it, and tells whether both were answered as they should be.
 fn is_right<L: Ledger>(
     rt: &impl Wait,
@@ -22,31 +58,10 @@ fn is_right<L: Ledger>(
     station: &Station<L>,
     seat: &mut Seat<L>,
     row: &Row,
-) -> Option<bool> {
-    let mut out = Vec::new(alloc);
-    act(rt, alloc, station, seat, row.set, &mut out)?;
-    act(rt, alloc, station, seat, row.get, &mut out)?;
-    Some(out.as_slice() == row.told)
+) -> bool {
+    is_answered(rt, alloc, station, seat, row.set, b"STORED\r\n")
+        && is_answered(rt, alloc, station, seat, row.get, row.found)
 }
-
-/// A set, a get behind it, and what they are answered.
-struct Row {
-    set: &'static [u8],
-    get: &'static [u8],
-    told: &'static [u8],
-}
-
-const ONE: Row = Row {
-    set: b"set a 0 0 2\r\nhi\r\n",
-    get: b"get a\r\n",
-    told: b"STORED\r\nVALUE a 0 2\r\nhi\r\nEND\r\n",
-};
-
-const TWO: Row = Row {
-    set: b"set b 0 0 2\r\nyo\r\n",
-    get: b"get b\r\n",
-    told: b"STORED\r\nVALUE b 0 2\r\nyo\r\nEND\r\n",
-};
 
 /// Sets and gets a hundred times, and tells how often that was answered as it should be.
 fn work<L: Ledger>(
@@ -58,33 +73,78 @@ fn work<L: Ledger>(
 ) -> (Seat<L>, usize) {
     let mut right = 0usize;
     for _turn in 0..100 {
-        if is_right(rt, alloc, station, &mut seat, row) == Some(true) {
+        if is_right(rt, alloc, station, &mut seat, row) {
             right = right.saturating_add(1);
         }
     }
     (seat, right)
 }
 
-/// How many calls a seat keeps that forgot its calls and made two more.
-fn forget_and_act<L: Ledger>(
+/// What a seat's thread was told, and what the seat keeps of its calls: sets that stored, and gets that found.
+#[derive(Clone, Copy, Debug, PartialEq, Eq)]
+struct Told {
+    right: usize,
+    calls: usize,
+    sets: usize,
+    gets: usize,
+}
+
+fn is_set(call: &Call) -> bool {
+    matches!(
+        call,
+        Call {
+            event: Event::Command {
+                now: 100,
+                request: Request::Store { .. }
+            },
+            answer: Answer::Replied(Reply::Stored)
+        }
+    )
+}
+
+fn is_get(call: &Call) -> bool {
+    matches!(
+        call,
+        Call {
+            event: Event::Command {
+                now: 100,
+                request: Request::Fetch { .. }
+            },
+            answer: Answer::Replied(Reply::Values(_))
+        }
+    )
+}
+
+fn told_of<L: Ledger>(seat: &Seat<L>, right: usize) -> Told {
+    let calls = seat.calls();
+    Told {
+        right,
+        calls: calls.len(),
+        sets: calls.iter().filter(|call| is_set(call)).count(),
+        gets: calls.iter().filter(|call| is_get(call)).count(),
+    }
+}
+
+/// Lets go of a seat's calls and gets once more, and tells whether that was answered as it should be.
+fn forgets_and_gets<L: Ledger>(
     rt: &impl Wait,
     alloc: Global,
     station: &Station<L>,
     seat: &mut Seat<L>,
-) -> Option<usize> {
+    row: &Row,
+) -> bool {
     seat.forget();
-    is_right(rt, alloc, station, seat, &ONE)?;
-    Some(seat.calls().len())
+    is_answered(rt, alloc, station, seat, row.get, row.found)
 }
 
-/// How often two threads are answered right, how many calls their seats keep, how many the first keeps that forgot them and made
-/// two more; and the history.
+/// What two threads are told, of whose seats each may forget its calls at the end and get once more; and the history.
 fn day<L: Ledger + Send + Sync, R: Threads + Wait + Abort + Sync>(
     rt: &R,
     alloc: Global,
     blank: Blank,
     kept: Kept,
-) -> ([usize; 5], History)
+    forgetful: bool,
+) -> ([Told; 2], History)
     requires name { blank.name ≡ L.name }
     requires parts { blank.parts ≡ L.parts }
     requires two { blank.parts ≡ 2 }
@@ -103,37 +163,44 @@ fn day<L: Ledger + Send + Sync, R: Threads + Wait + Abort + Sync>(
         || -> (Seat<L>, usize) { work(rt, alloc, shared, two, &TWO) },
     );
     let (mut first, right) = one;
-    let (second, other_right) = two;
-    let (calls, other_calls) = (first.calls().len(), second.calls().len());
-    let last = forget_and_act(rt, alloc, &station, &mut first).expect(rt, "an answer");
-    let told = [right, other_right, calls, other_calls, last];
+    let (mut second, other_right) = two;
+    if forgetful {
+        assert!(rt; forgets_and_gets(rt, alloc, &station, &mut first, &ONE));
+        assert!(rt; forgets_and_gets(rt, alloc, &station, &mut second, &TWO));
+    }
+    let told = [told_of(&first, right), told_of(&second, other_right)];
     (told, closed(rt, alloc, station, first, second))
 }
 
-/// How many steps are requests at the moment 100.
-fn count_commands(history: &History) -> usize {
-    let mut count = 0usize;
-    for place in 0..history.steps.len() {
-        let event = history.steps.get(place).map(|step| &step.event);
-        if matches!(event, Some(Event::Command { now: 100, .. })) {
-            count = count.saturating_add(1);
-        }
-    }
-    count
-}
-
-/// What the threads are told, and how many steps there are and how many of them are requests.
+/// What the threads are told, and how many steps the history has.
 fn shared<R: Threads + Wait + Abort + RandomSource + Sync>(
     rt: &R,
     alloc: Global,
-) -> ([usize; 5], usize, usize) {
+    forgetful: bool,
+) -> ([Told; 2], usize) {
     let kept = opened(rt, alloc, 1, 1).expect(rt, "a site");
-    let (told, history) = day::<Brand, _>(rt, alloc, Blank::new(2), kept);
-    (told, history.steps.len(), count_commands(&history))
+    let (told, history) = day::<Brand, _>(rt, alloc, Blank::new(2), kept, forgetful);
+    (told, history.steps.len())
 }
 
 #[test]
 fn two_threads_are_told_what_the_history_has(rt: HostRuntime) {
-    let wanted = ([100, 100, 200, 200, 2], 402, 402);
-    assert_eq!(rt; shared(&rt, rt.alloc()), wanted);
+    let each = Told {
+        right: 100,
+        calls: 200,
+        sets: 100,
+        gets: 100,
+    };
+    assert_eq!(rt; shared(&rt, rt.alloc(), false), ([each, each], 400));
+}
+
+#[test]
+fn seats_that_forgot_their_calls_close_too(rt: HostRuntime) {
+    let each = Told {
+        right: 100,
+        calls: 1,
+        sets: 0,
+        gets: 1,
+    };
+    assert_eq!(rt; shared(&rt, rt.alloc(), true), ([each, each], 402));
 }
