@@ -64,11 +64,11 @@ fn both_frames(alloc: Global) -> Result<Vec<u8>, AllocError> {
 
 /// A reader that gives one byte a call.
 #[derive(Drop)]
-struct Dribble<'a> {
+struct Source<'a> {
     left: &'a [u8],
 }
 
-impl Read for Dribble<'_> {
+impl Read for Source<'_> {
     fn read(&mut self, buf: &mut [u8]) -> io::Result<usize> {
         let [byte, rest @ ..] = self.left else {
             return Ok(0);
@@ -185,7 +185,7 @@ fn dribbled<R: Wait>(
     frames: &[u8],
     out: &mut Vec<u8>,
 ) -> Result<Vec<u8>, Fail> {
-    let reader = Device::new(Dribble { left: frames });
+    let reader = Device::new(Source { left: frames });
     let writer = Device::new(Vec::new(alloc));
     let mut link = StreamLink::new(alloc, reader, writer)?;
     get(rt, alloc, &mut link, out)?;
