@@ -121,11 +121,20 @@ fn a_client_is_answered_and_counted(rt: HostRuntime) -> Result<(), Fail> {
     Ok(())
 }
 
-/// The first pass waits until a second has come.
+/// The first pass waits so many turns, of a millisecond each, until a second has come.
 #[derive(Drop)]
 struct Meeting {
+    turns: u64,
     passes: AtomicU64,
     missed: AtomicU64,
+}
+
+fn meeting_of(turns: u64) -> Meeting {
+    Meeting {
+        turns,
+        passes: AtomicU64::new(0),
+        missed: AtomicU64::new(0),
+    }
 }
 
 impl Gate for Meeting {
@@ -133,7 +142,7 @@ impl Gate for Meeting {
         if self.passes.fetch_add(1, Ordering::SeqCst) > 0 {
             return;
         }
-        for _turn in 0..10_000 {
+        for _turn in 0..self.turns {
             if self.passes.load(Ordering::SeqCst) > 1 {
                 return;
             }
@@ -171,7 +180,7 @@ fn two_read_version<
     )
 }
 
-/// Whether two clients of two workers are answered while neither waits for the other to leave, and what is told then.
+/// Whether two clients of so many workers are answered, and what is told then.
 fn two_clients<
     R: Net<Stream = TcpStream, Listener = TcpListener>
         + Threads
@@ -179,9 +188,9 @@ fn two_clients<
         + Clock
         + RandomSource
         + Sync,
->(rt: &R, alloc: Global, gate: &Meeting) -> Option<((bool, bool), Vec<u8>)> {
+>(rt: &R, alloc: Global, workers: usize, gate: &Meeting) -> Option<((bool, bool), Vec<u8>)> {
     let port = free_port(rt)?;
-    let text = one_site(alloc, port, 2, 2)?;
+    let text = one_site(alloc, port, workers, 2)?;
     let (told, are_answered) = join(
         rt,
         || -> Option<Vec<u8>> { run(rt, alloc, text.as_str(), gate) },
@@ -190,21 +199,26 @@ fn two_clients<
     Some((are_answered, told?))
 }
 
+const TWO_SESSIONS: &[u8] = b"sessions 2\nrequests 4\nfaults 0\nrounds ";
+
 #[test]
 fn two_workers_serve_two_clients_at_once(rt: HostRuntime) -> Result<(), Fail> {
-    let gate = Meeting {
-        passes: AtomicU64::new(0),
-        missed: AtomicU64::new(0),
-    };
-    let (are_answered, told) = two_clients(&rt, rt.alloc(), &gate).ok_or("no end")?;
+    let gate = meeting_of(10_000);
+    let (are_answered, told) = two_clients(&rt, rt.alloc(), 2, &gate).ok_or("no end")?;
     assert_eq!(rt; are_answered, (true, true));
-    assert!(rt;
-        tells(
-            told.as_slice(),
-            b"sessions 2\nrequests 4\nfaults 0\nrounds "
-        )
-    );
+    assert!(rt; tells(told.as_slice(), TWO_SESSIONS));
     assert_eq!(rt; gate.missed.load(Ordering::SeqCst), 0);
+    Ok(())
+}
+
+// What holds up a worker holds up all of its connections. So a server in which one thread serves both clients is found by the gate.
+#[test]
+fn one_worker_alone_does_not_serve_two_at_once(rt: HostRuntime) -> Result<(), Fail> {
+    let gate = meeting_of(2_000);
+    let (are_answered, told) = two_clients(&rt, rt.alloc(), 1, &gate).ok_or("no end")?;
+    assert_eq!(rt; are_answered, (true, true));
+    assert!(rt; tells(told.as_slice(), TWO_SESSIONS));
+    assert_eq!(rt; gate.missed.load(Ordering::SeqCst), 1);
     Ok(())
 }
 
