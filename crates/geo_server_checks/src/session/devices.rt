@@ -87,12 +87,12 @@ fn writes_the_answers_to_one_read_at_once(rt: HostRuntime) -> Result<(), Fail> {
 
 /// A client that asks for the version, and asks again only once it has read so many answers as it has asked.
 #[derive(Drop)]
-struct Patient<'a> {
+struct PatientSource<'a> {
     asked: u64,
     read: &'a AtomicU64,
 }
 
-impl Read for Patient<'_> {
+impl Read for PatientSource<'_> {
     fn read(&mut self, buf: &mut [u8]) -> IoResult<usize> {
         // An answer has four bytes.
         if self.read.load(Ordering::SeqCst) != self.asked.wrapping_mul(4) {
@@ -111,13 +111,13 @@ impl Read for Patient<'_> {
 
 /// What such a client reads; and which answers had passed a gate when it was first asked to write.
 #[derive(Drop)]
-struct Ear<'a> {
+struct ListeningSink<'a> {
     read: &'a AtomicU64,
     passed: &'a AtomicU64,
     seen: u64,
 }
 
-impl Write for Ear<'_> {
+impl Write for ListeningSink<'_> {
     fn write(&mut self, buf: &[u8]) -> IoResult<usize> {
         if self.seen == 0 {
             self.seen = self.passed.load(Ordering::SeqCst);
@@ -142,7 +142,7 @@ fn heard<R: Wait + Clock, I: Read + Drop>(
         numbers: AtomicU64::new(0),
     };
     let mut reader = Device::new(reader);
-    let mut writer = Device::new(Ear {
+    let mut writer = Device::new(ListeningSink {
         read,
         passed: &gate.numbers,
         seen: 0,
@@ -158,7 +158,7 @@ fn heard<R: Wait + Clock, I: Read + Drop>(
 #[test]
 fn answers_before_it_reads_on(rt: HostRuntime) {
     let read = AtomicU64::new(0);
-    let patient = Patient {
+    let patient = PatientSource {
         asked: 0,
         read: &read,
     };
