@@ -6,6 +6,8 @@
 #[cfg(test)]
 mod script;
 #[cfg(test)]
+mod sends;
+#[cfg(test)]
 mod site;
 #[cfg(test)]
 mod world;
