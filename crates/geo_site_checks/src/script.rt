@@ -115,12 +115,12 @@ fn reads_the_options(rt: HostRuntime) -> Result<(), Fail> {
 
 /// A reader that gives one piece a read, and fails after them.
 #[derive(Drop)]
-struct Broken {
+struct Source {
     pieces: &'static [&'static [u8]],
     given: usize,
 }
 
-impl Read for Broken {
+impl Read for Source {
     fn read(&mut self, buf: &mut [u8]) -> IoResult<usize> {
         if self.given >= self.pieces.len() {
             return Err(Error::from(ErrorKind::Other));
@@ -138,12 +138,12 @@ impl Read for Broken {
 
 /// A writer that takes so many writes, and fails after them.
 #[derive(Drop)]
-struct Full {
+struct Sink {
     taken: Vec<u8>,
     writes: u8,
 }
 
-impl Write for Full {
+impl Write for Sink {
     fn write(&mut self, buf: &[u8]) -> IoResult<usize> {
         if self.writes == 0 {
             return Err(Error::from(ErrorKind::Other));
@@ -160,7 +160,7 @@ impl Write for Full {
 
 #[test]
 fn ends_where_reading_fails(rt: HostRuntime) -> Result<(), Fail> {
-    let mut reader = Device::new(Broken {
+    let mut reader = Device::new(Source {
         pieces: &[b"sites 2\n", b"send 1 2\nsend 1", b" 2\nsend"],
         given: 0,
     });
@@ -194,11 +194,11 @@ fn carries_out_a_line_that_two_reads_bring(rt: HostRuntime) -> Result<(), Fail> 
 
 #[test]
 fn ends_where_writing_fails(rt: HostRuntime) -> Result<(), Fail> {
-    let mut reader = Device::new(Broken {
+    let mut reader = Device::new(Source {
         pieces: &[b"sites 2\nsend 1 2\n", b"send 1 2\n", b"send 1 2\n"],
         given: 0,
     });
-    let mut writer = Device::new(Full {
+    let mut writer = Device::new(Sink {
         taken: Vec::new(rt.alloc()),
         writes: 1,
     });
@@ -206,7 +206,7 @@ fn ends_where_writing_fails(rt: HostRuntime) -> Result<(), Fail> {
     assert_eq!(rt; outcome, Err(ScriptFault::Write));
     assert!(rt; !reader.failed());
     assert!(rt; writer.failed());
-    let Full { taken, writes: _ } = writer.into_inner();
+    let Sink { taken, writes: _ } = writer.into_inner();
     assert_eq!(rt; taken.as_slice(), b"parcel 0\n".as_slice());
     Ok(())
 }

@@ -7,20 +7,20 @@ use std::alloc::{AllocError, Global};
 use std::io;
 use std::test::Fail;
 
-/// What answers each call as it is told to: by so many bytes, or by an error.
+/// What a device is told to answer to each call: so many bytes, or an error.
 #[derive(Drop)]
-struct Told<'a> {
-    calls: &'a [Option<usize>],
+struct Calls<'a> {
+    left: &'a [Option<usize>],
 }
 
-impl Told<'_> {
-    fn call(&mut self, room: usize) -> io::Result<usize>
+impl Calls<'_> {
+    fn next(&mut self, room: usize) -> io::Result<usize>
         ensures { IfOk result (λ n. n ≤ room) }
     {
-        let [call, calls @ ..] = self.calls else {
+        let [call, left @ ..] = self.left else {
             return Ok(0);
         };
-        self.calls = calls;
+        self.left = left;
         match call {
             Some(count) => Ok(room.min(*count)),
             None => Err(io::Error::other("told to fail")),
@@ -28,15 +28,25 @@ impl Told<'_> {
     }
 }
 
-impl io::Read for Told<'_> {
+#[derive(Drop)]
+struct Source<'a> {
+    calls: Calls<'a>,
+}
+
+impl io::Read for Source<'_> {
     fn read(&mut self, buf: &mut [u8]) -> io::Result<usize> {
-        self.call(buf.len())
+        self.calls.next(buf.len())
     }
 }
 
-impl io::Write for Told<'_> {
+#[derive(Drop)]
+struct Sink<'a> {
+    calls: Calls<'a>,
+}
+
+impl io::Write for Sink<'_> {
     fn write(&mut self, buf: &[u8]) -> io::Result<usize> {
-        self.call(buf.len())
+        self.calls.next(buf.len())
     }
 
     fn flush(&mut self) -> io::Result<()> {
@@ -54,9 +64,10 @@ fn push_call(out: &mut Vec<u8>, count: Option<usize>, failed: bool) -> Result<()
 }
 
 fn push_reads(out: &mut Vec<u8>) -> Result<(), AllocError> {
-    let mut reader = Device::new(Told {
-        calls: &[Some(1), Some(0), None, Some(1)],
-    });
+    let calls = Calls {
+        left: &[Some(1), Some(0), None, Some(1)],
+    };
+    let mut reader = Device::new(Source { calls });
     let mut buf = [0; 4];
     for _ in 0..4 {
         let count = reader.read(&mut buf).ok();
@@ -66,13 +77,14 @@ fn push_reads(out: &mut Vec<u8>) -> Result<(), AllocError> {
 }
 
 /// Three writes, and how many calls are left.
-fn push_writes(out: &mut Vec<u8>, calls: &[Option<usize>]) -> Result<(), AllocError> {
-    let mut writer = Device::new(Told { calls });
+fn push_writes(out: &mut Vec<u8>, left: &[Option<usize>]) -> Result<(), AllocError> {
+    let calls = Calls { left };
+    let mut writer = Device::new(Sink { calls });
     for _ in 0..3 {
         let count = writer.write(b"hi").ok();
         push_call(out, count, writer.failed())?;
     }
-    push_number(out, writer.into_inner().calls.len() as u64)
+    push_number(out, writer.into_inner().calls.left.len() as u64)
 }
 
 #[test]
