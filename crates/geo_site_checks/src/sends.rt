@@ -17,7 +17,7 @@ const FEW: usize = 30;
 const MANY: usize = 30_000;
 
 /// How many times as long a send may take where there are a thousand times as many records.
-const MOST_RATIO: u32 = 20;
+const MOST_RATIO: u128 = 20;
 
 /// One site of three.
 fn opened(alloc: Global, hasher: &RandomState, site: u8) -> Result<Site, Fail> {
@@ -123,8 +123,9 @@ fn a_send_behind_a_change_passes_over_no_other_records(rt: HostRuntime) -> Resul
     let hasher = RandomState::new(&rt)?;
     let few = times(&rt, rt.alloc(), &hasher, FEW)?;
     let many = times(&rt, rt.alloc(), &hasher, MANY)?;
-    let (own, taken) = (few.0 * MOST_RATIO, few.1 * MOST_RATIO);
-    assert!(rt; many.0 < own, "{:?} and {:?}", few.0, many.0);
-    assert!(rt; many.1 < taken, "{:?} and {:?}", few.1, many.1);
+    let own = few.0.as_nanos().saturating_mul(MOST_RATIO);
+    let taken = few.1.as_nanos().saturating_mul(MOST_RATIO);
+    assert!(rt; many.0.as_nanos() < own, "{:?} and {:?}", few.0, many.0);
+    assert!(rt; many.1.as_nanos() < taken, "{:?} and {:?}", few.1, many.1);
     Ok(())
 }
