@@ -1,75 +1,13 @@
 //! Links over readers and writers that fail.
-ghost use Rattle.std.specs.Prelude.{◌≡◌, IfOk, false};
-
-use crate::lines::word;
-use crate::scene::Stop;
 use geo_delta::Parcel;
 use geo_frame::{encode, fits};
-use geo_grammar::Device;
 use geo_lattice::Items;
 use geo_link::{Link, LinkError, StreamLink};
+use geo_scenes::texts::word;
+use geo_scenes::{Fused, Stop};
 use geo_stamp::Vector;
 use std::alloc::{AllocError, Global};
-use std::io::{Error, ErrorKind, Read, Result as IoResult, Write};
 use std::sync::Wait;
-
-/// A reader of bytes, or a writer, that moves 20 bytes a call, passes so many calls and fails the next.
-#[derive(Drop)]
-struct Fused {
-    bytes: Vec<u8>,
-    /// How many bytes were moved.
-    moved: usize,
-    calls: usize,
-}
-
-const PIECE: usize = 20;
-
-impl Fused {
-    /// How many of so many bytes the next call moves.
-    fn call(&mut self, count: usize) -> IoResult<usize> {
-        if self.calls == 0 {
-            return Err(Error::from(ErrorKind::Other));
-        }
-        self.calls = self.calls.saturating_sub(1);
-        Ok(count.min(PIECE))
-    }
-}
-
-impl Read for Fused {
-    fn read(&mut self, buf: &mut [u8]) -> IoResult<usize> {
-        let most = self.call(buf.len())?.min(buf.len());
-        let (_, left) = self.bytes.split_at(self.moved.min(self.bytes.len()));
-        let count = most.min(left.len());
-        let (piece, _) = left.split_at(count);
-        let (front, _) = buf.split_at_mut(count);
-        front.copy_from_slice(piece);
-        self.moved = self.moved.saturating_add(count);
-        Ok(count)
-    }
-}
-
-impl Write for Fused {
-    fn write(&mut self, buf: &[u8]) -> IoResult<usize> {
-        let count = self.call(buf.len())?.min(buf.len());
-        self.moved = self.moved.saturating_add(count);
-        Ok(count)
-    }
-
-    fn flush(&mut self) -> IoResult<()> {
-        Ok(())
-    }
-}
-
-/// A reader of these bytes, or a writer, that passes so many calls.
-fn device_of(alloc: Global, bytes: &[u8], calls: usize) -> Result<Device<Fused>, AllocError>
-    ensures { IfOk result (λ device. device.failed ≡ false) }
-{
-    Ok(Device::new(Fused {
-        bytes: Vec::from_slice(alloc, bytes)?,
-        moved: 0,
-        calls,
-    }))
-}
 
 /// A link that reads these bytes, whose devices pass so many calls each.
 fn link_over(
@@ -78,8 +16,8 @@ fn link_over(
     reads: usize,
     writes: usize,
 ) -> Result<StreamLink<Fused, Fused>, AllocError> {
-    let reader = device_of(alloc, bytes, reads)?;
-    let writer = device_of(alloc, b"", writes)?;
+    let reader = Fused::reader(alloc, bytes, reads)?;
+    let writer = Fused::writer(alloc, 200, writes)?;
     StreamLink::new(alloc, reader, writer)
 }
 

@@ -1,7 +1,8 @@
 //! Frames of which a bit or a field is another, or whose end is missing, and what is told of each.
-use crate::lines::{Line, Sites, frame_of, word};
-use crate::scene::{Scene, Stop};
+use crate::lines::{Line, Sites, frame_of};
 use geo_frame::{FrameFault, decode};
+use geo_scenes::texts::word;
+use geo_scenes::{Scene, Stop};
 use geo_versions::Digest;
 use std::alloc::{AllocError, Global};
 use std::random::RandomSource;
@@ -125,10 +126,16 @@ fn made<R: Wait + Clock>(rt: &R, alloc: Global, sites: &mut Sites) -> Result<(),
 }
 
 /// Tells what comes of a parcel's frame that is spoiled in each way, and that the sites are what they were.
-fn spoil(alloc: Global, sites: &mut Sites, number: usize, out: &mut Vec<u8>) -> Result<(), Stop> {
+fn spoil<R: Wait>(
+    rt: &R,
+    alloc: Global,
+    sites: &mut Sites,
+    number: usize,
+    out: &mut Vec<u8>,
+) -> Result<(), Stop> {
     let mut before = Vec::new(alloc);
     let mut after = Vec::new(alloc);
-    sites.show(alloc, &mut before)?;
+    sites.show(rt, alloc, &mut before)?;
     let mut frame = frame_at(alloc, sites, number)?;
     word(out, b"bytes ", frame.len() as u64)?;
     out.extend_from_slice(b"\n  flipped: ")?;
@@ -140,7 +147,7 @@ fn spoil(alloc: Global, sites: &mut Sites, number: usize, out: &mut Vec<u8>) -> 
     frame.push(0)?;
     counts.count(alloc, sites, frame.as_slice());
     counts.push(out)?;
-    sites.show(alloc, &mut after)?;
+    sites.show(rt, alloc, &mut after)?;
     if before.as_slice() != after.as_slice() {
         return Err(Stop::Wrong("the sites are not what they were"));
     }
@@ -179,7 +186,7 @@ fn spoil_each<R: Wait + Clock + RandomSource>(
     let mut sites = Sites::new(rt, alloc, 2, lines)?;
     made(rt, alloc, &mut sites)?;
     for number in numbers {
-        spoil(alloc, &mut sites, *number, out)?;
+        spoil(rt, alloc, &mut sites, *number, out)?;
     }
     Ok(())
 }

@@ -1,16 +1,18 @@
 //! Calls at sites that keep their history, a line each.
-use crate::scene::{Scene, Stop};
-use crate::shown::{name_of_take, push_number, push_parcel, push_state, push_steps, push_versions};
 use geo_delta::Parcel;
 use geo_equal::Equal;
 use geo_fixtures::opened;
 use geo_frame::{EncodeFault, FrameFault, decode, encode, fits};
-use geo_grammar::{Item, Reader, Request, ValueBytes, Verb, push_reply};
+use geo_grammar::{Request, ValueBytes, Verb, push_reply};
 use geo_history::{BoxedParcel, Kept};
 use geo_lattice::Twin;
+use geo_scenes::shown::{
+    name_of_take, push_number, push_parcel, push_state, push_steps, push_versions,
+};
+use geo_scenes::texts::{key, request, word};
+use geo_scenes::{Scene, Stop};
 use geo_site::{LAST_MOMENT, ReapError, SendError, TakeError};
 use geo_slabs::CLASSES;
-use geo_versions::Key;
 use std::alloc::{AllocError, Global};
 use std::random::RandomSource;
 use std::rt::Clock;
@@ -44,22 +46,6 @@ pub struct Sites {
     sites: Vec<Kept>,
     parcels: Vec<Parcel>,
     lines: &'static [Line],
-}
-
-/// The request that a text asks.
-pub fn request(alloc: Global, text: &[u8]) -> Result<Request, Stop> {
-    let mut items = Reader::new(alloc).feed(text)?;
-    match items.pop() {
-        Some(Item::Request(request)) => Ok(request),
-        _ => Err(Stop::Wrong("no request")),
-    }
-}
-
-pub fn key(alloc: Global, bytes: &[u8]) -> Result<Key, Stop> {
-    match Key::new(alloc, bytes)? {
-        Some(key) => Ok(key),
-        None => Err(Stop::Wrong("no key")),
-    }
 }
 
 fn store(alloc: Global, name: &[u8], count: usize) -> Result<Request, Stop> {
@@ -119,13 +105,6 @@ fn send(
     word(out, b"records ", parcel.records.as_slice().len() as u64)?;
     parcels.push(parcel)?;
     Ok(())
-}
-
-/// A word and a number.
-pub fn word(out: &mut Vec<u8>, name: &[u8], number: u64) -> Result<(), AllocError> {
-    out.extend_from_slice(name)?;
-    let mut digits = itoa::Buffer::new();
-    out.extend_from_slice(digits.format(number).as_bytes())
 }
 
 /// A parcel that memory was wanted for comes back whole.
@@ -403,7 +382,12 @@ impl Scene for Sites {
         }
     }
 
-    fn show(&self, alloc: Global, out: &mut Vec<u8>) -> Result<(), AllocError> {
+    fn show<R: Wait>(
+        &mut self,
+        _rt: &R,
+        alloc: Global,
+        out: &mut Vec<u8>,
+    ) -> Result<(), AllocError> {
         for kept in &self.sites {
             show_site(alloc, kept, out)?;
         }

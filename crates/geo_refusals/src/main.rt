@@ -4,38 +4,21 @@
 //! leave what it did the first time. So what is printed is the same whichever allocation is refused.
 #![tactic(auto)]
 
-mod course;
 mod devices;
 mod frames;
 mod lines;
 mod order;
 mod rows;
-mod scene;
-mod shown;
 
-use crate::course::Course;
 use crate::lines::{Line, Sites};
 use crate::order::Order;
-use crate::scene::{Scene, Stop};
+use geo_scenes::{Course, Stop, told};
 use std::alloc::Global;
 use std::io::{self, Input};
 use std::process::ExitCode;
 use std::random::RandomSource;
 use std::rt::Clock;
 use std::sync::Wait;
-
-/// Makes the calls of a scene, for the first time or the second.
-fn carry_out<S: Scene, R: Print + Wait + Clock>(
-    rt: &R,
-    alloc: Global,
-    scene: &mut S,
-    course: &mut Course,
-) -> io::Result<Result<(), Stop>> {
-    if course.is_recorded() {
-        return course.play(rt, alloc, scene);
-    }
-    Ok(course.record(rt, alloc, scene))
-}
 
 /// Makes calls at so many sites that know nothing.
 fn at_sites<R: Print + Wait + Clock + RandomSource>(
@@ -46,7 +29,7 @@ fn at_sites<R: Print + Wait + Clock + RandomSource>(
     course: &mut Course,
 ) -> io::Result<Result<(), Stop>> {
     match Sites::new(rt, alloc, count, lines) {
-        Ok(mut scene) => carry_out(rt, alloc, &mut scene, course),
+        Ok(mut scene) => course.carry_out(rt, alloc, &mut scene),
         Err(stop) => Ok(Err(stop)),
     }
 }
@@ -58,7 +41,7 @@ fn at_versions<R: Print + Wait + Clock + RandomSource>(
     course: &mut Course,
 ) -> io::Result<Result<(), Stop>> {
     match Order::new(rt, alloc) {
-        Ok(mut scene) => carry_out(rt, alloc, &mut scene, course),
+        Ok(mut scene) => course.carry_out(rt, alloc, &mut scene),
         Err(stop) => Ok(Err(stop)),
     }
 }
@@ -140,15 +123,6 @@ fn run_all<R: Print + Wait + Clock + RandomSource + Input + AllocGlobal>(
 }
 
 fn main(rt: HostRuntime) -> io::Result<ExitCode> {
-    match run_all(&rt)? {
-        Ok(()) => Ok(ExitCode::SUCCESS),
-        Err(Stop::Memory) => {
-            println!(rt; "out of memory")?;
-            Ok(ExitCode::from(3))
-        }
-        Err(Stop::Wrong(what)) => {
-            println!(rt; "WRONG: {what}")?;
-            Ok(ExitCode::from(1))
-        }
-    }
+    let stopped = run_all(&rt)?;
+    told(&rt, stopped)
 }

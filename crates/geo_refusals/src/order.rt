@@ -1,7 +1,9 @@
 //! Versions of which some are removed, so that others change places: what ended first is told whatever memory was refused meanwhile.
-use crate::lines::key;
-use crate::scene::{Scene, Stop};
-use crate::shown::{push_body_register, push_expiry_register, push_floor, push_key, push_number};
+use geo_scenes::shown::{
+    push_body_register, push_expiry_register, push_floor, push_key, push_number,
+};
+use geo_scenes::texts::key;
+use geo_scenes::{Scene, Stop};
 use geo_stamp::Stamp;
 use geo_versions::{Body, Digest, Key, Length, Versions};
 use std::alloc::{AllocError, Global};
@@ -198,7 +200,12 @@ impl Scene for Order {
         }
     }
 
-    fn show(&self, _alloc: Global, out: &mut Vec<u8>) -> Result<(), AllocError> {
+    fn show<R: Wait>(
+        &mut self,
+        _rt: &R,
+        _alloc: Global,
+        out: &mut Vec<u8>,
+    ) -> Result<(), AllocError> {
         push_number(out, self.versions.len() as u64)?;
         push_floor(out, &self.versions.floor())?;
         for key in &self.keys {

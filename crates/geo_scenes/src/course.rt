@@ -2,6 +2,7 @@
 use crate::scene::{Scene, Stop};
 use std::alloc::{AllocError, Global};
 use std::io;
+use std::process::ExitCode;
 use std::rt::Clock;
 use std::sync::Wait;
 
@@ -58,9 +59,9 @@ fn turn_of<S: Scene, R: Wait + Clock>(
     let mut answer = Vec::new(alloc);
     let mut left = Vec::new(alloc);
     scene.begin(place)?;
-    scene.show(alloc, &mut begun)?;
+    scene.show(rt, alloc, &mut begun)?;
     scene.call(rt, alloc, place, &mut answer)?;
-    scene.show(alloc, &mut left)?;
+    scene.show(rt, alloc, &mut left)?;
     let line = line_of(alloc, answer.as_slice())?;
     Ok(Turn {
         begun,
@@ -82,19 +83,14 @@ impl Course {
         })
     }
 
-    /// Whether the twin's calls are kept.
-    pub fn is_recorded(&self) -> bool {
-        !self.turns.is_empty()
-    }
-
     /// Makes all calls, with memory, and keeps what they answer and leave.
-    pub fn record<S: Scene, R: Wait + Clock>(
+    fn record<S: Scene, R: Wait + Clock>(
         &mut self,
         rt: &R,
         alloc: Global,
         scene: &mut S,
     ) -> Result<(), Stop> {
-        scene.show(alloc, &mut self.opening)?;
+        scene.show(rt, alloc, &mut self.opening)?;
         let mut most = self.opening.len();
         for place in 0..scene.count() {
             let turn = turn_of(rt, alloc, scene, place)?;
@@ -117,13 +113,18 @@ impl Course {
     }
 
     /// Writes down what stands. It is tried twice, since one allocation may be refused for it.
-    fn look<S: Scene>(&mut self, alloc: Global, scene: &S) -> Result<(), AllocError> {
+    fn look<S: Scene, R: Wait>(
+        &mut self,
+        rt: &R,
+        alloc: Global,
+        scene: &mut S,
+    ) -> Result<(), AllocError> {
         self.state.clear();
-        if scene.show(alloc, &mut self.state).is_ok() {
+        if scene.show(rt, alloc, &mut self.state).is_ok() {
             return Ok(());
         }
         self.state.clear();
-        scene.show(alloc, &mut self.state)
+        scene.show(rt, alloc, &mut self.state)
     }
 
     /// Whether that stands which stood before the call at a place.
@@ -140,15 +141,16 @@ impl Course {
     }
 
     /// Behind a call that wanted memory stands what stood before it, or a flush that was due was carried out.
-    fn compare_refused<S: Scene>(
+    fn compare_refused<S: Scene, R: Wait>(
         &mut self,
+        rt: &R,
         alloc: Global,
-        scene: &S,
+        scene: &mut S,
         place: usize,
         glance: u64,
     ) -> Result<(), Stop> {
         let is_glance = scene.glance() == glance;
-        self.look(alloc, scene)?;
+        self.look(rt, alloc, scene)?;
         let stands = if self.is_before(place) {
             is_glance
         } else {
@@ -161,13 +163,14 @@ impl Course {
     }
 
     /// A call that was made answers what the twin's did, and leaves what it left.
-    fn compare_done<S: Scene>(
+    fn compare_done<S: Scene, R: Wait>(
         &mut self,
+        rt: &R,
         alloc: Global,
-        scene: &S,
+        scene: &mut S,
         place: usize,
     ) -> Result<(), Stop> {
-        self.look(alloc, scene)?;
+        self.look(rt, alloc, scene)?;
         let Some(turn) = self.turns.get(place) else {
             return Err(Stop::Wrong("no such call"));
         };
@@ -192,8 +195,11 @@ impl Course {
             self.answer.clear();
             let glance = scene.glance();
             match scene.call(rt, alloc, place, &mut self.answer) {
-                Ok(()) => return self.compare_done(alloc, scene, place),
-                Err(Stop::Memory) => self.compare_refused(alloc, scene, place, glance)?,
+                Ok(()) => return self.compare_done(rt, alloc, scene, place),
+                Err(Stop::Memory) => {
+                    self.compare_refused(rt, alloc, scene, place, glance)?;
+                }
+                Err(Stop::Part) => {}
                 Err(wrong) => return Err(wrong),
             }
         }
@@ -202,7 +208,7 @@ impl Course {
 
     /// Makes the calls anew at an equal scene, of whose allocations one may be refused, or all from one on, and prints what is
     /// answered. The first line printed is the name, and nothing is refused before it.
-    pub fn play<S: Scene, R: Wait + Clock + Print>(
+    fn play<S: Scene, R: Wait + Clock + Print>(
         &mut self,
         rt: &R,
         alloc: Global,
@@ -218,5 +224,33 @@ impl Course {
             }
         }
         Ok(Ok(()))
+    }
+
+    /// Makes the calls of a scene: for the first time and with memory, or anew at an equal scene.
+    pub fn carry_out<S: Scene, R: Wait + Clock + Print>(
+        &mut self,
+        rt: &R,
+        alloc: Global,
+        scene: &mut S,
+    ) -> io::Result<Result<(), Stop>> {
+        if self.turns.is_empty() {
+            return Ok(self.record(rt, alloc, scene));
+        }
+        self.play(rt, alloc, scene)
+    }
+}
+
+/// Prints why calls stopped, where they did, and tells the status of a program that made them.
+pub fn told<R: Print>(rt: &R, stopped: Result<(), Stop>) -> io::Result<ExitCode> {
+    match stopped {
+        Ok(()) => Ok(ExitCode::SUCCESS),
+        Err(Stop::Memory | Stop::Part) => {
+            println!(rt; "out of memory")?;
+            Ok(ExitCode::from(3))
+        }
+        Err(Stop::Wrong(what)) => {
+            println!(rt; "WRONG: {what}")?;
+            Ok(ExitCode::from(1))
+        }
     }
 }

@@ -8,6 +8,8 @@ use std::sync::Wait;
 pub enum Stop {
     /// It told that memory was wanted.
     Memory,
+    /// It told that memory was wanted for the rest: what it did before stands, and made again it does the rest.
+    Part,
     /// It did what no call of its kind may do.
     Wrong(&'static str),
 }
@@ -41,8 +43,9 @@ pub trait Scene {
         out: &mut Vec<u8>,
     ) -> Result<(), Stop>;
 
-    /// Writes all that can be seen of what the calls have left.
-    fn show(&self, alloc: Global, out: &mut Vec<u8>) -> Result<(), AllocError>;
+    /// Writes all that can be seen of what the calls have left. What they have left stays; how it is looked at may change.
+    fn show<R: Wait>(&mut self, rt: &R, alloc: Global, out: &mut Vec<u8>)
+    -> Result<(), AllocError>;
 
     /// A number that changes with most of it. It takes no memory.
     fn glance(&self) -> u64;

@@ -9,10 +9,12 @@ use geo_stamp::{Acks, Stamp, Vector};
 use geo_versions::{Body, Digest, Key, Rec, Version};
 use std::alloc::AllocError;
 
+/// A number, in as many bytes as any other.
 pub fn push_number(out: &mut Vec<u8>, number: u64) -> Result<(), AllocError> {
     out.extend_from_slice(number.to_be_bytes().as_slice())
 }
 
+/// A key behind its length.
 pub fn push_key(out: &mut Vec<u8>, key: &Key) -> Result<(), AllocError> {
     push_number(out, key.bytes().len() as u64)?;
     out.extend_from_slice(key.bytes())
@@ -22,6 +24,7 @@ fn push_stamp(out: &mut Vec<u8>, stamp: &Stamp) -> Result<(), AllocError> {
     push_number(out, stamp.cas())
 }
 
+/// A floor, or that there is none.
 pub fn push_floor(out: &mut Vec<u8>, floor: &Option<Stamp>) -> Result<(), AllocError> {
     match floor {
         Some(stamp) => push_stamp(out, stamp),
@@ -33,6 +36,7 @@ fn push_digest(out: &mut Vec<u8>, digest: &Digest) -> Result<(), AllocError> {
     out.extend_from_slice(digest.bytes().as_slice())
 }
 
+/// A vector, with the number of its sites.
 pub fn push_vector(out: &mut Vec<u8>, vector: &Vector) -> Result<(), AllocError> {
     push_number(out, vector.sites() as u64)?;
     for site in 1..17u8 {
@@ -64,6 +68,7 @@ fn push_body(out: &mut Vec<u8>, body: &Body) -> Result<(), AllocError> {
     }
 }
 
+/// A register of what a key holds.
 pub fn push_body_register(
     out: &mut Vec<u8>,
     register: &Lww<Stamp, Body>,
@@ -77,6 +82,7 @@ pub fn push_body_register(
     }
 }
 
+/// A register of when it ends.
 pub fn push_expiry_register(
     out: &mut Vec<u8>,
     register: &Lww<Stamp, u64>,
@@ -123,6 +129,7 @@ pub fn push_state(out: &mut Vec<u8>, state: &SiteState) -> Result<(), AllocError
     push_number(out, state.evictions)
 }
 
+/// Versions with their keys.
 pub fn push_versions(out: &mut Vec<u8>, versions: &[(Key, Version)]) -> Result<(), AllocError> {
     push_number(out, versions.len() as u64)?;
     for (key, version) in versions {
@@ -147,7 +154,8 @@ pub fn push_parcel(out: &mut Vec<u8>, parcel: &Parcel) -> Result<(), AllocError>
     push_records(out, parcel.records.as_slice())
 }
 
-fn push_event(out: &mut Vec<u8>, event: &Event) -> Result<(), AllocError> {
+/// What was asked. A request is left out but for its moment: its answer tells of it.
+pub fn push_event(out: &mut Vec<u8>, event: &Event) -> Result<(), AllocError> {
     match event {
         Event::Command { now, .. } => {
             push_number(out, 1)?;
@@ -185,6 +193,7 @@ fn name_of_send(why: SendError) -> &'static [u8] {
     }
 }
 
+/// Why a parcel was not taken, in words.
 pub fn name_of_take(why: TakeError) -> &'static [u8] {
     match why {
         TakeError::NotForMe => b"not for me",
@@ -201,7 +210,8 @@ fn name_of_reap(why: ReapError) -> &'static [u8] {
     }
 }
 
-fn push_answer(out: &mut Vec<u8>, answer: &Answer) -> Result<(), AllocError> {
+/// What was answered.
+pub fn push_answer(out: &mut Vec<u8>, answer: &Answer) -> Result<(), AllocError> {
     match answer {
         Answer::Replied(reply) => push_reply(out, reply),
         Answer::Sent(parcel) => push_parcel(out, parcel.parcel()),
@@ -230,9 +240,14 @@ fn push_beside(out: &mut Vec<u8>, step: &Step) -> Result<(), AllocError> {
     Ok(())
 }
 
-/// The steps of a history, with their answers.
+/// The steps of a history, with their answers, and how many they are.
 pub fn push_steps(out: &mut Vec<u8>, steps: &Chunks<Step>) -> Result<(), AllocError> {
     push_number(out, steps.len() as u64)?;
+    push_each_step(out, steps)
+}
+
+/// The steps of a history, with their answers.
+pub fn push_each_step(out: &mut Vec<u8>, steps: &Chunks<Step>) -> Result<(), AllocError> {
     for place in 0..steps.len() {
         if let Some(step) = steps.get(place) {
             push_number(out, step.seat as u64)?;

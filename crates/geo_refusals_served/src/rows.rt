@@ -1,0 +1,72 @@
+//! The calls of the scenes at a station.
+use crate::stations::Line;
+
+/// Each kind of call by two seats, while a second site writes the same key and hears of all.
+pub const STATION: &[Line] = &[
+    Line::Act(0, 100, b"set a 0 0 2\r\nhi\r\n"),
+    Line::Beside(b"set a 0 0 2\r\nyo\r\n"),
+    Line::Send(0, 2),
+    Line::Back,
+    Line::Take(1, 1),
+    Line::Act(1, 100, b"get a\r\n"),
+    Line::Act(0, 100, b"set n 0 0 1\r\n5\r\n"),
+    Line::Act(1, 100, b"incr n 7\r\n"),
+    Line::Act(0, 100, b"append n 0 0 1\r\n3\r\n"),
+    Line::Act(0, 100, b"get n a\r\n"),
+    Line::Act(1, 100, b"gats 50 n\r\n"),
+    Line::Send(1, 1),
+    Line::Send(0, 2),
+    Line::Forth(0),
+    Line::Forth(2),
+    Line::Act(0, 100, b"delete n\r\n"),
+    Line::Send(1, 2),
+    Line::Forth(3),
+    Line::Back,
+    Line::Take(0, 4),
+    Line::Take(1, 4),
+    Line::Take(1, 0),
+    Line::Close,
+];
+
+/// The history of one era that is handed out at the end is what the seats keep, or an end of it.
+pub const CLOSING: &[Line] = &[
+    Line::Act(0, 100, b"set a 0 0 2\r\nhi\r\n"),
+    Line::Act(1, 100, b"incr n 1\r\n"),
+    Line::Send(1, 2),
+    Line::Beside(b"set b 0 0 2\r\nyo\r\n"),
+    Line::Back,
+    Line::Take(0, 1),
+    Line::Act(1, 100, b"get a b\r\n"),
+    Line::Act(0, 100, b"replace a 0 0 3\r\nyes\r\n"),
+    Line::Forget(1),
+    Line::Act(1, 100, b"get a\r\n"),
+    Line::Close,
+];
+
+/// An era begins behind three steps, and not again behind two more.
+pub const ERAS: &[Line] = &[
+    Line::Act(0, 100, b"set a 0 0 2\r\nhi\r\n"),
+    Line::Act(1, 100, b"get a\r\n"),
+    Line::Send(0, 2),
+    Line::Renew(4),
+    Line::Renew(3),
+    Line::Act(0, 100, b"get b\r\n"),
+    Line::Act(1, 100, b"delete a\r\n"),
+    Line::Renew(3),
+    Line::Forget(0),
+    Line::Act(0, 100, b"gets a\r\n"),
+    Line::Close,
+];
+
+/// What ended is reaped and dropped with what was deleted, a flush comes at its moment, and items move in their lists.
+pub const MAINTENANCE: &[Line] = &[
+    Line::Act(0, 100, b"set a 0 50 2\r\nhi\r\n"),
+    Line::Act(0, 100, b"set b 0 60 2\r\nyo\r\n"),
+    Line::Act(1, 100, b"set c 0 0 2\r\nok\r\n"),
+    Line::Act(1, 100, b"delete c\r\n"),
+    Line::Act(1, 100, b"flush_all 150\r\n"),
+    Line::Maintain(1, 211),
+    Line::Maintain(0, 250),
+    Line::Act(0, 300, b"set d 0 0 1\r\nz\r\n"),
+    Line::Maintain(1, 300),
+];
