@@ -3,13 +3,22 @@
 //! `tests/memory` refuses allocations. What is printed is the same whichever is refused.
 #![tactic(auto)]
 
+mod audits;
+mod links;
+mod rounds;
 mod rows;
 mod sessions;
+mod settings;
 mod stations;
+mod worlds;
 
+use crate::audits::Audits;
+use crate::links::{Ends, Wire};
 use crate::sessions::{Clients, Way};
+use crate::settings::Settings;
 use crate::stations::Sight;
-use geo_scenes::{Course, Stop, told};
+use crate::worlds::{Globe, Schedule};
+use geo_scenes::{Course, Scene, Stop, told};
 use std::alloc::Global;
 use std::io::{self, Input};
 use std::process::ExitCode;
@@ -17,14 +26,14 @@ use std::random::RandomSource;
 use std::rt::Clock;
 use std::sync::Wait;
 
-/// Has clients of a site ask.
-fn by_clients<R: Print + Wait + Clock + RandomSource>(
+/// Makes the calls of a scene, if it could be made.
+fn of<S: Scene + Drop, R: Print + Wait + Clock>(
     rt: &R,
     alloc: Global,
-    way: Way,
+    made: Result<S, Stop>,
     course: &mut Course,
 ) -> io::Result<Result<(), Stop>> {
-    match Clients::new(rt, alloc, way) {
+    match made {
         Ok(mut scene) => course.carry_out(rt, alloc, &mut scene),
         Err(stop) => Ok(Err(stop)),
     }
@@ -42,8 +51,15 @@ fn run<R: Print + Wait + Clock + RandomSource>(
         "closing" => stations::run(rt, alloc, 2, rows::CLOSING, Sight::Calls, course),
         "eras" => stations::run(rt, alloc, 2, rows::ERAS, Sight::Calls, course),
         "maintenance" => stations::run(rt, alloc, 1, rows::MAINTENANCE, Sight::State, course),
-        "sessions" => by_clients(rt, alloc, Way::Handed, course),
-        "serving" => by_clients(rt, alloc, Way::Served, course),
+        "rounds" => stations::run(rt, alloc, 3, rows::ROUNDS, Sight::State, course),
+        "sessions" => of(rt, alloc, Clients::new(rt, alloc, Way::Handed), course),
+        "serving" => of(rt, alloc, Clients::new(rt, alloc, Way::Served), course),
+        "ends" => of(rt, alloc, Ends::new(rt, alloc), course),
+        "wire" => of(rt, alloc, Wire::new(rt, alloc), course),
+        "world" => of(rt, alloc, Globe::new(rt, alloc), course),
+        "schedule" => of(rt, alloc, Schedule::new(rt, alloc), course),
+        "audits" => of(rt, alloc, Audits::new(rt, alloc), course),
+        "settings" => of(rt, alloc, Ok(Settings::new()), course),
         _ => Ok(Err(Stop::Wrong("no such scene"))),
     }
 }

@@ -70,3 +70,19 @@ pub const MAINTENANCE: &[Line] = &[
     Line::Act(0, 300, b"set d 0 0 1\r\nz\r\n"),
     Line::Maintain(1, 300),
 ];
+
+/// Two rounds to two sites, and what one of them tells in between.
+pub const ROUNDS: &[Line] = &[
+    Line::Act(0, 100, b"set a 0 0 2\r\nhi\r\n"),
+    Line::Beside(b"set a 0 0 2\r\nyo\r\n"),
+    Line::Round(0),
+    Line::Forth(0),
+    Line::Back,
+    Line::Beside(b"set b 0 0 2\r\nyo\r\n"),
+    Line::Back,
+    Line::Receive(1, 2),
+    Line::Act(0, 100, b"get a b\r\n"),
+    Line::Act(0, 100, b"delete a\r\n"),
+    Line::Round(0),
+    Line::Forth(4),
+];

@@ -3,6 +3,7 @@ ghost use Rattle.std.specs.Prelude.{◌≡◌, ℕ, []};
 ghost use Rattle.geo_history.specs.Keeping.{opened_with};
 ghost use Rattle.geo_history.specs.Stories.{story_in};
 
+use crate::rounds::{hear_all, tell_all};
 use geo_delta::Parcel;
 use geo_equal::Equal;
 use geo_fixtures::{opened, setup_of};
@@ -48,16 +49,21 @@ pub enum Line {
     Back,
     /// The second site takes the parcel of this number.
     Forth(usize),
+    /// A round to sites 2 and 3.
+    Round(usize),
+    /// The parcels from this number on come over a link.
+    Receive(usize, usize),
 }
 
 /// What is seen of a station.
 #[derive(Clone, Copy)]
 pub enum Sight {
-    /// The calls that its seats keep alone, and the histories that it handed out.
+    /// The calls that its seats keep, and the histories that it handed out.
     Calls,
-    /// What its site is, too. A station shows it where it begins an era.
+    /// What its site is, which a station shows where it begins an era. How many steps were made is left out, for calls that go on where
+    /// memory was wanted make some of them again.
     State,
-    /// The steps, too.
+    /// What its site is, the steps, and the calls that its seats keep.
     Steps,
 }
 
@@ -331,6 +337,13 @@ fn push_calls<L: Ledger>(out: &mut Vec<u8>, seat: &Seat<L>) -> Result<(), AllocE
     Ok(())
 }
 
+fn push_all_calls<L: Ledger>(out: &mut Vec<u8>, seats: &Vec<Seat<L>>) -> Result<(), AllocError> {
+    for seat in seats {
+        push_calls(out, seat)?;
+    }
+    Ok(())
+}
+
 /// What a site was where a history begins.
 fn push_opening(out: &mut Vec<u8>, history: &History) -> Result<(), AllocError> {
     push_state(out, &history.opening.state)
@@ -385,6 +398,13 @@ impl<L: Ledger> Post<L> {
             }
             Line::Maintain(seat, now) => {
                 maintain(rt, alloc, station, seat_of(seats, seat)?, now, done, out)
+            }
+            Line::Round(seat) => {
+                tell_all(rt, alloc, station, seat_of(seats, seat)?, parcels, out)
+            }
+            Line::Receive(seat, first) => {
+                let (_, coming) = parcels.as_slice().split_at(first.min(parcels.len()));
+                hear_all(rt, alloc, station, seat_of(seats, seat)?, coming, out)
             }
             _ => Err(Stop::Wrong("another call")),
         }
@@ -467,8 +487,8 @@ impl<L: Ledger> Scene for Post<L> {
         alloc: Global,
         out: &mut Vec<u8>,
     ) -> Result<(), AllocError> {
-        for seat in &self.seats {
-            push_calls(out, seat)?;
+        if !matches!(self.sight, Sight::State) {
+            push_all_calls(out, &self.seats)?;
         }
         for parcel in &self.parcels {
             push_parcel(out, parcel)?;
@@ -486,6 +506,9 @@ impl<L: Ledger> Scene for Post<L> {
     fn glance(&self) -> u64 {
         let mut sum = self.parcels.len() as u64;
         sum = sum.wrapping_mul(31).wrapping_add(self.beside.records() as u64);
+        if matches!(self.sight, Sight::State) {
+            return sum;
+        }
         for seat in &self.seats {
             sum = sum.wrapping_mul(31).wrapping_add(seat.calls().len() as u64);
         }
@@ -563,9 +586,9 @@ fn run_named<L: Ledger, R: Print + Wait + Clock>(
     }
 }
 
-/// A site of two, or of one, beside the station's.
-fn second_site<R: RandomSource>(rt: &R, alloc: Global) -> Option<Site> {
-    Site::new(alloc, setup_of(rt, 2, 2)?).ok()
+/// The second of so many sites, or of two.
+fn second_site<R: RandomSource>(rt: &R, alloc: Global, sites: u8) -> Option<Site> {
+    Site::new(alloc, setup_of(rt, 2, sites.max(2))?).ok()
 }
 
 /// Makes calls at a station round the first of so many sites, which knows nothing, and at a second site.
@@ -577,7 +600,7 @@ pub fn run<R: Print + Wait + Clock + RandomSource>(
     sight: Sight,
     course: &mut Course,
 ) -> io::Result<Result<(), Stop>> {
-    let (Some(kept), Some(beside)) = (opened(rt, alloc, 1, sites), second_site(rt, alloc)) else {
+    let (Some(kept), Some(beside)) = (opened(rt, alloc, 1, sites), second_site(rt, alloc, sites)) else {
         return Ok(Err(Stop::Wrong("no site")));
     };
     run_named::<Brand, R>(rt, alloc, Blank::new(2), kept, beside, lines, sight, course)

@@ -1,0 +1,108 @@
+//! Rounds of gossip over links in memory.
+use crate::links::put;
+use geo_delta::Parcel;
+use geo_gossip::{GossipFault, Peer, receive, round};
+use geo_link::{Link, LinkError, MemoryLink, memory_link};
+use geo_scenes::Stop;
+use geo_scenes::texts::word;
+use geo_station::{Seat, Station};
+use std::alloc::Global;
+use std::sync::Wait;
+use std::sync::ledger::Ledger;
+
+fn link(alloc: Global) -> Result<(MemoryLink, MemoryLink), Stop> {
+    match memory_link(alloc, 16) {
+        Ok(ends) => Ok(ends),
+        Err(LinkError::Memory) => Err(Stop::Memory),
+        Err(_) => Err(Stop::Wrong("no link")),
+    }
+}
+
+/// A round to sites 2 and 3, whose links are then let go.
+fn put_round<L: Ledger, R: Wait>(
+    rt: &R,
+    alloc: Global,
+    station: &Station<L>,
+    seat: &mut Seat<L>,
+    peers: Vec<Peer<MemoryLink>>,
+) -> Result<usize, GossipFault> {
+    let mut peers = peers;
+    round(rt, alloc, station, seat, peers.as_mut_slice())
+}
+
+/// What came over a link whose other end is let go, if anything did.
+fn came<R: Wait>(rt: &R, alloc: Global, mut link: MemoryLink) -> Option<Parcel> {
+    link.get(rt, alloc).ok()
+}
+
+/// Keeps what a whole round put, for which there is room.
+fn keep(
+    two: Option<Parcel>,
+    three: Option<Parcel>,
+    parcels: &mut Vec<Parcel>,
+) -> Result<(), Stop> {
+    let (Some(two), Some(three)) = (two, three) else {
+        return Err(Stop::Wrong("a parcel was lost"));
+    };
+    parcels.push(two)?;
+    parcels.push(three)?;
+    Ok(())
+}
+
+/// One round to sites 2 and 3. Where memory is wanted for a parcel, those before it were put.
+pub fn tell_all<L: Ledger, R: Wait>(
+    rt: &R,
+    alloc: Global,
+    station: &Station<L>,
+    seat: &mut Seat<L>,
+    parcels: &mut Vec<Parcel>,
+    out: &mut Vec<u8>,
+) -> Result<(), Stop> {
+    parcels.reserve(2)?;
+    let (to_two, at_two) = link(alloc)?;
+    let (to_three, at_three) = link(alloc)?;
+    let mut peers = Vec::new(alloc);
+    peers.push(Peer {
+        site: 2,
+        link: to_two,
+    })?;
+    peers.push(Peer {
+        site: 3,
+        link: to_three,
+    })?;
+    let told = put_round(rt, alloc, station, seat, peers);
+    let (two, three) = (came(rt, alloc, at_two), came(rt, alloc, at_three));
+    match told {
+        Ok(count) => {
+            keep(two, three, parcels)?;
+            Ok(word(out, b"put ", count as u64)?)
+        }
+        Err(GossipFault::Memory) if three.is_none() => Err(Stop::Memory),
+        Err(GossipFault::Memory) => Err(Stop::Wrong("a round that was refused was whole")),
+        Err(GossipFault::SeatSpent) => Err(Stop::Wrong("a spent seat")),
+    }
+}
+
+/// The site takes parcels that come over a link. Those for which memory is wanted are let go, and come again.
+pub fn hear_all<L: Ledger, R: Wait>(
+    rt: &R,
+    alloc: Global,
+    station: &Station<L>,
+    seat: &mut Seat<L>,
+    parcels: &[Parcel],
+    out: &mut Vec<u8>,
+) -> Result<(), Stop> {
+    let (mut there, mut here) = link(alloc)?;
+    let mut told = Vec::new(alloc);
+    for parcel in parcels {
+        put(rt, alloc, &mut there, parcel, &mut told)?;
+    }
+    let_go(there);
+    let count = receive(rt, alloc, station, seat, &mut here);
+    if count < parcels.len() {
+        return Err(Stop::Part);
+    }
+    Ok(word(out, b"took ", count as u64)?)
+}
+
+fn let_go(_link: MemoryLink) {}
