@@ -88,7 +88,12 @@ pub fn parcels_of(
 }
 
 /// The site of this number, of so many.
-pub fn site_of<R: RandomSource>(rt: &R, alloc: Global, number: u8, sites: u8) -> Result<Site, Stop> {
+pub fn site_of<R: RandomSource>(
+    rt: &R,
+    alloc: Global,
+    number: u8,
+    sites: u8,
+) -> Result<Site, Stop> {
     let Some(setup) = setup_of(rt, number, sites) else {
         return Err(Stop::Wrong("no setup"));
     };

@@ -4,6 +4,7 @@
 #![tactic(auto)]
 
 mod audits;
+mod crowds;
 mod links;
 mod rounds;
 mod rows;
@@ -13,6 +14,7 @@ mod stations;
 mod worlds;
 
 use crate::audits::Audits;
+use crate::crowds::{Hall, untold};
 use crate::links::{Ends, Wire};
 use crate::sessions::{Clients, Way};
 use crate::settings::Settings;
@@ -39,6 +41,16 @@ fn of<S: Scene + Drop, R: Print + Wait + Clock>(
     }
 }
 
+/// Has one thread carry connections.
+fn of_crowd<R: Print + Wait + Clock + RandomSource>(
+    rt: &R,
+    alloc: Global,
+    course: &mut Course,
+) -> io::Result<Result<(), Stop>> {
+    let told = untold();
+    of(rt, alloc, Hall::new(rt, alloc, &told), course)
+}
+
 /// Makes the calls of the scene of a name.
 fn run<R: Print + Wait + Clock + RandomSource>(
     rt: &R,
@@ -59,6 +71,7 @@ fn run<R: Print + Wait + Clock + RandomSource>(
         "world" => of(rt, alloc, Globe::new(rt, alloc), course),
         "schedule" => of(rt, alloc, Schedule::new(rt, alloc), course),
         "audits" => of(rt, alloc, Audits::new(rt, alloc), course),
+        "crowd" => of_crowd(rt, alloc, course),
         "settings" => of(rt, alloc, Ok(Settings::new()), course),
         _ => Ok(Err(Stop::Wrong("no such scene"))),
     }

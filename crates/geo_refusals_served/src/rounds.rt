@@ -36,11 +36,7 @@ fn came<R: Wait>(rt: &R, alloc: Global, mut link: MemoryLink) -> Option<Parcel> 
 }
 
 /// Keeps what a whole round put, for which there is room.
-fn keep(
-    two: Option<Parcel>,
-    three: Option<Parcel>,
-    parcels: &mut Vec<Parcel>,
-) -> Result<(), Stop> {
+fn keep(two: Option<Parcel>, three: Option<Parcel>, parcels: &mut Vec<Parcel>) -> Result<(), Stop> {
     let (Some(two), Some(three)) = (two, three) else {
         return Err(Stop::Wrong("a parcel was lost"));
     };

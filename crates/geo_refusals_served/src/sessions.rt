@@ -1,10 +1,9 @@
 //! Sessions, and what stands of requests whose answers were lost.
-use geo_fixtures::setup_of;
+use crate::links::site_of;
 use geo_grammar::{Reply, Request};
 use geo_scenes::shown::push_state;
 use geo_scenes::{Fused, Scene, Stop};
 use geo_session::{Backend, Bare, OpenGate, Session, SessionEnd, SessionFault, serve};
-use geo_site::Site;
 use std::alloc::{AllocError, Global};
 use std::random::RandomSource;
 use std::rt::Clock;
@@ -20,7 +19,7 @@ type Piece = &'static [Ask];
 const MOST: usize = 6;
 
 /// What a request is told that memory was wanted for.
-const REFUSED: &[u8] = b"SERVER_ERROR out of memory\r\n";
+pub const REFUSED: &[u8] = b"SERVER_ERROR out of memory\r\n";
 
 /// What a line is told that is no request, of which no site hears.
 const UNKNOWN: &[u8] = b"ERROR\r\n";
@@ -42,7 +41,10 @@ const PIECES: &[Piece] = &[
         ),
     ],
     &[(b"append a 0 0 1\r\n!\r\n", b"STORED\r\n")],
-    &[(b"incr a 1\r\n", b"CLIENT_ERROR cannot increment or decrement non-numeric value\r\n")],
+    &[(
+        b"incr a 1\r\n",
+        b"CLIENT_ERROR cannot increment or decrement non-numeric value\r\n",
+    )],
     &[
         (
             b"gets a b_whose_name_is_too_long_to_stand_in_place\r\n",
@@ -60,9 +62,20 @@ const PIECES: &[Piece] = &[
 
 /// A site that counts the requests that it carried out.
 #[derive(Drop)]
-struct Counting {
-    bare: Bare,
-    made: u64,
+pub struct Counting {
+    pub bare: Bare,
+    pub made: u64,
+}
+
+impl Counting {
+    /// A site that knows nothing, at the moment 100.
+    pub fn new<R: RandomSource>(rt: &R, alloc: Global) -> Result<Counting, Stop> {
+        let site = site_of(rt, alloc, 1, 1)?;
+        Ok(Counting {
+            bare: Bare::new(site, 100),
+            made: 0,
+        })
+    }
 }
 
 impl Backend for Counting {
@@ -128,11 +141,7 @@ fn is_done_now(done: &mut [bool; MOST], at: usize) {
 }
 
 /// Writes the requests that were not carried out.
-fn push_asks(
-    piece: Piece,
-    done: &[bool; MOST],
-    out: &mut Vec<u8>,
-) -> Result<(), AllocError> {
+fn push_asks(piece: Piece, done: &[bool; MOST], out: &mut Vec<u8>) -> Result<(), AllocError> {
     for (at, ask) in piece.iter().enumerate() {
         if !is_done(done, at) {
             out.extend_from_slice(ask.0)?;
@@ -189,21 +198,11 @@ fn settle(
     }
 }
 
-
 impl Clients {
     /// Clients of a site that knows nothing, who come so.
     pub fn new<R: RandomSource>(rt: &R, alloc: Global, way: Way) -> Result<Clients, Stop> {
-        let Some(setup) = setup_of(rt, 1, 1) else {
-            return Err(Stop::Wrong("no setup"));
-        };
-        let Ok(site) = Site::new(alloc, setup) else {
-            return Err(Stop::Wrong("no site"));
-        };
         Ok(Clients {
-            backend: Counting {
-                bare: Bare::new(site, 100),
-                made: 0,
-            },
+            backend: Counting::new(rt, alloc)?,
             session: Session::new(alloc),
             way,
             asked: Vec::with_capacity(alloc, ROOM)?,

@@ -18,13 +18,12 @@ use geo_scenes::{Course, Scene, Stop};
 use geo_site::{LAST_MOMENT, SendError, Site, TakeError, Taken};
 use geo_station::{CallError, Maintained, Returned, Seat, Station, Unclosed, Why};
 use std::alloc::{AllocError, Global};
-use std::io;
 use std::marker::Brand;
-use std::mem;
 use std::random::RandomSource;
 use std::rt::Clock;
 use std::sync::Wait;
 use std::sync::ledger::{Blank, Ledger};
+use std::{io, mem};
 
 /// A call at a station, whose seat, 0 or 1, comes first, or at a second site. Moments are in seconds.
 #[derive(Clone, Copy)]
@@ -299,12 +298,7 @@ fn back(
 }
 
 /// The second site takes a parcel.
-fn forth(
-    alloc: Global,
-    site: &mut Site,
-    parcel: &Parcel,
-    out: &mut Vec<u8>,
-) -> Result<(), Stop> {
+fn forth(alloc: Global, site: &mut Site, parcel: &Parcel, out: &mut Vec<u8>) -> Result<(), Stop> {
     let copy = parcel.twin(alloc)?;
     match site.take(alloc, copy) {
         Ok(taken) => tell_taken(taken, out),
@@ -382,7 +376,8 @@ impl<L: Ledger> Post<L> {
             parcels,
             done,
             ..
-        } = self else {
+        } = self
+        else {
             return Err(Stop::Wrong("it is closed"));
         };
         match line {
@@ -505,7 +500,9 @@ impl<L: Ledger> Scene for Post<L> {
 
     fn glance(&self) -> u64 {
         let mut sum = self.parcels.len() as u64;
-        sum = sum.wrapping_mul(31).wrapping_add(self.beside.records() as u64);
+        sum = sum
+            .wrapping_mul(31)
+            .wrapping_add(self.beside.records() as u64);
         if matches!(self.sight, Sight::State) {
             return sum;
         }
@@ -600,7 +597,8 @@ pub fn run<R: Print + Wait + Clock + RandomSource>(
     sight: Sight,
     course: &mut Course,
 ) -> io::Result<Result<(), Stop>> {
-    let (Some(kept), Some(beside)) = (opened(rt, alloc, 1, sites), second_site(rt, alloc, sites)) else {
+    let (Some(kept), Some(beside)) = (opened(rt, alloc, 1, sites), second_site(rt, alloc, sites))
+    else {
         return Ok(Err(Stop::Wrong("no site")));
     };
     run_named::<Brand, R>(rt, alloc, Blank::new(2), kept, beside, lines, sight, course)

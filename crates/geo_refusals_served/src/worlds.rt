@@ -54,8 +54,16 @@ const LINES: &[Line] = &[
     Line::Reap(1, 211, b"b"),
     Line::Act(2, 100, b"flush_all 10\r\n"),
     Line::Tick(2, 110),
-    Line::Act(1, 300, b"set c_whose_name_is_too_long_to_stand_in_place 0 0 1\r\n1\r\n"),
-    Line::Act(1, 300, b"incr c_whose_name_is_too_long_to_stand_in_place 8\r\n"),
+    Line::Act(
+        1,
+        300,
+        b"set c_whose_name_is_too_long_to_stand_in_place 0 0 1\r\n1\r\n",
+    ),
+    Line::Act(
+        1,
+        300,
+        b"incr c_whose_name_is_too_long_to_stand_in_place 8\r\n",
+    ),
 ];
 
 fn event_of(alloc: Global, line: Line) -> Result<Event, Stop> {
@@ -227,9 +235,10 @@ impl Scene for Globe {
         let Some(index) = place.checked_sub(1) else {
             return Ok(());
         };
-        if let (Some(Line::Act(site, now, _) | Line::Reap(site, now, _)), Some(world)) =
-            (LINES.get(index), &mut self.world)
-        {
+        if let (Some(Line::Act(site, now, _) | Line::Reap(site, now, _)), Some(world)) = (
+            LINES.get(index),
+            &mut self.world,
+        ) {
             if let Some(site) = world.sites.get_mut((*site as usize).wrapping_sub(1)) {
                 let _flushed = site.tick(*now);
             }
@@ -293,9 +302,11 @@ pub struct Schedule {
 
 /// What came of each event, one behind the other.
 fn push_traces(outcome: &Outcome, out: &mut Vec<u8>) -> Result<(), Stop> {
-    for trace in &outcome.traces {
+    for (index, trace) in outcome.traces.iter().enumerate() {
+        if index > 0 {
+            out.extend_from_slice(b"; ")?;
+        }
         push_trace(trace, out)?;
-        out.extend_from_slice(b"; ")?;
     }
     Ok(())
 }

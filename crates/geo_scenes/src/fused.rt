@@ -18,11 +18,7 @@ const PIECE: usize = 20;
 
 impl Fused {
     /// A reader of these bytes that passes so many calls.
-    pub fn reader(
-        alloc: Global,
-        bytes: &[u8],
-        calls: usize,
-    ) -> Result<Device<Fused>, AllocError>
+    pub fn reader(alloc: Global, bytes: &[u8], calls: usize) -> Result<Device<Fused>, AllocError>
         ensures { IfOk result (λ device. device.failed ≡ false) }
     {
         Ok(Device::new(Fused {

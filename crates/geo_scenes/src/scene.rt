@@ -44,8 +44,7 @@ pub trait Scene {
     ) -> Result<(), Stop>;
 
     /// Writes all that can be seen of what the calls have left. What they have left stays; how it is looked at may change.
-    fn show<R: Wait>(&mut self, rt: &R, alloc: Global, out: &mut Vec<u8>)
-    -> Result<(), AllocError>;
+    fn show<R: Wait>(&mut self, rt: &R, alloc: Global, out: &mut Vec<u8>) -> Result<(), AllocError>;
 
     /// A number that changes with most of it. It takes no memory.
     fn glance(&self) -> u64;
