@@ -1,7 +1,8 @@
 //! Rounds of gossip over links in memory.
-use crate::links::put;
 use geo_delta::Parcel;
+use geo_frame::fits;
 use geo_gossip::{GossipFault, Peer, receive, round};
+use geo_lattice::Twin;
 use geo_link::{Link, LinkError, MemoryLink, memory_link};
 use geo_scenes::Stop;
 use geo_scenes::texts::word;
@@ -79,6 +80,23 @@ pub fn tell_all<L: Ledger, R: Wait>(
     }
 }
 
+/// Puts a copy of a parcel on a link.
+fn put<R: Wait>(
+    rt: &R,
+    alloc: Global,
+    link: &mut MemoryLink,
+    parcel: &Parcel,
+) -> Result<(), Stop> {
+    let copy = parcel.twin(alloc)?;
+    if !fits(&copy) {
+        return Err(Stop::Wrong("a parcel out of range"));
+    }
+    match link.put(rt, alloc, copy) {
+        Ok(()) => Ok(()),
+        Err(_) => Err(Stop::Wrong("a link without room")),
+    }
+}
+
 /// The site takes parcels that come over a link. Those for which memory is wanted are let go, and come again.
 pub fn hear_all<L: Ledger, R: Wait>(
     rt: &R,
@@ -89,9 +107,8 @@ pub fn hear_all<L: Ledger, R: Wait>(
     out: &mut Vec<u8>,
 ) -> Result<(), Stop> {
     let (mut there, mut here) = link(alloc)?;
-    let mut told = Vec::new(alloc);
     for parcel in parcels {
-        put(rt, alloc, &mut there, parcel, &mut told)?;
+        put(rt, alloc, &mut there, parcel)?;
     }
     let_go(there);
     let count = receive(rt, alloc, station, seat, &mut here);

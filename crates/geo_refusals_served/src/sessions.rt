@@ -1,9 +1,10 @@
 //! Sessions, and what stands of requests whose answers were lost.
-use crate::links::site_of;
+use geo_fixtures::setup_of;
 use geo_grammar::{Reply, Request};
 use geo_scenes::shown::push_state;
 use geo_scenes::{Fused, Scene, Stop};
 use geo_session::{Backend, Bare, OpenGate, Session, SessionEnd, SessionFault, serve};
+use geo_site::Site;
 use std::alloc::{AllocError, Global};
 use std::random::RandomSource;
 use std::rt::Clock;
@@ -70,7 +71,12 @@ pub struct Counting {
 impl Counting {
     /// A site that knows nothing, at the moment 100.
     pub fn new<R: RandomSource>(rt: &R, alloc: Global) -> Result<Counting, Stop> {
-        let site = site_of(rt, alloc, 1, 1)?;
+        let Some(setup) = setup_of(rt, 1, 1) else {
+            return Err(Stop::Wrong("no setup"));
+        };
+        let Ok(site) = Site::new(alloc, setup) else {
+            return Err(Stop::Wrong("no site"));
+        };
         Ok(Counting {
             bare: Bare::new(site, 100),
             made: 0,

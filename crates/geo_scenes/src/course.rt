@@ -2,7 +2,6 @@
 use crate::scene::{Scene, Stop};
 use std::alloc::{AllocError, Global};
 use std::io;
-use std::process::ExitCode;
 use std::rt::Clock;
 use std::sync::Wait;
 
@@ -237,20 +236,5 @@ impl Course {
             return Ok(self.record(rt, alloc, scene));
         }
         self.play(rt, alloc, scene)
-    }
-}
-
-/// Prints why calls stopped, where they did, and tells the status of a program that made them.
-pub fn told<R: Print>(rt: &R, stopped: Result<(), Stop>) -> io::Result<ExitCode> {
-    match stopped {
-        Ok(()) => Ok(ExitCode::SUCCESS),
-        Err(Stop::Memory | Stop::Part) => {
-            println!(rt; "out of memory")?;
-            Ok(ExitCode::from(3))
-        }
-        Err(Stop::Wrong(what)) => {
-            println!(rt; "WRONG: {what}")?;
-            Ok(ExitCode::from(1))
-        }
     }
 }

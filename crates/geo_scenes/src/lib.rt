@@ -7,10 +7,12 @@
 
 mod course;
 mod fused;
+mod program;
 mod scene;
 pub mod shown;
 pub mod texts;
 
-pub use course::{Course, told};
+pub use course::Course;
 pub use fused::Fused;
+pub use program::{Program, carry_out, run_all};
 pub use scene::{Scene, Stop};

@@ -61,7 +61,7 @@ pub const STREAM: &[Line] = &[
 ];
 
 /// Has a site carry out a request.
-pub fn carried(alloc: Global, site: &mut Site, text: &[u8]) -> Result<(), Stop> {
+fn carried(alloc: Global, site: &mut Site, text: &[u8]) -> Result<(), Stop> {
     let request = request(alloc, text)?;
     match site.act(alloc, 100, &request) {
         Reply::OutOfMemory => Err(Stop::Memory),
@@ -70,7 +70,7 @@ pub fn carried(alloc: Global, site: &mut Site, text: &[u8]) -> Result<(), Stop> 
 }
 
 /// What a site tells another, behind each of these requests.
-pub fn parcels_of(
+fn parcels_of(
     alloc: Global,
     site: &mut Site,
     to: u8,
@@ -88,7 +88,7 @@ pub fn parcels_of(
 }
 
 /// The site of this number, of so many.
-pub fn site_of<R: RandomSource>(
+fn site_of<R: RandomSource>(
     rt: &R,
     alloc: Global,
     number: u8,
@@ -115,7 +115,7 @@ fn three_parcels<R: RandomSource>(rt: &R, alloc: Global) -> Result<Vec<Parcel>, 
 }
 
 /// Puts a copy of a parcel on a link.
-pub fn put<L: Link, R: Wait>(
+fn put<L: Link, R: Wait>(
     rt: &R,
     alloc: Global,
     link: &mut L,

@@ -1,6 +1,6 @@
 use Rattle.std.proofs.Common.{◌≡◌, ℕ, ◌+◌, ◌<◌, Some, slice_get}
 use Rattle.geo_history.specs.declared.history.History.{History}
-use Rattle.geo_refusals_served.proofs.audits.are_in_order.Given as goal
+use Rattle.geo_refusals_beside.proofs.audits.are_in_order.Given as goal
 
 -- those so far are in order
 abbrev pub invariant-loop-at : goal.invariant-loop-at
