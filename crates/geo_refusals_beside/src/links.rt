@@ -88,12 +88,7 @@ fn parcels_of(
 }
 
 /// The site of this number, of so many.
-fn site_of<R: RandomSource>(
-    rt: &R,
-    alloc: Global,
-    number: u8,
-    sites: u8,
-) -> Result<Site, Stop> {
+fn site_of<R: RandomSource>(rt: &R, alloc: Global, number: u8, sites: u8) -> Result<Site, Stop> {
     let Some(setup) = setup_of(rt, number, sites) else {
         return Err(Stop::Wrong("no setup"));
     };

@@ -81,12 +81,7 @@ pub fn tell_all<L: Ledger, R: Wait>(
 }
 
 /// Puts a copy of a parcel on a link.
-fn put<R: Wait>(
-    rt: &R,
-    alloc: Global,
-    link: &mut MemoryLink,
-    parcel: &Parcel,
-) -> Result<(), Stop> {
+fn put<R: Wait>(rt: &R, alloc: Global, link: &mut MemoryLink, parcel: &Parcel) -> Result<(), Stop> {
     let copy = parcel.twin(alloc)?;
     if !fits(&copy) {
         return Err(Stop::Wrong("a parcel out of range"));
