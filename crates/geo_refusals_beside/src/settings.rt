@@ -1,5 +1,5 @@
 //! What is made once at the start of a program: a configuration, and a tally.
-ghost use Rattle.std.specs.Prelude.{◌≡◌, All, IfOk, vec_len};
+ghost use Rattle.std.specs.Prelude.{◌≡◌, All, IfOk};
 
 use geo_config::{Config, ConfigFault, LinkKind, config};
 use geo_scenes::shown::push_number;
@@ -84,17 +84,26 @@ fn opened(alloc: Global) -> Result<(Tally, Vec<TallySeat>), Stop>
     }
 }
 
+/// Counts one.
+fn add(tally: &Tally, seat: &mut TallySeat, counter: Counter) -> Result<(), Stop>
+    requires { seat.old.tally ≡ tally.now.tally }
+    ensures { seat.new.tally ≡ seat.old.tally }
+{
+    match tally.add(seat, counter) {
+        Ok(()) => Ok(()),
+        Err(_) => Err(Stop::Wrong("a spent seat")),
+    }
+}
+
 /// What a tally sums up of which one seat has counted two requests and a session.
 fn sums(alloc: Global) -> Result<[u64; 5], Stop> {
     let (tally, mut seats) = opened(alloc)?;
     let Some(mut seat) = seats.pop() else {
         return Err(Stop::Wrong("no seat"));
     };
-    for counter in [Counter::Requests, Counter::Sessions, Counter::Requests] {
-        if tally.add(&mut seat, counter).is_err() {
-            return Err(Stop::Wrong("a spent seat"));
-        }
-    }
+    add(&tally, &mut seat, Counter::Requests)?;
+    add(&tally, &mut seat, Counter::Sessions)?;
+    add(&tally, &mut seat, Counter::Requests)?;
     seats.push(seat)?;
     match tally.close(seats) {
         Ok(sums) => Ok(sums),

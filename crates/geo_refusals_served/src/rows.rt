@@ -24,6 +24,9 @@ pub const STATION: &[Line] = &[
     Line::Back,
     Line::Take(0, 4),
     Line::Take(1, 4),
+    Line::Beside(b"set b_whose_name_is_too_long_to_stand_in_place 0 0 2\r\nyo\r\n"),
+    Line::Back,
+    Line::Take(1, 5),
     Line::Take(1, 0),
     Line::Close,
 ];
