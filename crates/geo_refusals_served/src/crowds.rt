@@ -212,7 +212,8 @@ impl<'a> Hall<'a> {
     /// Has those connect whose keys are not held, and tells how many did.
     fn connect_all(&mut self, alloc: Global, pass: usize, asks: &[Ask]) -> usize {
         let mut count = 0usize;
-        for (number, (ask, told)) in asks.iter().zip(self.told.iter()).enumerate() {
+        let all_told = self.told;
+        for (number, (ask, told)) in asks.iter().zip(all_told.iter()).enumerate() {
             if self.is_held(pass, number) {
                 continue;
             }
@@ -227,7 +228,8 @@ impl<'a> Hall<'a> {
     /// Whether those who were told are those whose keys are held now, but for one for each fault.
     fn compare(&self, pass: usize, before: usize, faults: usize) -> Result<(), Stop> {
         let mut answered = 0usize;
-        for (number, told) in self.told.iter().enumerate() {
+        let all_told = self.told;
+        for (number, told) in all_told.iter().enumerate() {
             match told.load(Ordering::SeqCst) {
                 WRONG => return Err(Stop::Wrong("another answer came")),
                 ANSWERED if !self.is_held(pass, number) => {
@@ -256,7 +258,8 @@ impl<'a> Hall<'a> {
         let Some(asks) = PASSES.get(pass).copied() else {
             return Err(Stop::Wrong("no such call"));
         };
-        for told in self.told {
+        let all_told = self.told;
+        for told in all_told.iter() {
             told.store(NOTHING, Ordering::SeqCst);
         }
         let before = self.count_held(pass);

@@ -11,7 +11,7 @@ mod stations;
 
 use crate::crowds::{Hall, untold};
 use crate::sessions::{Clients, Way};
-use crate::stations::{Line, Sight};
+use crate::stations::{Script, Sight};
 use geo_scenes::{Course, Program, Stop, carry_out, run_all};
 use std::alloc::Global;
 use std::io;
@@ -20,15 +20,20 @@ use std::random::RandomSource;
 use std::rt::Clock;
 use std::sync::Wait;
 
-/// The sites of a scene at a station, the lines of its calls, and what is seen of it; None for another name.
-fn lines_of(name: &str) -> Option<(u8, &'static [Line], Sight)> {
-    Some(match name {
+/// The scene of a name at a station; None for another name.
+fn script_of(name: &str) -> Option<Script> {
+    let (sites, lines, sight) = match name {
         "station" => (2, rows::STATION, Sight::Steps),
         "closing" => (2, rows::CLOSING, Sight::Calls),
         "eras" => (2, rows::ERAS, Sight::Calls),
         "maintenance" => (1, rows::MAINTENANCE, Sight::State),
         "rounds" => (3, rows::ROUNDS, Sight::State),
         _ => return None,
+    };
+    Some(Script {
+        sites,
+        lines,
+        sight,
     })
 }
 
@@ -63,8 +68,8 @@ impl Program for Served {
         name: &str,
         course: &mut Course,
     ) -> io::Result<Result<(), Stop>> {
-        if let Some((sites, lines, sight)) = lines_of(name) {
-            return stations::run(rt, alloc, sites, lines, sight, course);
+        if let Some(script) = script_of(name) {
+            return stations::run(rt, alloc, script, course);
         }
         match name {
             "sessions" => carry_out(rt, alloc, Clients::new(rt, alloc, Way::Handed), course),

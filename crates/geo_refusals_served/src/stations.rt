@@ -66,6 +66,14 @@ pub enum Sight {
     Steps,
 }
 
+/// The calls of a scene round the first of so many sites, and what is seen of it.
+#[derive(Clone, Copy)]
+pub struct Script {
+    pub sites: u8,
+    pub lines: &'static [Line],
+    pub sight: Sight,
+}
+
 /// A station with its two seats, and a second site.
 #[derive(Drop)]
 pub struct Post<L: Ledger> {
@@ -77,8 +85,7 @@ pub struct Post<L: Ledger> {
     ended: Vec<History>,
     /// What the parts of a maintenance did.
     done: Maintained,
-    lines: &'static [Line],
-    sight: Sight,
+    script: Script,
 }
 
 const NOTHING_DONE: Maintained = Maintained {
@@ -361,8 +368,41 @@ fn push_ended(out: &mut Vec<u8>, ended: &Vec<History>, sight: Sight) -> Result<(
     }
 }
 
+/// Makes a call by a seat.
+fn seated<L: Ledger, R: Wait>(
+    rt: &R,
+    alloc: Global,
+    station: &Station<L>,
+    seats: &mut Vec<Seat<L>>,
+    parcels: &mut Vec<Parcel>,
+    done: &mut Maintained,
+    line: Line,
+    out: &mut Vec<u8>,
+) -> Result<(), Stop> {
+    match line {
+        Line::Act(seat, now, text) => {
+            act(rt, alloc, station, seat_of(seats, seat)?, now, text, out)
+        }
+        Line::Send(seat, to) => {
+            send(rt, alloc, station, seat_of(seats, seat)?, to, parcels, out)
+        }
+        Line::Take(seat, number) => {
+            let parcel = parcel_of(parcels, number)?;
+            take(rt, alloc, station, seat_of(seats, seat)?, parcel, out)
+        }
+        Line::Maintain(seat, now) => {
+            maintain(rt, alloc, station, seat_of(seats, seat)?, now, done, out)
+        }
+        Line::Round(seat) => { tell_all(rt, alloc, station, seat_of(seats, seat)?, parcels, out) }
+        Line::Receive(seat, first) => {
+            let (_, coming) = parcels.as_slice().split_at(first.min(parcels.len()));
+            hear_all(rt, alloc, station, seat_of(seats, seat)?, coming, out)
+        }
+        _ => Err(Stop::Wrong("another call")),
+    }
+}
+
 impl<L: Ledger> Post<L> {
-    /// Makes a call by a seat.
     fn by_seat<R: Wait>(
         &mut self,
         rt: &R,
@@ -370,38 +410,18 @@ impl<L: Ledger> Post<L> {
         line: Line,
         out: &mut Vec<u8>,
     ) -> Result<(), Stop> {
-        let Post {
-            station: Some(station),
-            seats,
-            parcels,
-            done,
-            ..
-        } = self
-        else {
-            return Err(Stop::Wrong("it is closed"));
-        };
-        match line {
-            Line::Act(seat, now, text) => {
-                act(rt, alloc, station, seat_of(seats, seat)?, now, text, out)
-            }
-            Line::Send(seat, to) => {
-                send(rt, alloc, station, seat_of(seats, seat)?, to, parcels, out)
-            }
-            Line::Take(seat, number) => {
-                let parcel = parcel_of(parcels, number)?;
-                take(rt, alloc, station, seat_of(seats, seat)?, parcel, out)
-            }
-            Line::Maintain(seat, now) => {
-                maintain(rt, alloc, station, seat_of(seats, seat)?, now, done, out)
-            }
-            Line::Round(seat) => {
-                tell_all(rt, alloc, station, seat_of(seats, seat)?, parcels, out)
-            }
-            Line::Receive(seat, first) => {
-                let (_, coming) = parcels.as_slice().split_at(first.min(parcels.len()));
-                hear_all(rt, alloc, station, seat_of(seats, seat)?, coming, out)
-            }
-            _ => Err(Stop::Wrong("another call")),
+        match &self.station {
+            Some(station) => seated(
+                rt,
+                alloc,
+                station,
+                &mut self.seats,
+                &mut self.parcels,
+                &mut self.done,
+                line,
+                out,
+            ),
+            None => Err(Stop::Wrong("it is closed")),
         }
     }
 
@@ -447,7 +467,7 @@ impl<L: Ledger> Post<L> {
 
 impl<L: Ledger> Scene for Post<L> {
     fn count(&self) -> usize {
-        self.lines.len()
+        self.script.lines.len()
     }
 
     fn begin(&mut self, _place: usize) -> Result<(), Stop> {
@@ -461,7 +481,7 @@ impl<L: Ledger> Scene for Post<L> {
         place: usize,
         out: &mut Vec<u8>,
     ) -> Result<(), Stop> {
-        match self.lines.get(place).copied() {
+        match self.script.lines.get(place).copied() {
             None => Err(Stop::Wrong("no such call")),
             Some(Line::Forget(seat)) => {
                 seat_of(&mut self.seats, seat)?.forget();
@@ -482,20 +502,20 @@ impl<L: Ledger> Scene for Post<L> {
         alloc: Global,
         out: &mut Vec<u8>,
     ) -> Result<(), AllocError> {
-        if !matches!(self.sight, Sight::State) {
+        if !matches!(self.script.sight, Sight::State) {
             push_all_calls(out, &self.seats)?;
         }
         for parcel in &self.parcels {
             push_parcel(out, parcel)?;
         }
         push_state(out, &self.beside.state(alloc)?)?;
-        match (&self.station, self.sight) {
+        match (&self.station, self.script.sight) {
             (Some(station), Sight::State | Sight::Steps) => {
                 look(rt, alloc, station, &mut self.ended)?;
             }
             _ => {}
         }
-        push_ended(out, &self.ended, self.sight)
+        push_ended(out, &self.ended, self.script.sight)
     }
 
     fn glance(&self) -> u64 {
@@ -503,7 +523,7 @@ impl<L: Ledger> Scene for Post<L> {
         sum = sum
             .wrapping_mul(31)
             .wrapping_add(self.beside.records() as u64);
-        if matches!(self.sight, Sight::State) {
+        if matches!(self.script.sight, Sight::State) {
             return sum;
         }
         for seat in &self.seats {
@@ -535,8 +555,7 @@ fn post_at<L: Ledger, R: Wait>(
     blank: Blank,
     kept: Kept,
     beside: Site,
-    lines: &'static [Line],
-    sight: Sight,
+    script: Script,
 ) -> Result<Post<L>, Stop>
     requires name { blank.name ≡ L.name }
     requires parts { blank.parts ≡ L.parts }
@@ -555,8 +574,7 @@ fn post_at<L: Ledger, R: Wait>(
         parcels: Vec::new(alloc),
         ended: Vec::new(alloc),
         done: NOTHING_DONE,
-        lines,
-        sight,
+        script,
     })
 }
 
@@ -567,8 +585,7 @@ fn run_named<L: Ledger, R: Print + Wait + Clock>(
     blank: Blank,
     kept: Kept,
     beside: Site,
-    lines: &'static [Line],
-    sight: Sight,
+    script: Script,
     course: &mut Course,
 ) -> io::Result<Result<(), Stop>>
     requires name { blank.name ≡ L.name }
@@ -577,7 +594,7 @@ fn run_named<L: Ledger, R: Print + Wait + Clock>(
     requires steps { (story_in kept).steps ≡ [] }
     requires opening { (seat : ℕ) → opened_with (story_in kept).opening seat ≡ 0 }
 {
-    match post_at::<L, R>(rt, alloc, blank, kept, beside, lines, sight) {
+    match post_at::<L, R>(rt, alloc, blank, kept, beside, script) {
         Ok(mut post) => course.carry_out(rt, alloc, &mut post),
         Err(stop) => Ok(Err(stop)),
     }
@@ -588,18 +605,18 @@ fn second_site<R: RandomSource>(rt: &R, alloc: Global, sites: u8) -> Option<Site
     Site::new(alloc, setup_of(rt, 2, sites.max(2))?).ok()
 }
 
-/// Makes calls at a station round the first of so many sites, which knows nothing, and at a second site.
+/// Makes the calls of a scene at a station round a site that knows nothing, and at a second site.
 pub fn run<R: Print + Wait + Clock + RandomSource>(
     rt: &R,
     alloc: Global,
-    sites: u8,
-    lines: &'static [Line],
-    sight: Sight,
+    script: Script,
     course: &mut Course,
 ) -> io::Result<Result<(), Stop>> {
-    let (Some(kept), Some(beside)) = (opened(rt, alloc, 1, sites), second_site(rt, alloc, sites))
-    else {
+    let (Some(kept), Some(beside)) = (
+        opened(rt, alloc, 1, script.sites),
+        second_site(rt, alloc, script.sites),
+    ) else {
         return Ok(Err(Stop::Wrong("no site")));
     };
-    run_named::<Brand, R>(rt, alloc, Blank::new(2), kept, beside, lines, sight, course)
+    run_named::<Brand, R>(rt, alloc, Blank::new(2), kept, beside, script, course)
 }
