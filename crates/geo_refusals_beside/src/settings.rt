@@ -95,8 +95,16 @@ fn add(tally: &Tally, seat: &mut TallySeat, counter: Counter) -> Result<(), Stop
     }
 }
 
-/// What a tally sums up of which one seat has counted two requests and a session.
-fn sums(alloc: Global) -> Result<[u64; 5], Stop> {
+/// How much was counted.
+fn read(tally: &Tally, seat: &mut TallySeat, counter: Counter) -> u64
+    requires { seat.old.tally ≡ tally.now.tally }
+    ensures { seat.new.tally ≡ seat.old.tally }
+{
+    tally.read(seat, counter)
+}
+
+/// What a tally counts of which one seat has counted two requests and a session.
+fn sums(alloc: Global) -> Result<[u64; 3], Stop> {
     let (tally, mut seats) = opened(alloc)?;
     let Some(mut seat) = seats.pop() else {
         return Err(Stop::Wrong("no seat"));
@@ -104,11 +112,10 @@ fn sums(alloc: Global) -> Result<[u64; 5], Stop> {
     add(&tally, &mut seat, Counter::Requests)?;
     add(&tally, &mut seat, Counter::Sessions)?;
     add(&tally, &mut seat, Counter::Requests)?;
-    seats.push(seat)?;
-    match tally.close(seats) {
-        Ok(sums) => Ok(sums),
-        Err(_) => Err(Stop::Wrong("a seat is missing")),
-    }
+    let sessions = read(&tally, &mut seat, Counter::Sessions);
+    let requests = read(&tally, &mut seat, Counter::Requests);
+    let faults = read(&tally, &mut seat, Counter::Faults);
+    Ok([sessions, requests, faults])
 }
 
 /// The texts, and what was read last.
