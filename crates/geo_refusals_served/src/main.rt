@@ -10,8 +10,8 @@ mod sessions;
 mod stations;
 
 use crate::crowds::{Hall, untold};
+use crate::rows::Rows;
 use crate::sessions::{Clients, Way};
-use crate::stations::{Script, Sight};
 use geo_scenes::{Course, Program, Stop, carry_out, run_all};
 use std::alloc::Global;
 use std::io;
@@ -19,23 +19,6 @@ use std::process::ExitCode;
 use std::random::RandomSource;
 use std::rt::Clock;
 use std::sync::Wait;
-
-/// The scene of a name at a station; None for another name.
-fn script_of(name: &str) -> Option<Script> {
-    let (sites, lines, sight) = match name {
-        "station" => (2, rows::STATION, Sight::Steps),
-        "closing" => (2, rows::CLOSING, Sight::Calls),
-        "eras" => (2, rows::ERAS, Sight::Calls),
-        "maintenance" => (1, rows::MAINTENANCE, Sight::State),
-        "rounds" => (3, rows::ROUNDS, Sight::State),
-        _ => return None,
-    };
-    Some(Script {
-        sites,
-        lines,
-        sight,
-    })
-}
 
 /// Has one thread carry connections.
 fn run_crowd<R: Print + Wait + Clock + RandomSource>(
@@ -68,8 +51,8 @@ impl Program for Served {
         name: &str,
         course: &mut Course,
     ) -> io::Result<Result<(), Stop>> {
-        if let Some(script) = script_of(name) {
-            return stations::run(rt, alloc, script, course);
+        if let Some(rows) = Rows::of(name) {
+            return stations::run(rt, alloc, rows, course);
         }
         match name {
             "sessions" => carry_out(rt, alloc, Clients::new(rt, alloc, Way::Handed), course),

@@ -1,8 +1,61 @@
 //! The calls of the scenes at a station.
-use crate::stations::Line;
+use crate::stations::{Line, Sight};
+
+/// A scene at a station.
+#[derive(Clone, Copy)]
+pub enum Rows {
+    Station,
+    Closing,
+    Eras,
+    Maintenance,
+    Rounds,
+}
+
+impl Rows {
+    /// The scene of a name; None for another name.
+    pub fn of(name: &str) -> Option<Rows> {
+        Some(match name {
+            "station" => Rows::Station,
+            "closing" => Rows::Closing,
+            "eras" => Rows::Eras,
+            "maintenance" => Rows::Maintenance,
+            "rounds" => Rows::Rounds,
+            _ => return None,
+        })
+    }
+
+    /// How many sites there are. The station's is the first.
+    pub fn sites(self) -> u8 {
+        match self {
+            Rows::Station | Rows::Closing | Rows::Eras => 2,
+            Rows::Maintenance => 1,
+            Rows::Rounds => 3,
+        }
+    }
+
+    /// Its calls.
+    pub fn lines(self) -> &'static [Line] {
+        match self {
+            Rows::Station => STATION,
+            Rows::Closing => CLOSING,
+            Rows::Eras => ERAS,
+            Rows::Maintenance => MAINTENANCE,
+            Rows::Rounds => ROUNDS,
+        }
+    }
+
+    /// What is seen of it.
+    pub fn sight(self) -> Sight {
+        match self {
+            Rows::Station => Sight::Steps,
+            Rows::Closing | Rows::Eras => Sight::Calls,
+            Rows::Maintenance | Rows::Rounds => Sight::State,
+        }
+    }
+}
 
 /// Each kind of call by two seats, while a second site writes the same key and hears of all.
-pub const STATION: &[Line] = &[
+const STATION: &[Line] = &[
     Line::Act(0, 100, b"set a 0 0 2\r\nhi\r\n"),
     Line::Beside(b"set a 0 0 2\r\nyo\r\n"),
     Line::Send(0, 2),
@@ -32,7 +85,7 @@ pub const STATION: &[Line] = &[
 ];
 
 /// The history of one era that is handed out at the end is what the seats keep, or an end of it.
-pub const CLOSING: &[Line] = &[
+const CLOSING: &[Line] = &[
     Line::Act(0, 100, b"set a 0 0 2\r\nhi\r\n"),
     Line::Act(1, 100, b"incr n 1\r\n"),
     Line::Send(1, 2),
@@ -47,7 +100,7 @@ pub const CLOSING: &[Line] = &[
 ];
 
 /// An era begins behind three steps, and not again behind two more.
-pub const ERAS: &[Line] = &[
+const ERAS: &[Line] = &[
     Line::Act(0, 100, b"set a 0 0 2\r\nhi\r\n"),
     Line::Act(1, 100, b"get a\r\n"),
     Line::Send(0, 2),
@@ -62,7 +115,7 @@ pub const ERAS: &[Line] = &[
 ];
 
 /// What ended is reaped and dropped with what was deleted, a flush comes at its moment, and items move in their lists.
-pub const MAINTENANCE: &[Line] = &[
+const MAINTENANCE: &[Line] = &[
     Line::Act(0, 100, b"set a 0 50 2\r\nhi\r\n"),
     Line::Act(0, 100, b"set b 0 60 2\r\nyo\r\n"),
     Line::Act(1, 100, b"set c 0 0 2\r\nok\r\n"),
@@ -75,7 +128,7 @@ pub const MAINTENANCE: &[Line] = &[
 ];
 
 /// Two rounds to two sites, and what one of them tells in between.
-pub const ROUNDS: &[Line] = &[
+const ROUNDS: &[Line] = &[
     Line::Act(0, 100, b"set a 0 0 2\r\nhi\r\n"),
     Line::Beside(b"set a 0 0 2\r\nyo\r\n"),
     Line::Round(0),

@@ -4,6 +4,7 @@ ghost use Rattle.geo_history.specs.Keeping.{opened_with};
 ghost use Rattle.geo_history.specs.Stories.{story_in};
 
 use crate::rounds::{hear_all, tell_all};
+use crate::rows::Rows;
 use geo_delta::Parcel;
 use geo_equal::Equal;
 use geo_fixtures::{opened, setup_of};
@@ -14,7 +15,7 @@ use geo_scenes::shown::{
     name_of_take, push_answer, push_each_step, push_event, push_number, push_parcel, push_state,
 };
 use geo_scenes::texts::{request, word};
-use geo_scenes::{Course, Scene, Stop};
+use geo_scenes::{Course, Scene, Stop, carry_out};
 use geo_site::{LAST_MOMENT, SendError, Site, TakeError, Taken};
 use geo_station::{CallError, Maintained, Returned, Seat, Station, Unclosed, Why};
 use std::alloc::{AllocError, Global};
@@ -66,14 +67,6 @@ pub enum Sight {
     Steps,
 }
 
-/// The calls of a scene round the first of so many sites, and what is seen of it.
-#[derive(Clone, Copy)]
-pub struct Script {
-    pub sites: u8,
-    pub lines: &'static [Line],
-    pub sight: Sight,
-}
-
 /// A station with its two seats, and a second site.
 #[derive(Drop)]
 pub struct Post<L: Ledger> {
@@ -85,7 +78,7 @@ pub struct Post<L: Ledger> {
     ended: Vec<History>,
     /// What the parts of a maintenance did.
     done: Maintained,
-    script: Script,
+    rows: Rows,
 }
 
 const NOTHING_DONE: Maintained = Maintained {
@@ -467,7 +460,7 @@ impl<L: Ledger> Post<L> {
 
 impl<L: Ledger> Scene for Post<L> {
     fn count(&self) -> usize {
-        self.script.lines.len()
+        self.rows.lines().len()
     }
 
     fn begin(&mut self, _place: usize) -> Result<(), Stop> {
@@ -481,7 +474,7 @@ impl<L: Ledger> Scene for Post<L> {
         place: usize,
         out: &mut Vec<u8>,
     ) -> Result<(), Stop> {
-        match self.script.lines.get(place).copied() {
+        match self.rows.lines().get(place).copied() {
             None => Err(Stop::Wrong("no such call")),
             Some(Line::Forget(seat)) => {
                 seat_of(&mut self.seats, seat)?.forget();
@@ -502,20 +495,20 @@ impl<L: Ledger> Scene for Post<L> {
         alloc: Global,
         out: &mut Vec<u8>,
     ) -> Result<(), AllocError> {
-        if !matches!(self.script.sight, Sight::State) {
+        if !matches!(self.rows.sight(), Sight::State) {
             push_all_calls(out, &self.seats)?;
         }
         for parcel in &self.parcels {
             push_parcel(out, parcel)?;
         }
         push_state(out, &self.beside.state(alloc)?)?;
-        match (&self.station, self.script.sight) {
+        match (&self.station, self.rows.sight()) {
             (Some(station), Sight::State | Sight::Steps) => {
                 look(rt, alloc, station, &mut self.ended)?;
             }
             _ => {}
         }
-        push_ended(out, &self.ended, self.script.sight)
+        push_ended(out, &self.ended, self.rows.sight())
     }
 
     fn glance(&self) -> u64 {
@@ -523,7 +516,7 @@ impl<L: Ledger> Scene for Post<L> {
         sum = sum
             .wrapping_mul(31)
             .wrapping_add(self.beside.records() as u64);
-        if matches!(self.script.sight, Sight::State) {
+        if matches!(self.rows.sight(), Sight::State) {
             return sum;
         }
         for seat in &self.seats {
@@ -555,7 +548,7 @@ fn post_at<L: Ledger, R: Wait>(
     blank: Blank,
     kept: Kept,
     beside: Site,
-    script: Script,
+    rows: Rows,
 ) -> Result<Post<L>, Stop>
     requires name { blank.name ≡ L.name }
     requires parts { blank.parts ≡ L.parts }
@@ -574,7 +567,7 @@ fn post_at<L: Ledger, R: Wait>(
         parcels: Vec::new(alloc),
         ended: Vec::new(alloc),
         done: NOTHING_DONE,
-        script,
+        rows,
     })
 }
 
@@ -585,7 +578,7 @@ fn run_named<L: Ledger, R: Print + Wait + Clock>(
     blank: Blank,
     kept: Kept,
     beside: Site,
-    script: Script,
+    rows: Rows,
     course: &mut Course,
 ) -> io::Result<Result<(), Stop>>
     requires name { blank.name ≡ L.name }
@@ -594,10 +587,8 @@ fn run_named<L: Ledger, R: Print + Wait + Clock>(
     requires steps { (story_in kept).steps ≡ [] }
     requires opening { (seat : ℕ) → opened_with (story_in kept).opening seat ≡ 0 }
 {
-    match post_at::<L, R>(rt, alloc, blank, kept, beside, script) {
-        Ok(mut post) => course.carry_out(rt, alloc, &mut post),
-        Err(stop) => Ok(Err(stop)),
-    }
+    let post = post_at::<L, R>(rt, alloc, blank, kept, beside, rows);
+    carry_out(rt, alloc, post, course)
 }
 
 /// The second of so many sites, or of two.
@@ -609,14 +600,14 @@ fn second_site<R: RandomSource>(rt: &R, alloc: Global, sites: u8) -> Option<Site
 pub fn run<R: Print + Wait + Clock + RandomSource>(
     rt: &R,
     alloc: Global,
-    script: Script,
+    rows: Rows,
     course: &mut Course,
 ) -> io::Result<Result<(), Stop>> {
     let (Some(kept), Some(beside)) = (
-        opened(rt, alloc, 1, script.sites),
-        second_site(rt, alloc, script.sites),
+        opened(rt, alloc, 1, rows.sites()),
+        second_site(rt, alloc, rows.sites()),
     ) else {
         return Ok(Err(Stop::Wrong("no site")));
     };
-    run_named::<Brand, R>(rt, alloc, Blank::new(2), kept, beside, script, course)
+    run_named::<Brand, R>(rt, alloc, Blank::new(2), kept, beside, rows, course)
 }
