@@ -4,6 +4,7 @@ use crate::stations::{Line, Sight};
 /// A scene at a station.
 #[derive(Clone, Copy)]
 pub enum Rows {
+    Taking,
     Station,
     Closing,
     Eras,
@@ -15,6 +16,7 @@ impl Rows {
     /// The scene of a name; None for another name.
     pub fn of(name: &str) -> Option<Rows> {
         Some(match name {
+            "taking" => Rows::Taking,
             "station" => Rows::Station,
             "closing" => Rows::Closing,
             "eras" => Rows::Eras,
@@ -27,7 +29,7 @@ impl Rows {
     /// How many sites there are. The station's is the first.
     pub fn sites(self) -> u8 {
         match self {
-            Rows::Station | Rows::Closing | Rows::Eras => 2,
+            Rows::Taking | Rows::Station | Rows::Closing | Rows::Eras => 2,
             Rows::Maintenance => 1,
             Rows::Rounds => 3,
         }
@@ -36,6 +38,7 @@ impl Rows {
     /// Its calls.
     pub fn lines(self) -> &'static [Line] {
         match self {
+            Rows::Taking => TAKING,
             Rows::Station => STATION,
             Rows::Closing => CLOSING,
             Rows::Eras => ERAS,
@@ -47,12 +50,23 @@ impl Rows {
     /// What is seen of it.
     pub fn sight(self) -> Sight {
         match self {
-            Rows::Station => Sight::Steps,
+            Rows::Taking | Rows::Station => Sight::Steps,
             Rows::Closing | Rows::Eras => Sight::Calls,
             Rows::Maintenance | Rows::Rounds => Sight::State,
         }
     }
 }
+
+/// A station that knows nothing takes a parcel, for whose record it has no room yet, and is heard to know it.
+const TAKING: &[Line] = &[
+    Line::Beside(b"set a 0 0 2\r\nyo\r\n"),
+    Line::Back,
+    Line::Take(0, 0),
+    Line::Act(1, 100, b"gets a\r\n"),
+    Line::Send(1, 2),
+    Line::Forth(1),
+    Line::Close,
+];
 
 /// Each kind of call by two seats, while a second site writes the same key and hears of all.
 const STATION: &[Line] = &[
