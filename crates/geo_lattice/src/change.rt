@@ -34,6 +34,13 @@ pub trait Test<L> {
         ensures { result ≡ passing self.now value.now };
 }
 
+/// What a measure alone tells of a test, so that a value need not be looked at. No contract speaks of it: a value that it leaves out is
+/// found later, where all are looked at.
+pub trait Glance {
+    /// The remainders by 16 of the measures of values that may pass, each a bit.
+    fn remainders(&self) -> u16;
+}
+
 /// A measure of values.
 pub trait Measure<L> {
     /// A value's measure.

@@ -2,7 +2,7 @@
 ghost use Rattle.std.specs.Prelude.{[], ◌≡◌, ◌+◌, ◌≤◌, ◌<◌, ℕ, IfSome, IsOk, IsSome, OnOk, OnErr, MatchOption, Some, false, true, cond, is_some, nat_lt, ◌&&◌, slice_get, IsSomeAnd, length};
 ghost use Rattle.geo_lattice.specs.Maps.{get, meaning_at, all_joined, HasRoomForList, StandsAt, OthersStand, IsColumn, Counts};
 
-use crate::change::{Change, Measure, Test};
+use crate::change::{Change, Glance, Measure, Test};
 use crate::coming::Coming;
 use crate::lattice::{Bottom, Flat};
 use crate::map_of::MapOf;
@@ -347,7 +347,7 @@ impl<M, N> Column<M, N> {
 
 impl<K: Twin + Eq + Hash, L: Bottom> MapOf<K, L> {
     /// The key of the value that came first of those sought, as far as it is noted in what order they came.
-    fn first_come<T: Test<L>, M: Measure<L>, N>(
+    fn first_come<T: Test<L> + Glance, M: Measure<L>, N>(
         &self,
         column: &Column<M, N>,
         bound: u64,
@@ -357,14 +357,18 @@ impl<K: Twin + Eq + Hash, L: Bottom> MapOf<K, L> {
             (λ v. nat_lt (M.measured column.now.measure v) bound && T.passing test.now v) K.eq self.now key.now ≡ true) }
     {
         let measures = column.measures.as_slice();
-        let mut index = column.coming.first_below(bound, measures);
+        let mut index = column
+            .coming
+            .first_below(bound, test.remainders(), measures);
         while index < column.coming.len() {
             if let Some((key, value)) = self.entries.get_index(column.coming.place(index)) {
                 if column.is_sought(value, bound, test) {
                     return Some(key);
                 }
             }
-            index = column.coming.next_below(index + 1, bound, measures);
+            index = column
+                .coming
+                .next_below(index + 1, bound, test.remainders(), measures);
         }
         None
     }
@@ -372,7 +376,7 @@ impl<K: Twin + Eq + Hash, L: Bottom> MapOf<K, L> {
     /// The key of the value that came first of those with a measure below a bound that pass a test, None exactly where there is no such
     /// value. It looks at the column, and at the values up to that one that have no measure there or a low one; where there is none, and it
     /// is noted in what order they came, twice. It takes no memory.
-    pub fn found_below<T: Test<L>, M: Measure<L>, N>(
+    pub fn found_below<T: Test<L> + Glance, M: Measure<L>, N>(
         &self,
         column: &Column<M, N>,
         bound: u64,

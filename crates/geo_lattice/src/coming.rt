@@ -27,8 +27,62 @@ pub(crate) struct Coming {
     came: Vec<usize>,
     /// So many from the first on went.
     gone: usize,
-    /// Of each block of the order, a number that no measure in it is below, of as many from the first on as it is known of.
-    lowest: Vec<u64>,
+    /// What is known of each block of the order, of as many from the first on as there was memory for.
+    blocks: Vec<Block>,
+}
+
+/// What no measure of a block is below, and no remainder by 16 of one is but for these, each a bit.
+#[derive(Clone, Copy)]
+struct Block {
+    lowest: u64,
+    remainders: u16,
+}
+
+impl Block {
+    /// No measures.
+    fn none() -> Block {
+        Block {
+            lowest: u64::MAX,
+            remainders: 0,
+        }
+    }
+
+    /// With one measure more.
+    fn with(self, measured: u64) -> Block {
+        Block {
+            lowest: self.lowest.min(measured),
+            remainders: self.remainders | remainder_of(measured),
+        }
+    }
+
+    /// With a value of which nothing is known.
+    fn with_unknown() -> Block {
+        Block {
+            lowest: 0,
+            remainders: u16::MAX,
+        }
+    }
+
+    /// Whether no measure is below a bound and has one of these remainders.
+    fn is_high(&self, bound: u64, remainders: u16) -> bool {
+        self.lowest >= bound || self.remainders & remainders == 0
+    }
+}
+
+/// The remainder by 16 of a measure as a bit. The greatest number is below no bound.
+fn remainder_of(measured: u64) -> u16 {
+    if measured == u64::MAX {
+        return 0;
+    }
+    1 << (measured % 16)
+}
+
+/// Whether something stands at a place whose measure is below a bound and may pass, or isn't known.
+fn is_worth(place: usize, bound: u64, remainders: u16, measures: &[u64]) -> bool {
+    match measures.get(place) {
+        None => place != GONE,
+        Some(measured) => *measured < bound && remainder_of(*measured) & remainders != 0,
+    }
 }
 
 /// The measure at a place, 0 where there is none.
@@ -42,7 +96,7 @@ impl Coming {
             order: Vec::new(alloc),
             came: Vec::new(alloc),
             gone: 0,
-            lowest: Vec::new(alloc),
+            blocks: Vec::new(alloc),
         }
     }
 
@@ -81,10 +135,10 @@ impl Coming {
         }
         let index = self.order.len();
         self.append(place);
-        if let Some(lowest) = self.lowest.get_mut(index / BLOCK) {
-            *lowest = (*lowest).min(measured);
-        } else if index % BLOCK == 0 && self.lowest.len() == index / BLOCK {
-            let _ = self.lowest.push(measured);
+        if let Some(block) = self.blocks.get_mut(index / BLOCK) {
+            *block = block.with(measured);
+        } else if index % BLOCK == 0 && self.blocks.len() == index / BLOCK {
+            let _ = self.blocks.push(Block::none().with(measured));
         }
     }
 
@@ -93,36 +147,40 @@ impl Coming {
         let Some(index) = self.came.get(place) else {
             return;
         };
-        let block = *index / BLOCK;
-        let Some(lowest) = self.lowest.get_mut(block) else {
+        let number = *index / BLOCK;
+        let Some(block) = self.blocks.get_mut(number) else {
             return;
         };
         let measured = measure_at(measures, place);
-        if measured < *lowest {
-            *lowest = measured;
-        } else if before <= *lowest && before < measured {
-            self.take_lowest(block, measures);
+        // One that has no bound any more may have been the only one with its remainder.
+        let was_first = before <= block.lowest || measured == u64::MAX;
+        if was_first && before < measured {
+            self.take_block(number, measures);
+        } else {
+            *block = block.with(measured);
         }
     }
 
-    /// The least measure of a block.
-    fn least_of(&self, block: usize, measures: &[u64]) -> u64 {
-        let mut least = u64::MAX;
-        let first = block.saturating_mul(BLOCK);
+    /// What is to be known of a block.
+    fn block_of(&self, number: usize, measures: &[u64]) -> Block {
+        let mut block = Block::none();
+        let first = number.saturating_mul(BLOCK);
         for index in first..first.saturating_add(BLOCK).min(self.order.len()) {
             let place = self.place(index);
-            if place != GONE {
-                least = least.min(measure_at(measures, place));
+            match measures.get(place) {
+                Some(measured) => block = block.with(*measured),
+                None if place == GONE => (),
+                None => return Block::with_unknown(),
             }
         }
-        least
+        block
     }
 
-    /// Takes the number of a block anew.
-    fn take_lowest(&mut self, block: usize, measures: &[u64]) {
-        let least = self.least_of(block, measures);
-        if let Some(lowest) = self.lowest.get_mut(block) {
-            *lowest = least;
+    /// Looks anew at a block.
+    fn take_block(&mut self, number: usize, measures: &[u64]) {
+        let taken = self.block_of(number, measures);
+        if let Some(block) = self.blocks.get_mut(number) {
+            *block = taken;
         }
     }
 
@@ -134,10 +192,10 @@ impl Coming {
         for place in self.came.len()..measures.len() {
             self.append(place);
         }
-        self.lowest.clear();
-        for block in 0..self.order.len().div_ceil(BLOCK) {
-            let least = self.least_of(block, measures);
-            if self.lowest.push(least).is_err() {
+        self.blocks.clear();
+        for number in 0..self.order.len().div_ceil(BLOCK) {
+            let block = self.block_of(number, measures);
+            if self.blocks.push(block).is_err() {
                 return;
             }
         }
@@ -145,7 +203,7 @@ impl Coming {
 
     /// No measures are known any more, but the order stays.
     pub(crate) fn forget(&mut self) {
-        self.lowest.clear();
+        self.blocks.clear();
     }
 
     /// How far the order goes.
@@ -189,17 +247,23 @@ impl Coming {
         if came == index { Some(place) } else { None }
     }
 
-    /// Where in the order, from somewhere on, what has a measure below a bound stands next. Blocks with no such measure are not looked at.
-    pub(crate) fn next_below(&self, from: usize, bound: u64, measures: &[u64]) -> usize
+    /// Where in the order, from somewhere on, what has a measure below a bound and one of these remainders stands next. Blocks without
+    /// one are not looked at.
+    pub(crate) fn next_below(
+        &self,
+        from: usize,
+        bound: u64,
+        remainders: u16,
+        measures: &[u64],
+    ) -> usize
         ensures on { from ≤ result }
     {
         let mut index = from;
         while index < self.order.len() {
-            if index % BLOCK == 0 && self.is_high(index / BLOCK, bound) {
+            if index % BLOCK == 0 && self.is_high(index / BLOCK, bound, remainders) {
                 index = index.saturating_add(BLOCK);
             } else {
-                let place = self.place(index);
-                if place != GONE && measure_at(measures, place) < bound {
+                if is_worth(self.place(index), bound, remainders, measures) {
                     return index;
                 }
                 index += 1;
@@ -208,10 +272,10 @@ impl Coming {
         index
     }
 
-    /// Whether no measure of a block is below a bound.
-    fn is_high(&self, block: usize, bound: u64) -> bool {
-        match self.lowest.get(block) {
-            Some(lowest) => *lowest >= bound,
+    /// Whether no measure of a block is below a bound and has one of these remainders.
+    fn is_high(&self, number: usize, bound: u64, remainders: u16) -> bool {
+        match self.blocks.get(number) {
+            Some(block) => block.is_high(bound, remainders),
             None => false,
         }
     }
@@ -227,9 +291,9 @@ impl Coming {
     }
 
     /// Where in the order, from the first that is there on, what has a measure below a bound stands first.
-    pub(crate) fn first_below(&self, bound: u64, measures: &[u64]) -> usize {
-        // From a block's first on, so that its bound is asked.
-        self.next_below(self.gone / BLOCK * BLOCK, bound, measures)
+    pub(crate) fn first_below(&self, bound: u64, remainders: u16, measures: &[u64]) -> usize {
+        // From a block's first on, so that what is known of it is asked.
+        self.next_below(self.gone / BLOCK * BLOCK, bound, remainders, measures)
     }
 
     /// The value at a place went, which had this measure, and the last took its place.
@@ -247,10 +311,10 @@ impl Coming {
             *stood = GONE;
         }
         self.pass_gone();
-        let block = index / BLOCK;
+        let number = index / BLOCK;
         // Where what went had the greatest measure of all, no number is too low without it.
-        if went < u64::MAX && self.is_high(block, went) {
-            self.take_lowest(block, measures);
+        if went < u64::MAX && self.is_high(number, went, u16::MAX) {
+            self.take_block(number, measures);
         }
         if self.order.len() / 2 > self.came.len().saturating_add(BLOCK) {
             self.close_up();
@@ -295,7 +359,7 @@ impl Coming {
         self.order.clear();
         self.came.clear();
         self.gone = 0;
-        self.lowest.clear();
+        self.blocks.clear();
     }
 
     /// Leaves out the values that pass a test, where the others stay in the order in which they stand.

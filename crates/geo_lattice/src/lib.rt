@@ -18,7 +18,7 @@ pub mod max;
 pub mod pair;
 pub mod twin;
 
-pub use change::{Change, Measure, Show, Test};
+pub use change::{Change, Glance, Measure, Show, Test};
 pub use column::Column;
 pub use exact::Exact;
 pub use items::Items;

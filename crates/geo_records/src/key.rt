@@ -10,7 +10,7 @@ ghost use Rattle.std.proofs.Common.{rules};
 ghost use Rattle.geo_records.specs.Keys.{IsShortKey, is_key, is_key_byte};
 ghost use Rattle.std.specs.List.{list_all};
 
-use crate::order::{is_same, order};
+use crate::order::is_same;
 use geo_lattice::Twin;
 use smallvec::SmallVec;
 use std::alloc::{AllocError, Global};
@@ -65,7 +65,7 @@ impl Ord for Key {
     ghost matches_eq = { Prim.search (comparing, rules) };
 
     fn cmp(&self, other: &Key) -> Ordering {
-        order(self.bytes.as_slice(), other.bytes.as_slice())
+        self.bytes.as_slice().cmp(other.bytes.as_slice())
     }
 }
 

@@ -24,9 +24,8 @@ fn word(bytes: &[u8], from: usize) -> u64
     ])
 }
 
-/// The order of bytes: the first that differ decide, and else the lengths do. The standard library's order of slices compares the
-/// eight that differ one by one.
-pub(crate) fn order(a: &[u8], b: &[u8]) -> Ordering
+/// The order of bytes: the first that differ decide, and else the lengths do.
+fn order(a: &[u8], b: &[u8]) -> Ordering
     ensures { result ≡ slice_cmp nat_cmp a.now b.now }
 {
     let both = a.len().min(b.len());
@@ -50,11 +49,14 @@ pub(crate) fn order(a: &[u8], b: &[u8]) -> Ordering
     a.len().cmp(&b.len())
 }
 
+/// Above so many bytes the standard library, which takes 64 at a time, tells sooner whether they are the same.
+const LONG: usize = 100;
+
 /// Whether bytes are the same.
 pub(crate) fn is_same(a: &[u8], b: &[u8]) -> bool
     ensures { result ≡ pointwise ◌==◌ a.now b.now }
 {
-    if a.len() < 8 {
+    if a.len() < 8 || a.len() > LONG {
         return a == b;
     }
     a.len() == b.len() && order(a, b).is_eq()

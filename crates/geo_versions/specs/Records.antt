@@ -1,5 +1,5 @@
 -- What the code's records mean, in the words of operations.
-use Rattle.std.specs.Prelude.{◌≡◌, ℕ, Bool, true, false, cond, not, ◌&&◌, ◌||◌, ◌==◌, ◌<◌, min, nat_le, nat_lt, List, [], ◌∷◌, Option, None, Some, is_some}
+use Rattle.std.specs.Prelude.{◌≡◌, ℕ, Bool, true, false, cond, not, ◌&&◌, ◌||◌, ◌==◌, ◌<◌, ◌+◌, ◌*◌, ◌%◌, min, nat_le, nat_lt, List, [], ◌∷◌, Option, None, Some, is_some}
 use Rattle.std.specs.Ordering.{nat_cmp}
 use Rattle.std.specs.Cmp.Lexicographic.{slice_cmp}
 use Rattle.std.specs.declared.cmp.Ordering.TheVariants.{Less}
@@ -61,6 +61,19 @@ has_ended site before (Some v) = (v.stamp.site == site) && (not (v.expiry == 0) 
 abbrev pub end_in : Register ℕ → ℕ
 end_in None = 18446744073709551615
 end_in (Some r) = cond (r.1 == 0) 18446744073709551615 r.1
+
+-- an end, and behind it whose write it is, of whose site's number the last four bits: ends are told apart up to 2^59
+abbrev pub mark_of : ℕ → ℕ → ℕ
+mark_of end site = cond (end == 18446744073709551615) 18446744073709551615 (min end 576460752303423488 * 16 + site % 16)
+
+-- the site of a register, 0 where there is none
+abbrev pub site_in : {A : Type 0} → Register A → ℕ
+site_in None = 0
+site_in (Some r) = r.0.site
+
+-- the mark of a record: the end of its value, and whose write that is
+abbrev pub mark_in : Rec → ℕ
+mark_in r = mark_of (end_in r.right.register) (site_in r.left.register)
 
 -- a register of which the time is at or below a horizon, which every site knows already
 abbrev pub is_old : {A : Type 0} → ℕ → Register A → Bool

@@ -1,9 +1,9 @@
 //! What is listed of records, and what is sought among them.
-ghost use Rattle.std.specs.Prelude.{◌≡◌, Bool, Some};
+ghost use Rattle.std.specs.Prelude.{◌≡◌, ◌<◌, Bool, Some, true};
 ghost use Rattle.geo_records.specs.Operations.{Register, version_in};
-ghost use Rattle.geo_versions.specs.Records.{rec_means, rec_since, is_unknown, has_ended, end_in};
+ghost use Rattle.geo_versions.specs.Records.{Rec, rec_means, rec_since, is_unknown, has_ended, mark_in, site_in};
 
-use geo_lattice::{Exact, Lww, Measure, Pair, Show, Test};
+use geo_lattice::{Exact, Glance, Lww, Measure, Pair, Show, Test};
 use geo_records::{Rec, Version, shown_version};
 use geo_stamp::{Stamp, Vector};
 
@@ -96,17 +96,51 @@ impl Test<Rec> for Ended {
     }
 }
 
-/// The moment at which a record's value ends, if it has one: the greatest number where it has no end.
+impl Glance for Ended {
+    fn remainders(&self) -> u16 {
+        1 << (self.site % 16)
+    }
+}
+
+impl Ended {
+    /// What the marks of those that pass are below.
+    pub(crate) fn bound(&self) -> u64
+        ensures { (r : Rec) → has_ended self.now.site self.now.before (version_in (rec_means r)) ≡ true → mark_in r < result }
+    {
+        if self.before > LAST_END {
+            return u64::MAX;
+        }
+        self.before * SITES
+    }
+}
+
+/// How many sites there are at most.
+const SITES: u64 = 16;
+
+/// From this moment on ends are not told apart.
+const LAST_END: u64 = 1 << 59;
+
+/// The moment at which a record's value ends, if it has one, and behind it whose write it is: the greatest number where it has no end.
 #[derive(Clone, Copy, Drop)]
 pub(crate) struct EndOf;
 
+/// Whose write or delete a record has, 0 where it has none.
+fn site_of(value: &Rec) -> u64
+    ensures { result ≡ site_in value.now.left.register }
+{
+    match value.left.get() {
+        None => 0,
+        Some((stamp, _)) => u64::from(stamp.site()),
+    }
+}
+
 impl Measure<Rec> for EndOf {
-    ghost measured = { λ _ r. end_in r.right.register };
+    ghost measured = { λ _ r. mark_in r };
 
     fn measure(&self, value: &Rec) -> u64 {
         match value.right.get() {
-            None | Some((_, 0)) => u64::MAX,
-            Some((_, expiry)) => *expiry,
+            None | Some((_, 0) | (_, u64::MAX)) => u64::MAX,
+            Some((_, expiry)) => (*expiry).min(LAST_END) * SITES + site_of(value) % SITES,
         }
     }
 }

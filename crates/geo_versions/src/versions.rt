@@ -1,7 +1,7 @@
 //! The floor, and what is kept of each key.
 ghost use Rattle.std.specs.Prelude.{◌≡◌, List, ℕ};
 ghost use Rattle.geo_lattice.specs.Maps.{IsColumn};
-ghost use Rattle.geo_versions.specs.Records.{Rec, record_at, LastsTo, end_in, lasting_of, rec_means};
+ghost use Rattle.geo_versions.specs.Records.{Rec, record_at, LastsTo, mark_in, lasting_of, rec_means};
 ghost use Rattle.geo_records.specs.Normal.{IsNormal};
 ghost use Rattle.geo_records.proofs.Normal.{normal_prop};
 
@@ -23,7 +23,7 @@ pub struct Versions {
     lasting: u64,
     /// The end of each record, and the time up to which no removal drops it, beside the records.
     ends: Column<EndOf, Lasting>,
-    ghost column: { IsColumn (λ (r : Rec). end_in r.right.register) records.entries ends.measures.items },
+    ghost column: { IsColumn (λ (r : Rec). mark_in r) records.entries ends.measures.items },
     ghost lasting_column: { IsColumn (λ (r : Rec). lasting_of floor (rec_means r)) records.entries ends.others.items },
     ghost cut: { ends.other.floor ≡ floor },
     ghost lasts: { (q : List ℕ) → LastsTo lasting (record_at records q) },
@@ -117,8 +117,8 @@ impl Versions {
             → has_ended site before (version_in (record_in self.now q)) ≡ false)
             (λ key. has_ended site before (version_in (record_in self.now key.now)) ≡ true) }
     {
-        self.records
-            .found_below(&self.ends, before, &Ended { site, before })
+        let ended = Ended { site, before };
+        self.records.found_below(&self.ends, ended.bound(), &ended)
     }
 
     /// Joins a write or a delete: a delete has the body Gone and the expiry 0. Where a growth was refused, nothing is joined. A key

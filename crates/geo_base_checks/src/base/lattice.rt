@@ -5,7 +5,7 @@ ghost use Rattle.geo_lattice.specs.declared.lww.Lww.{Lww};
 
 use crate::base::text::{Row, check, join, numbers, show_number, show_numbers};
 use geo_lattice::{
-    Bottom, Change, Items, Lattice, Lww, MapOf, Max, Measure, Pair, Show, Test, Twin,
+    Bottom, Change, Glance, Items, Lattice, Lww, MapOf, Max, Measure, Pair, Show, Test, Twin,
 };
 use std::alloc::{AllocError, Global};
 use std::hash::RandomState;
@@ -65,6 +65,12 @@ impl Show<Register> for AsItIs {
 #[derive(Clone, Copy)]
 struct After {
     stamp: u64,
+}
+
+impl Glance for After {
+    fn remainders(&self) -> u16 {
+        u16::MAX
+    }
 }
 
 impl Test<Register> for After {
