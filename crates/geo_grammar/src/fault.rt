@@ -3,20 +3,28 @@ ghost use Rattle.std.specs.Prelude.{◌≡◌};
 ghost use Rattle.geo_grammar.specs.Replies.{fault_bytes};
 ghost use Rattle.geo_grammar.specs.Faults.{line_fault, block_fault};
 
+use thiserror::Error;
+
 /// Why bytes are no request. Each is answered by [`fault_text`].
-#[derive(Clone, Copy, Debug, PartialEq, Eq)]
+#[derive(Clone, Copy, Debug, PartialEq, Eq, Error)]
 pub enum Fault {
     /// A line without a word, or whose first word names no command.
+    #[error("no command has this name")]
     Unknown,
     /// A command line of the wrong form.
+    #[error("the command line has the wrong form")]
     BadLine,
     /// A data block that is not followed by `\r\n`.
+    #[error("the data block doesn't end with a line end")]
     BadData,
     /// A line of more than 65,536 bytes. Nothing more is read.
+    #[error("the line has more than 65536 bytes")]
     LineTooLong,
     /// A data block of more than 1,048,576 bytes, which was skipped.
+    #[error("the data block has more than 1048576 bytes")]
     TooLarge,
     /// A number that can't be read, in a line that is no storage line.
+    #[error("a number can't be read")]
     BadNumber,
 }
 
@@ -35,10 +43,13 @@ pub fn fault_text(fault: Fault) -> &'static [u8]
 }
 
 /// What can be wrong with a command line.
-#[derive(Clone, Copy, Debug, PartialEq, Eq)]
+#[derive(Clone, Copy, Debug, PartialEq, Eq, Error)]
 pub enum LineFault {
+    #[error("no command has this name")]
     Unknown,
+    #[error("the command line has the wrong form")]
     BadLine,
+    #[error("a number can't be read")]
     BadNumber,
 }
 
@@ -55,9 +66,11 @@ impl LineFault {
 }
 
 /// What can be wrong with a data block.
-#[derive(Clone, Copy, Debug, PartialEq, Eq)]
+#[derive(Clone, Copy, Debug, PartialEq, Eq, Error)]
 pub enum BlockFault {
+    #[error("the data block doesn't end with a line end")]
     BadData,
+    #[error("the data block has more than 1048576 bytes")]
     TooLarge,
 }
 

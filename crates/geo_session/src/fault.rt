@@ -11,10 +11,10 @@ pub enum SessionFault {
     /// A read failed. All answers are written.
     #[error("a read failed")]
     Read,
-    /// A write failed. The answers to all but the last read are written, and a beginning of the others.
+    /// A write failed. A beginning of the answers is written.
     #[error("a write failed")]
     Write,
-    /// Memory was wanted and refused. The answers to all but the last read are written.
+    /// Memory was wanted and refused. All answers before the one that had none are written.
     #[error("out of memory")]
     Memory,
     /// The input hadn't ended after 2^48 reads. All answers are written.

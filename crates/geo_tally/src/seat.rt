@@ -4,12 +4,14 @@ ghost use Rattle.std.specs.Prelude.{◌≡◌, []};
 use crate::rule::Adds;
 use atomic_table::Seat;
 use std::marker::Model;
+use thiserror::Error;
 
 /// How often a seat can add, to all counters together.
 pub const MOST_ADDS: u64 = 1 << 40;
 
 /// The seat has added 2^40 times.
-#[derive(Clone, Copy, Debug, PartialEq, Eq)]
+#[derive(Clone, Copy, Debug, PartialEq, Eq, Error)]
+#[error("the seat has added 2^40 times")]
 pub struct Spent;
 
 /// The right of one thread to add to the tally that gave it. It can't be copied. Contracts see it as which tally that is, and how much it

@@ -10,16 +10,19 @@ use crate::rule::{AddOne, Look};
 use crate::seat::{MOST_ADDS, Spent, TallySeat};
 use std::alloc::Global;
 use std::marker::Model;
+use thiserror::Error;
 
 /// The most seats of a tally.
 pub const MOST_SEATS: usize = 256;
 
 /// Why there is no tally.
-#[derive(Clone, Copy, Debug, PartialEq, Eq)]
+#[derive(Clone, Copy, Debug, PartialEq, Eq, Error)]
 pub enum TallyError {
     /// No seat, or more than 256.
+    #[error("no seat, or more than 256")]
     Seats,
     /// Memory was wanted and refused.
+    #[error("out of memory")]
     Memory,
 }
 

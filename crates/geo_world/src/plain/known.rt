@@ -14,6 +14,7 @@ use geo_grammar::Reply;
 use geo_lattice::Items;
 use geo_site::{Event, Setup, Trace};
 use std::alloc::{AllocError, Global};
+use thiserror::Error;
 
 /// What each site knows and holds and what waits there, and for whom and with what each parcel was sent.
 #[derive(Drop)]
@@ -23,12 +24,16 @@ pub struct Known {
 }
 
 /// Why the plain program gives up.
-#[derive(Clone, Copy, Debug, PartialEq, Eq)]
+#[derive(Clone, Copy, Debug, PartialEq, Eq, Error)]
 pub enum PlainError {
     /// There are more than 16 sites, or the event names a site or a parcel that is not there, or a moment after the last.
+    #[error("the event names a site or a parcel that is not there, or a moment after the last")]
     NotThere,
     /// The trace says that something was done for which no stamp is left.
+    #[error("the trace says that something was done when no stamp was left")]
     ClockEnded,
+    /// Memory was wanted and refused.
+    #[error("out of memory")]
     Memory,
 }
 
