@@ -13,6 +13,7 @@ use Rattle.geo_world.specs.Setups.{start}
 use Rattle.geo_world.specs.Tables.{empty_tables}
 use Rattle.geo_world.specs.There.{is_site}
 use Rattle.geo_world.specs.Running.{HasAllRun}
+use Rattle.geo_world.specs.Doing.{RunsAlone}
 use Rattle.geo_cluster.specs.Progress.{Progress, followed}
 use Rattle.geo_cluster.specs.Sayings.{SaysClient}
 use Rattle.geo_cluster.specs.Effects.{AnswersItem, AnswersItems, connected}
@@ -90,6 +91,7 @@ connected_stands p old mid s is st moment world connections = record {
   clients = length-set p.connections (s - 1) is ∙ st.clients;
   sites = ap (λ w. length w.sites.items) world ∙ st.sites;
   run = subst (λ (w : World). HasAllRun (start p.setups) (empty_tables (length p.setups)) w.sites.items w.parcels.items p.events p.traces) (sym world) st.run;
+  alone = subst (λ (w : World). RunsAlone p.setups p.events p.traces w.sites.items) (sym world) st.alone;
 }
 
 pub feeds_not : (p : Progress) (mid new : Cluster) (s : ℕ) (is : Connection) (items : List Item) (before after : List ℕ) (there : Bool) → Stands (connected p s is) mid → AnswersFor mid s items before there after new → there ≡ false → is_site (length p.setups) s ≡ false

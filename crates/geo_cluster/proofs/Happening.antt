@@ -15,6 +15,8 @@ use Rattle.geo_world.specs.Tables.{Tables, kept, Keep, EachTallies, Tabled}
 use Rattle.geo_world.specs.There.{is_there, EachThere}
 use Rattle.geo_world.specs.Running.{HasAllRun}
 use Rattle.geo_world.proofs.Running.{HasRun, run_more, all_run}
+use Rattle.geo_world.specs.Doing.{DoesAlone, EachAlone, RunsAlone}
+use Rattle.geo_world.proofs.Alone.{each_more}
 use Rattle.geo_cluster.specs.Progress.{Progress, Runs, known_in, parcels_in, can_come}
 use Rattle.geo_cluster.specs.Reads.{said_by}
 use Rattle.geo_cluster.specs.declared.script.line.ScriptLine.{ScriptLine}
@@ -60,6 +62,8 @@ runs_of p cluster st = record {
   lawful = st.run.lawful;
   tallies = st.run.tallies;
   serves = all_serve (start p.setups) p.events p.traces (sound_nothing (length p.setups) (limits_of p.setups)) st.run.lawful;
+  sites = cluster.world.sites.items;
+  alone = st.alone;
 }
 
 -- an event can come where its sites and its parcel are there
@@ -76,8 +80,8 @@ wants_event old line event grown can comes = (grown, λ p st. can p st ∙ comes
 
 -- a step of the world is one of the cluster
 pub steps_on : (old new : Cluster) (event : Event) (trace : Trace) → new.moment ≡ old.moment → new.connections ≡ old.connections → length new.world.sites.items ≡ length old.world.sites.items
-    → StepDoes old.world new.world event 0 (Ok trace) → Tabled old.world.sites.items old.world.parcels.items new.world.sites.items new.world.parcels.items event trace → Steps old event (Some trace) new
-steps_on old new event trace moment connections many does tabled p st = (
+    → StepDoes old.world new.world event 0 (Ok trace) → Tabled old.world.sites.items old.world.parcels.items new.world.sites.items new.world.parcels.items event trace → DoesAlone old.world.sites.items new.world.sites.items event trace → Steps old event (Some trace) new
+steps_on old new event trace moment connections many does tabled alone p st = (
   comes_as p old event st ∙ does.0,
   (does.1 (known_in p) st.run.agrees).0,
   record {
@@ -86,6 +90,12 @@ steps_on old new event trace moment connections many does tabled p st = (
     clients = st.clients;
     sites = many ∙ st.sites;
     run = run_on _ _ old.world.sites.items new.world.sites.items old.world.parcels.items new.world.parcels.items p.events p.traces event trace st.run many does.0 does.1 tabled;
+    alone = record {
+      first = st.alone.first;
+      many = st.alone.many;
+      opened = st.alone.opened;
+      each = each_more st.alone.first old.world.sites.items new.world.sites.items p.events p.traces event trace st.alone.each alone;
+    };
   },
 )
 

@@ -9,12 +9,13 @@ use Rattle.geo_world.specs.Setups.{start}
 use Rattle.geo_world.specs.There.{is_site}
 use Rattle.geo_world.specs.Tables.{empty_tables}
 use Rattle.geo_world.specs.Running.{HasAllRun}
+use Rattle.geo_world.specs.Doing.{RunsAlone}
 use Rattle.geo_cluster.specs.Sayings.{Said}
 use Rattle.geo_cluster.specs.Progress.{Progress, known_in, can_come, followed}
 use Rattle.geo_cluster.specs.Effects.{can_carry, SaidDoes, Happens, AnswersItems}
 use Rattle.geo_cluster.specs.declared.script.cluster.Cluster.{Cluster}
 
--- its world has run the events
+-- its world has run the events, from the sites that the setups open
 pub record Stands (p : Progress) (cluster : Cluster) : Type 0 where
   pub moment : cluster.moment ≡ p.moment
   pub connections : cluster.connections.items ≡ p.connections
@@ -22,6 +23,7 @@ pub record Stands (p : Progress) (cluster : Cluster) : Type 0 where
   pub sites : length cluster.world.sites.items ≡ length p.setups
   pub run : HasAllRun (start p.setups)
       (empty_tables (length p.setups)) cluster.world.sites.items cluster.world.parcels.items p.events p.traces
+  pub alone : RunsAlone p.setups p.events p.traces cluster.world.sites.items
 
 -- from whatever it stands at, one event happens with a trace that it can have, or it can't come
 abbrev pub Steps : Cluster → Event → Option Trace → Cluster → Type 0

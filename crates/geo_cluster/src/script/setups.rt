@@ -3,6 +3,7 @@ ghost use Rattle.std.specs.Prelude.{◌≡◌, ◌≤◌, true, length, IfOk};
 ghost use Rattle.std.specs.List.{All};
 ghost use Rattle.geo_world.specs.Setups.{are_setups, start};
 ghost use Rattle.geo_world.specs.Agreement.{Agrees};
+ghost use Rattle.geo_world.specs.Doing.{EachOpens};
 ghost use Rattle.geo_world.specs.Tables.{empty_tables, Keep};
 ghost use Rattle.geo_cluster.specs.Effects.{AreTold};
 ghost use Rattle.geo_cluster.specs.Connections.{IsNew};
@@ -58,6 +59,7 @@ pub fn opened(alloc: Global, setups: Vec<Setup>) -> Result<World, AllocError>
     requires { are_setups setups.items ≡ true }
     ensures many { IfOk result (λ world. length world.sites.items ≡ length setups.items) }
     ensures agrees { IfOk result (λ world. Agrees world.sites.items world.parcels.items (start setups.items)) }
+    ensures each { IfOk result (λ world. EachOpens setups.items world.sites.items) }
     ensures keep { IfOk result (λ world. Keep world.sites.items world.parcels.items (empty_tables (length setups.items))) }
 {
     match World::open(alloc, setups) {

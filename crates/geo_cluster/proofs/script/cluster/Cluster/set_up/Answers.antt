@@ -1,4 +1,5 @@
 use Rattle.std.proofs.Common.{rules, refl, sym, ap, ◌∙◌, ◌≡◌, ◌==◌, [], ℕ, length}
+use Rattle.geo_world.proofs.Alone.{alone_first}
 use Rattle.geo_cluster.proofs.Happening.{fresh_run}
 use Rattle.geo_cluster.proofs.Setting.{told_good}
 use Rattle.geo_cluster.proofs.script.cluster.Cluster.set_up.Goals as goal
@@ -23,5 +24,6 @@ returns-clause-does c = λ p st.
         clients = connected.many ∙ sym told.many;
         sites = c.in_ok-self.ensures.many;
         run = fresh_run _ _ c.in_ok-self.field-0.sites.items c.in_ok-self.field-0.parcels.items c.in_ok-self.ensures.agrees c.in_ok-self.ensures.keep;
+        alone = alone_first _ c.in_ok-self.field-0.sites.items c.in_ok-self.ensures.many c.in_ok-self.ensures.each;
       };
     }
