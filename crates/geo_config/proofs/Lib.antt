@@ -1,2 +1,3 @@
 mod Numbering
+mod Rows
 mod Values

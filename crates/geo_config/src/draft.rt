@@ -1,13 +1,13 @@
 //! A configuration whose values have their types and may lie out of their ranges.
-ghost use Rattle.std.specs.Prelude.{◌≡◌, IfOk, All, is_some, vec_len};
-ghost use Rattle.toml.specs.Data.{Members};
-ghost use Rattle.toml.specs.View.{table_view};
-ghost use Rattle.geo_config.specs.Document.{DraftIsOf, IsOf};
+ghost use Rattle.std.specs.Prelude.{◌≡◌, IfOk, All, codes, is_some, map, option_map, string_bytes, vec_len};
+ghost use Rattle.toml.specs.Data.{Members, array, get_member};
+ghost use Rattle.toml.specs.View.{items_view, table_view, view};
+ghost use Rattle.geo_config.specs.Document.{DraftIsOf, IsOf, IsRow, SitesSay, peer_at, row_of, row_of_draft};
 ghost use Rattle.geo_config.specs.Draft.{DraftIsTied, SiteDraftIsTied, asks_for_tcp, is_tcp};
 ghost use Rattle.geo_config.specs.Lawful.{IsInRange, SiteIsInRange};
 
 use crate::fault::ConfigFault;
-use crate::keys::{NumberKey, link_of, site_rows, text_at};
+use crate::keys::{NumberKey, link_of, text_at};
 use crate::settings::{Config, LinkKind, SiteConfig};
 use std::alloc::Global;
 use toml::{Table, Value};
@@ -47,6 +47,13 @@ const ERA: NumberKey = NumberKey {
     default: Some(1_000_000),
 };
 
+const ERA_BYTES: NumberKey = NumberKey {
+    name: "era_bytes",
+    least: 1_048_576,
+    most: 1_099_511_627_776,
+    default: Some(268_435_456),
+};
+
 const SESSIONS: NumberKey = NumberKey {
     name: "sessions",
     least: 1,
@@ -81,6 +88,7 @@ pub struct Draft {
     link: Option<LinkKind>,
     every: i64,
     era: i64,
+    era_bytes: i64,
     sessions: i64,
     sites: Vec<SiteDraft>,
 }
@@ -99,6 +107,7 @@ impl Draft {
     pub fn read(alloc: Global, document: &Table) -> Result<Draft, ConfigFault>
         ensures of { IfOk result (DraftIsOf (table_view document.now)) }
         ensures tied { IfOk result DraftIsTied }
+        ensures sites { IfOk result (λ d. SitesSay (table_view document.now) (asks_for_tcp d.link) (map row_of_draft d.sites.items)) }
     {
         let pages = PAGES.read(document)?;
         let max_records = MAX_RECORDS.read(document)?;
@@ -106,6 +115,7 @@ impl Draft {
         let link = link_of(document)?;
         let every = EVERY.read(document)?;
         let era = ERA.read(document)?;
+        let era_bytes = ERA_BYTES.read(document)?;
         let sessions = SESSIONS.read(document)?;
         let sites = site_drafts(alloc, document, asks_for_tcp(link))?;
         Ok(Draft {
@@ -115,6 +125,7 @@ impl Draft {
             link,
             every,
             era,
+            era_bytes,
             sessions,
             sites,
         })
@@ -125,6 +136,8 @@ impl Draft {
         requires { DraftIsTied self }
         ensures in_range { IfOk result IsInRange }
         ensures of { IfOk result (λ c. (document : Members) → DraftIsOf document self → IsOf document c) }
+        ensures link { IfOk result (λ c. self.link ≡ Some c.link) }
+        ensures sites { IfOk result (λ c. map row_of c.sites.items ≡ map row_of_draft self.sites.items) }
     {
         let pages = PAGES.within(self.pages)? as u32;
         let max_records = MAX_RECORDS.within(self.max_records)? as u32;
@@ -132,6 +145,7 @@ impl Draft {
         let link = self.link.ok_or(ConfigFault::OutOfRange("link"))?;
         let every = EVERY.within(self.every)?;
         let era = ERA.within(self.era)?;
+        let era_bytes = ERA_BYTES.within(self.era_bytes)?;
         let sessions = SESSIONS.within(self.sessions)?;
         if self.sites.is_empty() || self.sites.len() > MOST_SITES {
             return Err(ConfigFault::OutOfRange("site"));
@@ -144,6 +158,7 @@ impl Draft {
             link,
             every,
             era,
+            era_bytes,
             sessions,
             sites,
         })
@@ -156,21 +171,31 @@ fn asks_for_tcp(link: Option<LinkKind>) -> bool
     matches!(link, Some(LinkKind::Tcp))
 }
 
+/// The rows of the sites.
+fn rows_of(document: &Table) -> Result<&[Value], ConfigFault>
+    ensures { IfOk result (λ rows. get_member (codes "site") (table_view document.now) ≡ Some (array (items_view rows.now))) }
+{
+    match document.get("site") {
+        Some(value) => match value.as_array() {
+            Some(rows) => Ok(rows.as_slice()),
+            None => Err(ConfigFault::WrongType("site")),
+        },
+        None => Err(ConfigFault::Missing("site")),
+    }
+}
+
 /// What a document says of its sites, in their order there.
 fn site_drafts(
     alloc: Global,
     document: &Table,
     over_tcp: bool,
 ) -> Result<Vec<SiteDraft>, ConfigFault>
-    ensures { IfOk result (λ sites. All (SiteDraftIsTied over_tcp) sites.items) }
+    ensures tied { IfOk result (λ sites. All (SiteDraftIsTied over_tcp) sites.items) }
+    ensures say { IfOk result (λ sites. SitesSay (table_view document.now) over_tcp (map row_of_draft sites.items)) }
 {
-    match document.get("site") {
-        Some(Value::Array(_)) => {}
-        Some(_) => return Err(ConfigFault::WrongType("site")),
-        None => return Err(ConfigFault::Missing("site")),
-    }
+    let rows = rows_of(document)?;
     let mut sites = Vec::new(alloc);
-    for row in site_rows(document) {
+    for row in rows {
         sites.push(site_draft(alloc, row, over_tcp)?)?;
     }
     Ok(sites)
@@ -178,9 +203,10 @@ fn site_drafts(
 
 /// What a row says of its site. With links over memory its key `peer` isn't looked at.
 fn site_draft(alloc: Global, row: &Value, over_tcp: bool) -> Result<SiteDraft, ConfigFault>
-    ensures { IfOk result (SiteDraftIsTied over_tcp) }
+    ensures tied { IfOk result (SiteDraftIsTied over_tcp) }
+    ensures says { IfOk result (λ s. IsRow over_tcp (view row.now) (row_of_draft s)) }
 {
-    let Value::Table(site) = row else {
+    let Some(site) = row.as_table() else {
         return Err(ConfigFault::WrongType("site"));
     };
     let number = NUMBER.read(site)?;
@@ -196,7 +222,8 @@ fn site_draft(alloc: Global, row: &Value, over_tcp: bool) -> Result<SiteDraft, C
 }
 
 fn peer_of(alloc: Global, site: &Table, over_tcp: bool) -> Result<Option<String>, ConfigFault>
-    ensures { IfOk result (λ peer. is_some peer ≡ over_tcp) }
+    ensures tied { IfOk result (λ peer. is_some peer ≡ over_tcp) }
+    ensures says { IfOk result (λ peer. peer_at over_tcp (table_view site.now) ≡ option_map string_bytes peer) }
 {
     if over_tcp {
         let peer = text_at(alloc, site, "peer")?;
@@ -215,6 +242,7 @@ fn sites_in_range(
     requires { All (SiteDraftIsTied (is_tcp link)) drafts.items }
     ensures each { IfOk result (λ sites. All (SiteIsInRange link) sites.items) }
     ensures count { IfOk result (λ sites. vec_len sites ≡ vec_len drafts) }
+    ensures rows { IfOk result (λ sites. map row_of sites.items ≡ map row_of_draft drafts.items) }
 {
     let mut sites = Vec::with_capacity(alloc, drafts.len())?;
     for draft in drafts {
@@ -225,7 +253,8 @@ fn sites_in_range(
 
 fn site_in_range(draft: SiteDraft, link: LinkKind) -> Result<SiteConfig, ConfigFault>
     requires { SiteDraftIsTied (is_tcp link) draft }
-    ensures { IfOk result (SiteIsInRange link) }
+    ensures in_range { IfOk result (SiteIsInRange link) }
+    ensures row { IfOk result (λ site. row_of site ≡ row_of_draft draft) }
 {
     let number = NUMBER.within(draft.number)? as u8;
     let workers = WORKERS.within(draft.workers)? as usize;

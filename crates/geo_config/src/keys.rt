@@ -1,8 +1,8 @@
 //! The keys of a configuration.
-ghost use Rattle.std.specs.Prelude.{◌≡◌, ◌≤◌, pos, codes, IfOk, IfSome};
+ghost use Rattle.std.specs.Prelude.{◌≡◌, ◌≤◌, pos, codes, string_bytes, IfOk, IfSome};
 ghost use Rattle.toml.specs.Data.{get_member};
 ghost use Rattle.toml.specs.View.{table_view};
-ghost use Rattle.geo_config.specs.Document.{LinkIs, link_text, number_at};
+ghost use Rattle.geo_config.specs.Document.{LinkIs, link_text, number_at, text_at as text_said};
 
 use crate::fault::ConfigFault;
 use crate::settings::LinkKind;
@@ -46,10 +46,17 @@ impl NumberKey {
 }
 
 /// The text that a table holds at a key that is required.
-pub fn text_at(alloc: Global, table: &Table, name: &'static str) -> Result<String, ConfigFault> {
+pub fn text_at(alloc: Global, table: &Table, name: &'static str) -> Result<String, ConfigFault>
+    ensures { IfOk result (λ text. text_said (table_view table.now) name.now ≡ Some (string_bytes text)) }
+{
     match table.get(name) {
-        Some(Value::String(text)) => Ok(String::from_str(alloc, text.as_str())?),
-        Some(_) => Err(ConfigFault::WrongType(name)),
+        Some(value) => match value.as_str() {
+            Some(text) => {
+                let owned = String::from_str(alloc, text)?;
+                Ok(owned)
+            }
+            None => Err(ConfigFault::WrongType(name)),
+        },
         None => Err(ConfigFault::Missing(name)),
     }
 }
@@ -137,7 +144,15 @@ fn has_only_known_of_site(alloc: Global, site: &Table, link: LinkKind) -> Result
 fn is_known(name: &str) -> bool {
     matches!(
         name,
-        "pages" | "max_records" | "reap_after" | "link" | "every" | "era" | "sessions" | "site"
+        "pages"
+            | "max_records"
+            | "reap_after"
+            | "link"
+            | "every"
+            | "era"
+            | "era_bytes"
+            | "sessions"
+            | "site"
     )
 }
 

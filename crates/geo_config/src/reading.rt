@@ -3,7 +3,7 @@ ghost use Rattle.std.specs.Prelude.{◌≡◌, ◌⊎◌, IfOk, IfErr, IsErrOf, 
 ghost use Rattle.toml.specs.Parse.{parse_document};
 ghost use Rattle.toml.specs.Data.{Members};
 ghost use Rattle.toml.specs.View.{table_view};
-ghost use Rattle.geo_config.specs.Document.{IsOf};
+ghost use Rattle.geo_config.specs.Document.{IsOf, SitesAreOf};
 ghost use Rattle.geo_config.specs.Lawful.{IsLawful};
 
 use crate::draft::Draft;
@@ -18,6 +18,7 @@ use toml::Table;
 pub fn config(alloc: Global, text: &str) -> Result<Config, ConfigFault>
     ensures lawful { IfOk result IsLawful }
     ensures of { IfOk result (λ c. (document : Members) × (parse_document text.now ≡ Some document) × IsOf document c) }
+    ensures sites { IfOk result (λ c. (document : Members) × (parse_document text.now ≡ Some document) × SitesAreOf document c) }
     ensures not_toml { parse_document text.now ≡ None → IsErrOf result ConfigFault.NotToml ⊎ IsErrOf result ConfigFault.Memory }
 {
     let document = document(alloc, text)?;
@@ -25,7 +26,8 @@ pub fn config(alloc: Global, text: &str) -> Result<Config, ConfigFault>
     let draft = Draft::read(alloc, &document)?;
     let config = draft.in_range(alloc)?;
     has_only_known(alloc, &document, config.link)?;
-    sorted(config)
+    let ordered = sorted(config)?;
+    Ok(ordered)
 }
 
 fn document(alloc: Global, text: &str) -> Result<Table, ConfigFault>

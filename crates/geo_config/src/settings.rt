@@ -24,6 +24,8 @@ pub struct Config {
     pub every: u64,
     /// After how many steps a site's history begins anew, 1,000 to 1,000,000,000; 1,000,000 where nothing is said.
     pub era: u64,
+    /// How many bytes the steps of a site's history may keep before it begins anew, 1 MiB to 2^40; 256 MiB where nothing is said.
+    pub era_bytes: u64,
     /// How many connections each site accepts before it stops, 1 to 1,048,576.
     pub sessions: u64,
     /// The sites, 1 to 16. Site `k` stands at index `k - 1`.

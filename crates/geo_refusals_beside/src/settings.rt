@@ -30,6 +30,7 @@ fn push_config(config: &Config, out: &mut Vec<u8>) -> Result<(), AllocError> {
         (config.link == LinkKind::Tcp) as u64,
         config.every,
         config.era,
+        config.era_bytes,
         config.sessions,
     ];
     for number in numbers {

@@ -11,7 +11,8 @@ fn told(alloc: Global, text: &str) -> Result<String, AllocError> {
     }
 }
 
-/// The values in the order in which the format lists them, the era's length where it isn't the default, each site behind a semicolon.
+/// The values in the order in which the format lists them, the era's length and bytes where they aren't the defaults, each site behind
+/// a semicolon.
 fn shown(alloc: Global, config: &Config) -> Result<String, AllocError> {
     let Config {
         pages,
@@ -20,6 +21,7 @@ fn shown(alloc: Global, config: &Config) -> Result<String, AllocError> {
         link,
         every,
         era,
+        era_bytes,
         sessions,
         sites,
     } = config;
@@ -28,6 +30,9 @@ fn shown(alloc: Global, config: &Config) -> Result<String, AllocError> {
     )?;
     if *era != 1_000_000 {
         text.push_str(format!(in alloc; " era {era}")?.as_str())?;
+    }
+    if *era_bytes != 268_435_456 {
+        text.push_str(format!(in alloc; " bytes {era_bytes}")?.as_str())?;
     }
     for site in sites.iter() {
         let peer = site.peer.as_ref().map_or("-", String::as_str);
@@ -53,7 +58,7 @@ fn with_sites(alloc: Global, count: u8) -> Result<String, AllocError> {
 }
 
 /// Keys one by one: lines at the top, lines for the site, what is told.
-const KEYS: [(&str, &str, &str); 56] = [
+const KEYS: [(&str, &str, &str); 62] = [
     ("", "", "64 100000 60 Memory 100 5; 1 a 4 -"),
     ("pages = 14", "", "out of range pages"),
     ("pages = 15", "", "15 100000 60 Memory 100 5; 1 a 4 -"),
@@ -101,6 +106,20 @@ const KEYS: [(&str, &str, &str); 56] = [
     ("every = 60000", "", "64 100000 60 Memory 60000 5; 1 a 4 -"),
     ("every = 60001", "", "out of range every"),
     ("every = 2026-01-01", "", "wrong type every"),
+    ("era_bytes = 1048575", "", "out of range era_bytes"),
+    (
+        "era_bytes = 1048576",
+        "",
+        "64 100000 60 Memory 100 5 bytes 1048576; 1 a 4 -",
+    ),
+    (
+        "era_bytes = 1099511627776",
+        "",
+        "64 100000 60 Memory 100 5 bytes 1099511627776; 1 a 4 -",
+    ),
+    ("era_bytes = 1099511627777", "", "out of range era_bytes"),
+    ("era_bytes = \"1048576\"", "", "wrong type era_bytes"),
+    ("era_bytes = 0\nera = 0", "", "out of range era"),
     ("site = []", "", "not toml"),
     ("", "number = 1", "not toml"),
     ("", "workers = 0", "out of range workers"),

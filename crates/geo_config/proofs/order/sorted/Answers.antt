@@ -17,6 +17,7 @@ returns-clause-lawful c =
         reap_after = was.reap_after;
         every = was.every;
         era = was.era;
+        era_bytes = was.era_bytes;
         sessions = was.sessions;
         count = omega (arith, was.count, same);
         sites = All-permutation (SiteIsInRange c.args.config.link) _ _ moved was.sites;
