@@ -3,3 +3,4 @@ pub mod Leading
 pub mod Keeps
 pub mod Calls
 pub mod Eras
+mod Counting

@@ -2,3 +2,4 @@ pub mod Standings
 pub mod Replays
 pub mod Keeping
 pub mod Stories
+pub mod Sizes

@@ -1,5 +1,5 @@
 -- What a site with its history opens with, and what is left of it in the end.
-use Rattle.std.specs.Prelude.{◌≡◌, ℕ, ◌+◌, ◌<◌, [], Option, None, Some, Result, Ok, Err}
+use Rattle.std.specs.Prelude.{◌≡◌, ℕ, ◌+◌, ◌<◌, Bool, [], Option, None, Some, Result, Ok, Err}
 use Rattle.std.specs.declared.alloc.AllocError.{AllocError}
 use Rattle.geo_site.specs.declared.setup.Setup.{Setup}
 use Rattle.geo_site.specs.declared.refusal.SetupError.{SetupError}
@@ -7,11 +7,26 @@ use Rattle.geo_site.specs.Sites.{SetupRefuses}
 use Rattle.geo_site.specs.States.{IsStateOf}
 use Rattle.geo_history.specs.declared.history.History.{History}
 use Rattle.geo_history.specs.declared.kept.Kept.{Kept}
+use Rattle.geo_history.specs.Sizes.{fills}
 use Rattle.geo_history.specs.Standings.{who_in, who_of}
 use Rattle.geo_history.specs.Keeping.{Story, story_of, most_seats, opened_with, opened_total, made_by, made_in_all, IsKept, OpensEmpty}
 
 abbrev pub story_in : Kept → Story
 story_in kept = story_of kept.parts
+
+-- what the site was told, and how many bytes the steps of an era may keep, if that was told
+abbrev pub setup_in : Kept → Setup
+setup_in kept = kept.parts.setup
+
+abbrev pub most_bytes_in : Kept → Option ℕ
+most_bytes_in kept = kept.most_bytes
+
+abbrev pub StaysTold : Kept → Kept → Type 0
+StaysTold old new = (setup_in new ≡ setup_in old) × (most_bytes_in new ≡ most_bytes_in old)
+
+-- its steps keep as many bytes as they may, or more
+abbrev pub is_full : Kept → Bool
+is_full kept = fills (most_bytes_in kept) (story_in kept).steps
 
 abbrev pub KeptOpens : Setup → Result Kept SetupError → Type 0
 KeptOpens setup (Ok kept) = OpensEmpty setup (story_in kept)

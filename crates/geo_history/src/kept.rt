@@ -5,6 +5,7 @@ ghost use Rattle.geo_history.specs.Keeping.{story_of, IsKept, IsCounted};
 
 use crate::boxed::BoxedParcel;
 use crate::history::{History, Opening};
+use crate::log::Log;
 use crate::parts::Parts;
 use crate::step::Step;
 use geo_chunks::Chunks;
@@ -24,6 +25,8 @@ pub const MOST_STEPS: u64 = 1 << 48;
 #[derive(Drop)]
 pub struct Kept {
     parts: Parts,
+    /// How many bytes the steps of an era may keep, where that is told.
+    most_bytes: Option<u64>,
     ghost kept: { ∥ IsKept (story_of parts) ∥₁ },
     ghost counted: { IsCounted parts.opening parts.steps.items parts.counts.items },
     ghost who: { who_in parts.site ≡ who_of parts.setup },
@@ -37,20 +40,23 @@ fn no_steps(alloc: Global) -> Result<Vec<u64>, AllocError>
 }
 
 impl Kept {
-    ghost use Rattle.std.specs.Prelude.{◌≡◌, ◌+◌};
+    ghost use Rattle.std.specs.Prelude.{◌≡◌, ◌+◌, IfOk, IfSome, None, Some};
     ghost use Rattle.geo_history.specs.Keeping.{most_steps, made_by};
-    ghost use Rattle.geo_history.specs.Stories.{story_in, KeptOpens, IsHistoryOf, NewEraDoes};
+    ghost use Rattle.geo_history.specs.Sizes.{kept_bytes};
+    ghost use Rattle.geo_history.specs.Stories.{story_in, setup_in, most_bytes_in, is_full, StaysTold, KeptOpens, IsHistoryOf, NewEraDoes};
 
     /// A site that knows nothing, with an empty history. It is refused as [`Site::new`] refuses it.
     pub fn new(alloc: Global, setup: Setup) -> Result<Kept, SetupError>
-        ensures { KeptOpens setup result }
+        ensures opens { KeptOpens setup result }
+        ensures setup { IfOk result (λ kept. setup_in kept ≡ setup) }
+        ensures bound { IfOk result (λ kept. most_bytes_in kept ≡ None) }
     {
         let own = setup.copied();
         let site = Site::new(alloc, setup)?;
         let Ok(counts) = no_steps(alloc) else {
             return Err(SetupError::Memory);
         };
-        let Ok(steps) = Chunks::new(alloc) else {
+        let Ok(steps) = Log::new(alloc) else {
             return Err(SetupError::Memory);
         };
         let opening = Opening {
@@ -66,7 +72,21 @@ impl Kept {
                 steps,
                 counts,
             },
+            most_bytes: None,
         })
+    }
+
+    /// The same, whose steps of an era may keep so many bytes before a new one is due. Without this they may keep any number.
+    pub fn bounded(self, most_bytes: u64) -> Kept
+        ensures story { story_in result ≡ story_in self }
+        ensures setup { setup_in result ≡ setup_in self }
+        ensures bound { most_bytes_in result ≡ Some most_bytes }
+    {
+        let Kept { parts, .. } = self;
+        Kept {
+            parts,
+            most_bytes: Some(most_bytes),
+        }
     }
 
     /// The site.
@@ -94,7 +114,25 @@ impl Kept {
     pub fn steps(&self) -> &Chunks<Step>
         ensures { result.now.items ≡ (story_in self.now).steps }
     {
-        &self.parts.steps
+        self.parts.steps.steps()
+    }
+
+    /// How many bytes the steps so far keep: the lengths of what they own, and a fixed size for each step and for each thing that it
+    /// lists.
+    pub fn bytes(&self) -> u64
+        ensures { result ≡ kept_bytes (story_in self.now).steps }
+    {
+        self.parts.steps.bytes()
+    }
+
+    /// Whether the steps so far keep as many bytes as they may, or more.
+    pub fn is_full(&self) -> bool
+        ensures { result ≡ is_full self.now }
+    {
+        match self.most_bytes {
+            Some(most) => most <= self.parts.steps.bytes(),
+            None => false,
+        }
     }
 
     /// Begins a new era where the site stands, and hands out the history that ends there, so that it can be let go where nobody waits.
@@ -102,15 +140,18 @@ impl Kept {
     /// None is told.
     pub fn new_era(&mut self, alloc: Global) -> Result<Option<History>, AllocError>
         ensures does { NewEraDoes (story_in self.old) (story_in self.new) result }
+        ensures setup { IfOk result (λ ended. IfSome ended (λ history. history.setup ≡ setup_in self.old)) }
+        ensures told { StaysTold self.old self.new }
     {
         self.parts.new_era(alloc)
     }
 
     /// The history, which ends here.
     pub fn history(self) -> History
-        ensures { IsHistoryOf (story_in self) result }
+        ensures is { IsHistoryOf (story_in self) result }
+        ensures setup { result.setup ≡ setup_in self }
     {
-        let Kept { parts } = self;
+        let Kept { parts, .. } = self;
         let Parts {
             setup,
             opening,
@@ -120,7 +161,7 @@ impl Kept {
         History {
             setup,
             opening,
-            steps,
+            steps: steps.into_steps(),
         }
     }
 }
@@ -129,7 +170,7 @@ impl Kept {
     ghost use Rattle.std.specs.Prelude.{◌≤◌, ◌<◌, ◌+◌, ◌^◌};
     ghost use Rattle.geo_slabs.specs.Storage.{class_count};
     ghost use Rattle.geo_history.specs.Keeping.{most_steps, made_by, flush_count, ActForDoes, SendForDoes, TakeForDoes, RemoveForDoes, EvictForDoes, TickForDoes, ReapForDoes, JuggleForDoes};
-    ghost use Rattle.geo_history.specs.Stories.{story_in};
+    ghost use Rattle.geo_history.specs.Stories.{story_in, StaysTold};
 
     /// Answers a client's request at a moment in seconds, 1 to 2^40, as [`Site::act_full`] does, and gives the reply twice. A due
     /// flush is a step of its own before it. Where memory is wanted nothing is done, or a due flush alone.
@@ -143,6 +184,7 @@ impl Kept {
         requires moment { now ≤ 2 ^ 40 }
         requires left { made_by (story_in self.old) seat + flush_count (story_in self.old) now + 1 ≤ most_steps }
         ensures does { ActForDoes (story_in self.old) (story_in self.new) seat now request result }
+        ensures told { StaysTold self.old self.new }
     {
         self.parts.act_for(alloc, seat, now, request)
     }
@@ -156,6 +198,7 @@ impl Kept {
     ) -> Result<(Parcel, BoxedParcel), SendError>
         requires left { made_by (story_in self.old) seat < most_steps }
         ensures does { SendForDoes (story_in self.old) (story_in self.new) seat to result }
+        ensures told { StaysTold self.old self.new }
     {
         self.parts.send_for(alloc, seat, to)
     }
@@ -164,6 +207,7 @@ impl Kept {
     pub fn take_for(&mut self, alloc: Global, seat: u8, parcel: Parcel) -> Result<Taken, Refused>
         requires left { made_by (story_in self.old) seat < most_steps }
         ensures does { TakeForDoes (story_in self.old) (story_in self.new) seat parcel result }
+        ensures told { StaysTold self.old self.new }
     {
         let Ok(copy) = BoxedParcel::copy_of(alloc, &parcel) else {
             let why = TakeError::Memory;
@@ -183,6 +227,7 @@ impl Kept {
         requires left { made_by (story_in self.old) seat < most_steps }
         requires copy { copy ≡ parcel }
         ensures does { TakeForDoes (story_in self.old) (story_in self.new) seat parcel result }
+        ensures told { StaysTold self.old self.new }
     {
         self.parts.take_kept(alloc, seat, parcel, copy)
     }
@@ -191,6 +236,7 @@ impl Kept {
     pub fn remove_for(&mut self, seat: u8) -> Result<usize, AllocError>
         requires left { made_by (story_in self.old) seat < most_steps }
         ensures does { RemoveForDoes (story_in self.old) (story_in self.new) seat result }
+        ensures told { StaysTold self.old self.new }
     {
         self.parts.remove_for(seat)
     }
@@ -199,6 +245,7 @@ impl Kept {
     pub fn evict_for(&mut self, alloc: Global, seat: u8, key: &Key) -> Result<bool, AllocError>
         requires left { made_by (story_in self.old) seat < most_steps }
         ensures does { EvictForDoes (story_in self.old) (story_in self.new) seat key.now result }
+        ensures told { StaysTold self.old self.new }
     {
         self.parts.evict_for(alloc, seat, key)
     }
@@ -207,6 +254,7 @@ impl Kept {
     pub fn tick_for(&mut self, seat: u8, now: u64) -> Result<bool, AllocError>
         requires left { made_by (story_in self.old) seat + flush_count (story_in self.old) now ≤ most_steps }
         ensures does { TickForDoes (story_in self.old) (story_in self.new) seat now result }
+        ensures told { StaysTold self.old self.new }
     {
         self.parts.tick_for(seat, now)
     }
@@ -222,6 +270,7 @@ impl Kept {
     ) -> Result<bool, ReapError>
         requires left { made_by (story_in self.old) seat + flush_count (story_in self.old) now + 1 ≤ most_steps }
         ensures does { ReapForDoes (story_in self.old) (story_in self.new) seat now key.now result }
+        ensures told { StaysTold self.old self.new }
     {
         self.parts.reap_for(alloc, seat, now, key)
     }
@@ -230,6 +279,7 @@ impl Kept {
     pub fn juggle(&mut self, class: usize) -> Result<bool, AllocError>
         requires { class < class_count }
         ensures does { JuggleForDoes (story_in self.old) (story_in self.new) class result }
+        ensures told { StaysTold self.old self.new }
     {
         self.parts.juggle(class)
     }

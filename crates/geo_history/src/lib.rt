@@ -9,7 +9,9 @@
 pub mod boxed;
 pub mod history;
 pub mod kept;
+pub mod log;
 pub mod parts;
+pub mod sizes;
 pub mod step;
 
 pub use boxed::BoxedParcel;

@@ -1,13 +1,13 @@
 //! What a site with its history is made of. A call leaves these parts for a while without the link that a whole `Kept` has.
-ghost use Rattle.std.specs.Prelude.{◌≡◌, ◌≢◌, ◌≤◌, ◌<◌, ◌+◌, ◌^◌, ◌∷◌, ◌++◌, [], ℕ, true, List, length, slice_index_or};
+ghost use Rattle.std.specs.Prelude.{◌≡◌, ◌≢◌, ◌≤◌, ◌<◌, ◌+◌, ◌^◌, ◌∷◌, ◌++◌, [], ℕ, true, IfOk, IfSome, List, length, slice_index_or};
 ghost use Rattle.geo_slabs.specs.Storage.{class_count};
 ghost use Rattle.geo_site.specs.Sites.{FlushDoes, Rests, Stays};
 ghost use Rattle.geo_history.specs.Keeping.{most_steps, most_seats, made_in, IsCounted, step_with, step_of, is_flush_due, flush_count, flush_steps, story_of, ActForDoes, SendForDoes, TakeForDoes, RemoveForDoes, EvictForDoes, TickForDoes, ReapForDoes, JuggleForDoes};
 
 use crate::boxed::BoxedParcel;
 use crate::history::{History, Opening};
+use crate::log::Log;
 use crate::step::{Answer, Event, Step};
-use geo_chunks::Chunks;
 use geo_delta::Parcel;
 use geo_grammar::{Reply, Request};
 use geo_lattice::Twin;
@@ -22,7 +22,7 @@ pub struct Parts {
     pub(crate) site: Site,
     pub(crate) setup: Setup,
     pub(crate) opening: Opening,
-    pub(crate) steps: Chunks<Step>,
+    pub(crate) steps: Log,
     /// How many steps each seat has made.
     pub(crate) counts: Vec<u64>,
 }
@@ -298,20 +298,21 @@ impl Parts {
         requires counted { IsCounted self.old.opening self.old.steps.items self.old.counts.items }
         requires who { who_in self.old.site ≡ who_of self.old.setup }
         ensures does { NewEraDoes (story_of self.old) (story_of self.new) result }
+        ensures told { IfOk result (λ ended. IfSome ended (λ history. history.setup ≡ self.old.setup)) }
         ensures setup { self.new.setup ≡ self.old.setup }
         ensures counts { self.new.counts ≡ self.old.counts }
     {
         let Some(era) = self.opening.era.checked_add(1) else {
             return Ok(None);
         };
-        let steps = Chunks::new(alloc)?;
+        let steps = Log::new(alloc)?;
         let counts = Vec::from_slice(alloc, self.counts.as_slice())?;
         let state = self.site.state(alloc)?;
         let opening = Opening { era, state, counts };
         Ok(Some(History {
             setup: self.setup.copied(),
             opening: mem::replace(&mut self.opening, opening),
-            steps: mem::replace(&mut self.steps, steps),
+            steps: mem::replace(&mut self.steps, steps).into_steps(),
         }))
     }
 }

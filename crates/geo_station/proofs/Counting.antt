@@ -1,7 +1,10 @@
 -- How many steps were made.
-use Rattle.std.proofs.Common.{◌≡◌, ◌≤◌, ℕ, suc, ◌+◌, Bool, true, false, cond, List, [], ◌∷◌, length, sum_by, slice_index_or, refl, ap, arith}
-use Rattle.std.proofs.lemmas.List.Sums.{sum_by-cons}
+use Rattle.std.proofs.Common.{◌≡◌, ◌≤◌, ℕ, suc, ◌+◌, Bool, true, false, cond, List, [], ◌∷◌, ◌++◌, length, sum_by, slice_index_or, refl, ap, arith}
+use Rattle.std.proofs.lemmas.List.Sums.{sum_by-cons, sum_by_push}
 use Rattle.geo_history.specs.Keeping.{Story, opened_with, made_in_all}
+use Rattle.geo_history.specs.Sizes.{answer_bytes, capped, event_bytes}
+use Rattle.geo_station.specs.declared.call.Call.{Call}
+use Rattle.geo_station.specs.Seats.{call_bytes, calls_bytes}
 
 pub few_flushes : (flushed : Bool) → cond flushed 1 0 ≤ 1
 few_flushes true = omega arith
@@ -29,3 +32,11 @@ none_made story opened none =
     let before = all_zero story.opening.counts.items opened in
     let since : length story.steps ≡ 0 = ap length none in
     omega (arith, before, since)
+
+-- one call more
+pub calls_more : (calls : List Call) (call : Call) (bytes sized event asked answer next : ℕ) → bytes ≡ calls_bytes calls → sized ≡ capped (bytes + 320)
+    → event ≡ capped (event_bytes call.event) → asked ≡ capped (sized + event) → answer ≡ capped (answer_bytes call.answer)
+    → next ≡ capped (asked + answer) → next ≡ calls_bytes (calls ++ call ∷ [])
+calls_more calls call bytes sized event asked answer next was a e b r d =
+    let more = sum_by_push call_bytes calls call in
+    omega (arith, more, was, a, e, b, r, d)

@@ -2,3 +2,4 @@ pub mod Seats
 pub mod Endings
 pub mod Maintenance
 pub mod Calls
+pub mod Eras

@@ -1,5 +1,5 @@
 -- What a seat keeps of its calls, and what a history tells of them.
-use Rattle.std.specs.Prelude.{◌≡◌, ◌⊎◌, ℕ, ◌+◌, Bool, true, false, ◌==◌, ◌&&◌, if◌then◌else◌, List, [], ◌∷◌, ◌++◌, length, nat_le}
+use Rattle.std.specs.Prelude.{◌≡◌, ◌⊎◌, ℕ, ◌+◌, Bool, true, false, ◌==◌, ◌&&◌, ◌||◌, if◌then◌else◌, List, [], ◌∷◌, ◌++◌, length, nat_le, sum_by}
 use Rattle.std.specs.List.{All}
 use Rattle.geo_history.specs.declared.history.History.{History}
 use Rattle.geo_history.specs.declared.history.Opening.{Opening}
@@ -10,6 +10,7 @@ use Rattle.geo_history.specs.declared.step.Step.{Step}
 use Rattle.geo_history.specs.Standings.{Standing, who_of}
 use Rattle.geo_history.specs.Replays.{steps_of}
 use Rattle.geo_history.specs.Keeping.{opened_with, Keeps, Story}
+use Rattle.geo_history.specs.Sizes.{answer_bytes, capped, event_bytes, step_size}
 use Rattle.geo_station.specs.declared.call.Call.{Call}
 
 -- a seat: its number, how many steps it made, the calls that it keeps, and whether it let go of earlier ones
@@ -19,12 +20,25 @@ pub record Seated : Type 0 where
   pub calls : List Call
   pub forgot : Bool
 
--- a seat that keeps that many calls lets go of them when it is trimmed
+-- how many bytes calls keep
+abbrev pub call_bytes : Call → ℕ
+call_bytes call = step_size + (event_bytes call.event + answer_bytes call.answer)
+
+abbrev pub calls_bytes : List Call → ℕ
+calls_bytes calls = capped (sum_by call_bytes calls)
+
+-- a seat that keeps that many calls, or that many bytes of them, lets go of them when it is trimmed
 abbrev pub most_kept : ℕ
 most_kept = 1024
 
+abbrev pub most_kept_bytes : ℕ
+most_kept_bytes = 4194304
+
+abbrev pub is_long : List Call → Bool
+is_long calls = nat_le most_kept (length calls) || nat_le most_kept_bytes (calls_bytes calls)
+
 abbrev pub trimmed : Seated → Seated
-trimmed seat = if nat_le most_kept (length seat.calls) then record seat { calls = []; forgot = true } else seat
+trimmed seat = if is_long seat.calls then record seat { calls = []; forgot = true } else seat
 
 abbrev pub call_of : Event → Answer → Call
 call_of event answer = record { event = event; answer = answer }

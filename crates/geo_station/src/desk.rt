@@ -9,6 +9,7 @@ ghost use Rattle.geo_station.specs.declared.desk.Unmade.TheVariants.{Spent};
 ghost use Rattle.geo_station.specs.declared.refusal.CallError.TheVariants.{SeatSpent};
 
 use crate::account::Account;
+use crate::calls::Calls;
 use crate::refusal::{CallError, NoSeat, Returned};
 use crate::seat::Seat;
 use geo_delta::Parcel;
@@ -31,6 +32,10 @@ pub struct Desk<L: Ledger> {
     ghost amount: { rest.amount ≡ 0 },
     ghost few: { seats ≤ 256 },
 }
+
+/// What became of the era with a call: the history that ended, where its steps kept as many bytes as they may; Err where memory for a
+/// new era was wanted. Whoever lets go of it holds up no other once the lock is free.
+pub(crate) type Ended = Result<Option<History>, AllocError>;
 
 /// Why a call was not made.
 #[derive(Clone, Copy)]
@@ -57,7 +62,7 @@ impl<L: Ledger> Desk<L> {
         Ok(Seat {
             number,
             account: Account::new(share),
-            calls: Vec::new(alloc),
+            calls: Calls::new(alloc),
             forgot: false,
         })
     }
@@ -113,7 +118,7 @@ impl<L: Ledger> Desk<L> {
     }
 
     /// Answers a request of a seat, after a due flush, and gives the reply twice.
-    pub(crate) fn act(
+    fn act_in_era(
         &mut self,
         alloc: Global,
         number: u8,
@@ -163,7 +168,7 @@ impl<L: Ledger> Desk<L> {
     }
 
     /// Makes a parcel for a seat, and gives it twice.
-    pub(crate) fn send(
+    fn send_in_era(
         &mut self,
         alloc: Global,
         number: u8,
@@ -196,7 +201,7 @@ impl<L: Ledger> Desk<L> {
     }
 
     /// Takes a parcel for a seat, of which a copy is kept.
-    pub(crate) fn take(
+    fn take_in_era(
         &mut self,
         alloc: Global,
         number: u8,
@@ -234,5 +239,86 @@ impl<L: Ledger> Desk<L> {
             why: CallError::Site(why),
             parcel,
         })
+    }
+}
+
+impl<L: Ledger> Desk<L> {
+    ghost use Rattle.geo_station.specs.Calls.{sends_made, takes_made};
+    ghost use Rattle.geo_station.specs.Eras.{EndsWhereFull};
+
+    /// Begins a new era where the steps of this one keep as many bytes as they may, and hands out the history that ends.
+    pub(crate) fn end_full(&mut self, alloc: Global) -> Ended
+        ensures { EndsWhereFull self.new.kept result }
+    {
+        if !self.kept.is_full() {
+            return Ok(None);
+        }
+        self.kept.new_era(alloc)
+    }
+
+    /// Answers a request of a seat as [`Desk::act_in_era`] does, and ends the era where that filled it.
+    pub(crate) fn act(
+        &mut self,
+        alloc: Global,
+        number: u8,
+        account: &mut Account<L>,
+        now: u64,
+        request: Request,
+        ended: &mut Ended,
+    ) -> Result<(Reply, Reply), Unmade>
+        requires moment { now ≤ 2 ^ 40 }
+        ensures made { IfOk result (λ replies. (flushes : ℕ) × (flushes ≤ 1) × (account.new.count ≡ account.old.count + (flushes + 1))) }
+        ensures equal { IfOk result (λ replies. replies.1 ≡ replies.0) }
+        ensures said { IfOk result (λ replies. replies.0 ≢ OutOfMemory) }
+        ensures unmade { IfErr result (λ _. (flushes : ℕ) × (flushes ≤ 1) × (account.new.count ≡ account.old.count + flushes)) }
+        ensures spent { IfErr result (λ why. why ≡ Spent → most_steps ≤ account.old.count + 1) }
+        ensures ended { EndsWhereFull self.new.kept ended.new }
+    {
+        let outcome = self.act_in_era(alloc, number, account, now, request);
+        *ended = self.end_full(alloc);
+        outcome
+    }
+
+    /// Makes a parcel for a seat as [`Desk::send_in_era`] does, and ends the era where that filled it.
+    pub(crate) fn send(
+        &mut self,
+        alloc: Global,
+        number: u8,
+        account: &mut Account<L>,
+        to: u8,
+        ended: &mut Ended,
+    ) -> Result<(Parcel, BoxedParcel), CallError<SendError>>
+        ensures made { IfOk result (λ parcels. (account.new.count ≡ account.old.count + 1) × (parcels.1 ≡ parcels.0)) }
+        ensures addressee { IfOk result (λ parcels. parcels.0.to ≡ to) }
+        ensures ranges { IfOk result (λ parcels. InRange parcels.0) }
+        ensures unmade { IfErr result (λ why. account.new.count ≡ account.old.count + sends_made why) }
+        ensures spent { IfErr result (λ why. why ≡ SeatSpent → most_steps ≤ account.old.count) }
+        ensures ended { EndsWhereFull self.new.kept ended.new }
+    {
+        let outcome = self.send_in_era(alloc, number, account, to);
+        *ended = self.end_full(alloc);
+        outcome
+    }
+
+    /// Takes a parcel for a seat as [`Desk::take_in_era`] does, and ends the era where that filled it.
+    pub(crate) fn take(
+        &mut self,
+        alloc: Global,
+        number: u8,
+        account: &mut Account<L>,
+        parcel: Parcel,
+        copy: BoxedParcel,
+        ended: &mut Ended,
+    ) -> Result<Taken, Returned>
+        requires copy { copy ≡ parcel }
+        ensures made { IfOk result (λ _. account.new.count ≡ account.old.count + 1) }
+        ensures unmade { IfErr result (λ returned. account.new.count ≡ account.old.count + takes_made returned.why) }
+        ensures back { IfErr result (λ returned. returned.parcel ≡ parcel) }
+        ensures spent { IfErr result (λ returned. returned.why ≡ SeatSpent → most_steps ≤ account.old.count) }
+        ensures ended { EndsWhereFull self.new.kept ended.new }
+    {
+        let outcome = self.take_in_era(alloc, number, account, parcel, copy);
+        *ended = self.end_full(alloc);
+        outcome
     }
 }

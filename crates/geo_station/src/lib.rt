@@ -8,6 +8,7 @@
 
 mod account;
 mod call;
+mod calls;
 mod close;
 mod desk;
 mod fits;

@@ -5,7 +5,7 @@ ghost use Rattle.geo_slabs.specs.Storage.{class_count};
 ghost use Rattle.geo_history.specs.Stories.{story_in};
 
 use crate::account::Account;
-use crate::desk::Desk;
+use crate::desk::{Desk, Ended};
 use crate::refusal::SeatSpent;
 use geo_lattice::Twin;
 use geo_site::ReapError;
@@ -49,6 +49,7 @@ struct Moves {
 }
 
 impl<L: Ledger> Desk<L> {
+    ghost use Rattle.geo_station.specs.Eras.{EndsWhereFull};
     ghost use Rattle.geo_station.specs.Maintenance.{ReapsSo, Maintains};
 
     /// Deletes keys whose writes ended long enough ago, for a seat, where no flush is due.
@@ -149,7 +150,7 @@ impl<L: Ledger> Desk<L> {
     }
 
     /// Does for a seat what the site needs from time to time, up to the first that is refused.
-    pub(crate) fn maintain(
+    fn maintain_in_era(
         &mut self,
         alloc: Global,
         number: u8,
@@ -190,5 +191,23 @@ impl<L: Ledger> Desk<L> {
         done.juggled = moves.count;
         done.refused = moves.refused;
         Ok(done)
+    }
+    /// Does for a seat what the site needs from time to time as [`Desk::maintain_in_era`] does, and ends the era where that filled it.
+    pub(crate) fn maintain(
+        &mut self,
+        alloc: Global,
+        number: u8,
+        account: &mut Account<L>,
+        now: u64,
+        ended: &mut Ended,
+    ) -> Result<Maintained, SeatSpent>
+        ensures ok { IfOk result (Maintains account.old.count account.new.count) }
+        ensures err { IfErr result (λ _. account.new.count ≡ account.old.count) }
+        ensures spent { IfErr result (λ _. most_steps ≤ account.old.count) }
+        ensures ended { EndsWhereFull self.new.kept ended.new }
+    {
+        let outcome = self.maintain_in_era(alloc, number, account, now);
+        *ended = self.end_full(alloc);
+        outcome
     }
 }

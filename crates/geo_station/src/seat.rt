@@ -4,11 +4,9 @@ ghost use Rattle.geo_station.specs.Seats.{trimmed};
 
 use crate::account::Account;
 use crate::call::Call;
+use crate::calls::Calls;
 use std::marker::Model;
 use std::sync::ledger::Ledger;
-
-/// A seat that keeps so many calls lets go of them when it is trimmed.
-const MOST_KEPT: usize = 1024;
 
 /// What a thread calls a station with. It keeps its requests, sends and takes with the answers that it was handed, in order, until
 /// [`Seat::forget`].
@@ -16,7 +14,7 @@ const MOST_KEPT: usize = 1024;
 pub struct Seat<L: Ledger> {
     pub(crate) number: u8,
     pub(crate) account: Account<L>,
-    pub(crate) calls: Vec<Call>,
+    pub(crate) calls: Calls,
     pub(crate) forgot: bool,
 }
 
@@ -25,7 +23,7 @@ impl<L: Ledger> Model for Seat<L> {
 
     ghost Value = { Seated };
 
-    ghost view = { λ s. record { number = s.number; steps = s.account.count; calls = s.calls.items; forgot = s.forgot } };
+    ghost view = { λ s. record { number = s.number; steps = s.account.count; calls = s.calls.list.items; forgot = s.forgot } };
 }
 
 impl<L: Ledger> Seat<L> {
@@ -44,11 +42,12 @@ impl<L: Ledger> Seat<L> {
         self.forgot = true;
     }
 
-    /// Lets go of the calls that it keeps where they are 1,024 or more, as whoever calls for long does before each call.
+    /// Lets go of the calls that it keeps where they are 1,024 or more, or keep 4 MiB or more, as whoever calls for long does before
+    /// each call.
     pub fn trim(&mut self)
         ensures { self.new ≡ trimmed self.old }
     {
-        if self.calls.len() >= MOST_KEPT {
+        if self.calls.is_long() {
             self.forget();
         }
     }

@@ -8,7 +8,6 @@ ghost use Rattle.geo_station.specs.Seats.{FitsIn, IsLawful, DiffersFrom};
 ghost use Rattle.geo_station.specs.declared.refusal.CallError.TheVariants as refused;
 
 use crate::account::Account;
-use crate::call::Call;
 use crate::close::{Unclosed, Unlocked, Why, all_fit, merge_all};
 use crate::desk::{Desk, Unmade};
 use crate::maintain::Maintained;
@@ -89,7 +88,7 @@ impl<L: Ledger> Station<L> {
 }
 
 impl<L: Ledger> Station<L> {
-    ghost use Rattle.geo_station.specs.Calls.{ActsBy, SendsBy, TakesBy, MaintainsBy};
+    ghost use Rattle.geo_station.specs.Calls.{ActsBy, SendsBy, TakesBy, MaintainsBy, takes_made};
 
     /// Answers a client's request at a moment in seconds, 1 to 2^40, after a due flush. Where memory was wanted for the answer, its
     /// step, or the seat's copy, it is [`Reply::OutOfMemory`], and nothing was done but the due flush.
@@ -115,20 +114,22 @@ impl<L: Ledger> Station<L> {
         if account.is_spent() {
             return Err(SeatSpent);
         }
-        let (Ok(()), Ok(copy)) = (calls.reserve(1), request.twin(alloc)) else {
+        let (Ok(()), Ok(copy)) = (calls.reserve(), request.twin(alloc)) else {
             return Ok(Reply::OutOfMemory);
         };
         // SHA-256 is most of a set, and no other thread waits for it here.
         request.know_digest(alloc);
+        // A history that ends is let go of behind the lock.
+        let mut ended = Ok(None);
         let done = self
             .desk
             .lock(rt)
-            .act(alloc, *number, account, now, request);
+            .act(alloc, *number, account, now, request, &mut ended);
         match done {
             Ok((reply, kept)) => {
                 let event = Event::Command { now, request: copy };
                 let answer = Answer::Replied(kept);
-                calls.push_reserved(Call { event, answer });
+                calls.keep(event, answer);
                 Ok(reply)
             }
             Err(Unmade::Memory) => Ok(Reply::OutOfMemory),
@@ -159,24 +160,52 @@ impl<L: Ledger> Station<L> {
         if account.is_spent() {
             return Err(CallError::SeatSpent);
         }
-        if calls.reserve(1).is_err() {
+        if calls.reserve().is_err() {
             return Err(CallError::Site(SendError::Memory));
         }
         let event = Event::Send { to };
-        let done = self.desk.lock(rt).send(alloc, *number, account, to);
+        let mut ended = Ok(None);
+        let done = self
+            .desk
+            .lock(rt)
+            .send(alloc, *number, account, to, &mut ended);
         match done {
             Ok((parcel, kept)) => {
                 let answer = Answer::Sent(kept);
-                calls.push_reserved(Call { event, answer });
+                calls.keep(event, answer);
                 Ok(parcel)
             }
             Err(CallError::Site(SendError::NoSuchSite)) => {
                 let answer = Answer::SendRefused(SendError::NoSuchSite);
-                calls.push_reserved(Call { event, answer });
+                calls.keep(event, answer);
                 Err(CallError::Site(SendError::NoSuchSite))
             }
             Err(why) => Err(why),
         }
+    }
+
+    /// Has the site take a parcel under the lock, of which a copy is kept. A history that ends with it is let go of behind the lock.
+    fn take_locked(
+        &self,
+        rt: &impl Wait,
+        alloc: Global,
+        number: u8,
+        account: &mut Account<L>,
+        parcel: Parcel,
+        copy: BoxedParcel,
+    ) -> Result<Taken, Returned>
+        requires copy { copy ≡ parcel }
+        ensures made { IfOk result (λ _. account.new.count ≡ account.old.count + 1) }
+        ensures unmade { IfErr result (λ returned. account.new.count ≡ account.old.count + takes_made returned.why) }
+        ensures back { IfErr result (λ returned. returned.parcel ≡ parcel) }
+        ensures spent { IfErr result (λ returned. returned.why ≡ refused.SeatSpent → most_steps ≤ account.old.count) }
+    {
+        let mut ended = Ok(None);
+        let done = self
+            .desk
+            .lock(rt)
+            .take(alloc, number, account, parcel, copy, &mut ended);
+        done
     }
 
     /// Takes a parcel. A refused one is handed back.
@@ -201,7 +230,7 @@ impl<L: Ledger> Station<L> {
             let why = CallError::SeatSpent;
             return Err(Returned { why, parcel });
         }
-        let (Ok(()), Ok(copy)) = (calls.reserve(1), BoxedParcel::copy_of(alloc, &parcel)) else {
+        let (Ok(()), Ok(copy)) = (calls.reserve(), BoxedParcel::copy_of(alloc, &parcel)) else {
             let why = CallError::Site(TakeError::Memory);
             return Err(Returned { why, parcel });
         };
@@ -210,20 +239,17 @@ impl<L: Ledger> Station<L> {
             return Err(Returned { why, parcel });
         };
         let event = Event::Take { parcel: own };
-        let done = self
-            .desk
-            .lock(rt)
-            .take(alloc, *number, account, parcel, copy);
+        let done = self.take_locked(rt, alloc, *number, account, parcel, copy);
         match &done {
             Ok(told) => {
                 let answer = Answer::Taken(*told);
-                calls.push_reserved(Call { event, answer });
+                calls.keep(event, answer);
             }
             Err(Returned { why, .. }) => match why {
                 CallError::SeatSpent | CallError::Site(TakeError::Memory) => {}
                 CallError::Site(why) => {
                     let answer = Answer::TakeRefused(*why);
-                    calls.push_reserved(Call { event, answer });
+                    calls.keep(event, answer);
                 }
             },
         }
@@ -251,7 +277,12 @@ impl<L: Ledger> Station<L> {
         if account.is_spent() {
             return Err(SeatSpent);
         }
-        self.desk.lock(rt).maintain(alloc, *number, account, now)
+        let mut ended = Ok(None);
+        let done = self
+            .desk
+            .lock(rt)
+            .maintain(alloc, *number, account, now, &mut ended);
+        done
     }
 }
 

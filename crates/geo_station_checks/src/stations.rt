@@ -1,5 +1,5 @@
 //! What no clause says of stations: that their calls succeed where there is memory, what they answer, and the steps that are kept.
-ghost use Rattle.std.specs.Prelude.{◌≡◌, ◌≤◌, ◌^◌, ℕ, []};
+ghost use Rattle.std.specs.Prelude.{◌≡◌, ◌≤◌, ◌^◌, ℕ, [], IfSome};
 ghost use Rattle.geo_history.specs.Keeping.{opened_with};
 ghost use Rattle.geo_history.specs.Stories.{story_in};
 
@@ -184,6 +184,15 @@ fn carried<L: Ledger, R: Wait + Abort>(
     closed_at_last(rt, alloc, station, one, two, out)
 }
 
+/// A site alone, the steps of whose eras may keep so many bytes.
+fn bounded(rt: &impl RandomSource, alloc: Global, most_bytes: u64) -> Option<Kept>
+    ensures steps { IfSome result (λ kept. (story_in kept).steps ≡ []) }
+    ensures opening { IfSome result (λ kept. (seat : ℕ) → opened_with (story_in kept).opening seat ≡ 0) }
+{
+    let kept = opened(rt, alloc, 1, 1)?;
+    Some(kept.bounded(most_bytes))
+}
+
 /// The second site, which set a key that the station sets too.
 fn other_site(rt: &impl RandomSource, alloc: Global) -> Option<Site> {
     let request = request(alloc, b"set a 0 0 2\r\nyo\r\n")?;
@@ -325,4 +334,39 @@ fn an_audit_tells_a_renewed_station(rt: HostRuntime) {
     check(&rt, alloc, &[first], Told::Sound(1));
     let later = history_of(&rt, alloc, 1, RENEWED, &mut out);
     check(&rt, alloc, &[later], Told::LaterEra(1));
+}
+
+/// Calls of which the second and the fourth fill an era of 700 bytes.
+const FILLING: &[Call] = &[
+    Call::Act(b"set a 0 0 2\r\nhi\r\n"),
+    Call::Act(b"get a\r\n"),
+    Call::Act(b"get b\r\n"),
+    Call::Act(b"delete a\r\n"),
+    Call::Act(b"get a\r\n"),
+];
+
+#[test]
+fn the_call_that_fills_an_era_ends_it(rt: HostRuntime) {
+    let alloc = rt.alloc();
+    let mut out = Vec::new(alloc);
+    let mut other = other_site(&rt, alloc).expect(&rt, "another site");
+    let kept = bounded(&rt, alloc, 700).expect(&rt, "a site");
+    let history = carried::<Brand, _>(
+        &rt,
+        alloc,
+        Blank::new(2),
+        kept,
+        &mut other,
+        FILLING,
+        &mut out,
+    );
+    show_share(&mut out, &history).expect(&rt, "memory");
+    show_steps(&mut out, &history.steps).expect(&rt, "memory");
+    assert_eq!(rt;
+        out.as_slice(),
+        b"STORED\r\nVALUE a 0 2\r\nhi\r\nEND\r\nEND\r\nDELETED\r\nEND\r\n\
+          5 calls, false, Missing\n\
+          era 2 behind 4, share 5\n\
+          seat 0 step 5: act at 100; END\r\n\n"
+    );
 }

@@ -19,8 +19,8 @@ invariant_of-result c =
       who = (λ i. record { number = e.4 i; limits = e.5 i }) ∙ ap who_of (sym own);
     }
 
-pub returns : goal.returns
-returns c =
+pub returns-clause-opens : goal.returns-clause-opens
+returns-clause-opens c =
     let opening : Opening = record { era = 0; state = c.empty.result; counts = c.new-3.result } in
     let own : c.copied-own.result ≡ c.args.setup = c.copied-own.ensures in
     let opens : Describes opening.state (nothing_yet c.args.setup.sites) = subst (λ (s : Setup). Describes opening.state (nothing_yet s.sites)) own (describes_none opening.state c.copied-own.result.sites c.empty.ensures) in

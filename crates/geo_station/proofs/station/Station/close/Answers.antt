@@ -17,7 +17,7 @@ returns-then-not-whole-clause-differs g c = λ e.
     ]
 
 pub returns-clause-lawful : goal.returns-clause-lawful
-returns-clause-lawful g c = lawful_of (story_in c.into_inner-desk.result.kept) c.history.result c.history.ensures
+returns-clause-lawful g c = lawful_of (story_in c.into_inner-desk.result.kept) c.history.result c.history.ensures.is
 
 pub returns-clause-each : goal.returns-clause-each
-returns-clause-each g c = subst (λ opening. All (FitsIn opening c.history.result.steps.items) c.args.seats.items) (sym c.history.ensures.opening) (subst (λ steps. All (FitsIn (story_in c.into_inner-desk.result.kept).opening steps) c.args.seats.items) (sym c.history.ensures.steps) (subst (All (FitsIn (story_in c.into_inner-desk.result.kept).opening (story_in c.into_inner-desk.result.kept).steps)) c.as_slice.ensures.value c.if-not-all_fit.ensures))
+returns-clause-each g c = subst (λ opening. All (FitsIn opening c.history.result.steps.items) c.args.seats.items) (sym c.history.ensures.is.opening) (subst (λ steps. All (FitsIn (story_in c.into_inner-desk.result.kept).opening steps) c.args.seats.items) (sym c.history.ensures.is.steps) (subst (All (FitsIn (story_in c.into_inner-desk.result.kept).opening (story_in c.into_inner-desk.result.kept).steps)) c.as_slice.ensures.value c.if-not-all_fit.ensures))

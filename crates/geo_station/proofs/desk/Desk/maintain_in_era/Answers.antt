@@ -1,6 +1,6 @@
 use Rattle.std.proofs.Common.{refl, cond, arith}
 use Rattle.geo_station.proofs.Counting.{maintained}
-use Rattle.geo_station.proofs.desk.Desk.maintain.Goals as goal
+use Rattle.geo_station.proofs.desk.Desk.maintain_in_era.Goals as goal
 
 pub returns-clause-ok : goal.returns-clause-ok
 returns-clause-ok g c =

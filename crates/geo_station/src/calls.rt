@@ -1,0 +1,78 @@
+//! The calls that a seat keeps.
+ghost use Rattle.std.specs.Prelude.{◌≡◌, ◌<◌, ◌++◌, ◌∷◌, [], OnOk, vec_len, vec_capacity};
+ghost use Rattle.geo_station.specs.Seats.{call_of, calls_bytes, is_long};
+
+use crate::call::Call;
+use geo_history::{Answer, Event};
+use std::alloc::{AllocError, Global};
+
+/// So many calls are let go of when a seat is trimmed.
+const MOST_KEPT: usize = 1024;
+
+/// So many bytes of calls are let go of when a seat is trimmed: 4 MiB.
+const MOST_KEPT_BYTES: u64 = 4_194_304;
+
+/// What stands for a call, with keys of up to 24 bytes.
+const CALL_SIZE: u64 = 320;
+
+/// The calls that a seat keeps, and how many bytes they keep.
+#[derive(Drop)]
+pub(crate) struct Calls {
+    pub(crate) list: Vec<Call>,
+    bytes: u64,
+    ghost counted: { bytes ≡ calls_bytes list.items },
+}
+
+impl Calls {
+    /// None yet. It takes no memory.
+    pub(crate) fn new(alloc: Global) -> Calls
+        ensures { result.list.items ≡ [] }
+    {
+        Calls {
+            list: Vec::new(alloc),
+            bytes: 0,
+        }
+    }
+
+    /// Makes room for one more.
+    pub(crate) fn reserve(&mut self) -> Result<(), AllocError>
+        ensures items { self.new.list.items ≡ self.old.list.items }
+        ensures ok { OnOk result (vec_len self.new.list < vec_capacity self.new.list) }
+    {
+        self.list.reserve(1)
+    }
+
+    /// Keeps a call, for which there is room.
+    pub(crate) fn keep(&mut self, event: Event, answer: Answer)
+        requires { vec_len self.old.list < vec_capacity self.old.list }
+        ensures { self.new.list.items ≡ self.old.list.items ++ call_of event answer ∷ [] }
+    {
+        let sized = self.bytes.saturating_add(CALL_SIZE);
+        let asked = sized.saturating_add(event.bytes());
+        let all = asked.saturating_add(answer.bytes());
+        self.bytes = all;
+        self.list.push_reserved(Call { event, answer });
+    }
+
+    /// The calls.
+    pub(crate) fn as_slice(&self) -> &[Call]
+        ensures { result.now ≡ self.now.list.items }
+    {
+        self.list.as_slice()
+    }
+
+    /// Whether they are so many, or keep so many bytes, that a seat lets go of them when it is trimmed.
+    pub(crate) fn is_long(&self) -> bool
+        ensures { result ≡ is_long self.now.list.items }
+    {
+        self.list.len() >= MOST_KEPT || self.bytes >= MOST_KEPT_BYTES
+    }
+
+    /// Lets go of them.
+    pub(crate) fn clear(&mut self)
+        ensures { self.new.list.items ≡ [] }
+    {
+        self.list.clear();
+        self.bytes = 0;
+    }
+}
