@@ -1,3 +1,5 @@
 pub mod Streams
 pub mod Carrying
+pub mod Standings
+pub mod Listing
 pub mod Crowds

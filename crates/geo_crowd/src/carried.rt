@@ -1,7 +1,7 @@
 //! A connection with its session.
-ghost use Rattle.std.specs.Prelude.{◌≡◌, true};
+ghost use Rattle.std.specs.Prelude.{◌≡◌, ◌≢◌, true, MatchBool};
 ghost use Rattle.geo_session.specs.Sessions.{Sends};
-ghost use Rattle.geo_crowd.specs.Carrying.{Reads};
+ghost use Rattle.geo_crowd.specs.Carrying.{Reads, SendEnds, outcome_by, outcome_after};
 
 use crate::standing::Standing;
 use crate::stream::{Accepted, Given, Stream};
@@ -12,7 +12,7 @@ use std::rt::Clock;
 use std::sync::Wait;
 
 /// A client that is owed more bytes than that is read no further.
-const MOST_OWED: usize = 1 << 20;
+const MOST_OWED: usize = 1_048_576;
 
 /// What came of a read.
 #[derive(Clone, Copy, Debug, PartialEq, Eq)]
@@ -29,6 +29,27 @@ pub enum Came {
     Failed,
 }
 
+impl Came {
+    /// The outcome that it brings, if it brings one.
+    fn outcome(self) -> Option<Result<SessionEnd, SessionFault>>
+        ensures { result ≡ outcome_by self }
+    {
+        match self {
+            Came::Answered(None, _) | Came::Later => None,
+            Came::Answered(Some(end), _) => Some(Ok(end)),
+            Came::Broken(fault) => Some(Err(fault)),
+            Came::End => Some(Ok(SessionEnd::EndOfInput)),
+            Came::Failed => Some(Err(SessionFault::Read)),
+        }
+    }
+
+    /// Whether more may be there.
+    fn has_more(self, is_ending: bool) -> bool {
+        // a socket that gave less than there was room for has no more, and tells when it has, but for its end, if that is known
+        matches!(self, Came::Answered(None, is_full) if is_full | is_ending)
+    }
+}
+
 /// What came of writing.
 #[derive(Clone, Copy, Debug, PartialEq, Eq)]
 enum Sent {
@@ -40,10 +61,34 @@ enum Sent {
     Failed,
 }
 
+impl Sent {
+    /// The outcome behind it, with this one before.
+    fn outcome(
+        self,
+        before: Option<Result<SessionEnd, SessionFault>>,
+    ) -> Option<Result<SessionEnd, SessionFault>>
+        ensures { result ≡ outcome_after self before }
+    {
+        match self {
+            Sent::All | Sent::Part => before,
+            Sent::Failed => Some(Err(SessionFault::Write)),
+        }
+    }
+}
+
+/// Whether a connection with such an outcome can be written no more.
+fn is_cut(outcome: Result<SessionEnd, SessionFault>) -> bool
+    ensures { MatchBool result (outcome ≡ Err SessionFault.Write) (outcome ≢ Err SessionFault.Write) }
+{
+    matches!(outcome, Err(SessionFault::Write))
+}
+
 /// Writes what a session owes, as far as there is room.
 fn send<S: Stream>(stream: &mut S, session: &mut Session) -> Sent
     ensures sends { Sends session.old session.new (S.contents stream.old) (S.contents stream.new) }
+    ensures ends { SendEnds result session.new.owed (S.last_accepted stream.new) }
     ensures stays { S.remaining stream.new ≡ S.remaining stream.old }
+    ensures given { S.last_given stream.new ≡ S.last_given stream.old }
 {
     while !session.owed().is_empty() {
         match stream.write(session.owed()) {
@@ -66,9 +111,10 @@ fn take<S: Stream, R: Wait + Clock, B: Backend, G: Gate>(
     buffer: &mut [u8],
 ) -> Came
     requires { session.old.goes_on ≡ true }
-    ensures reads { Reads B.answers B.refuses result (S.remaining stream.old) (S.remaining stream.new) session.old session.new backend.old
-        backend.new }
+    ensures reads { Reads B.answers B.refuses result (S.remaining stream.old) (S.remaining stream.new) (S.last_given stream.new) session.old
+        session.new backend.old backend.new }
     ensures stays { S.contents stream.new ≡ S.contents stream.old }
+    ensures accepted { S.last_accepted stream.new ≡ S.last_accepted stream.old }
 {
     match stream.read(buffer) {
         Given::Bytes(count) => {
@@ -104,19 +150,25 @@ impl<S: Stream> Model for Carried<S> {
 
     ghost Value = { Carriage };
 
-    ghost view = { λ s. record { left = S.remaining s.stream; written = S.contents s.stream; session = s.session } };
+    ghost view = { λ s. record {
+      left = S.remaining s.stream;
+      written = S.contents s.stream;
+      given = S.last_given s.stream;
+      accepted = S.last_accepted s.stream;
+      session = s.session;
+      outcome = s.outcome;
+    } };
 
-    ghost invariant = { λ s. IsCarried (S.contents s.stream) s.session };
+    ghost invariant = { λ s. IsCarried (S.contents s.stream) s.session s.outcome };
 }
 
 impl<S: Stream> Carried<S> {
     ghost use Rattle.std.specs.Prelude.{◌≡◌};
-    ghost use Rattle.geo_session.specs.Connections.{new_connection};
-    ghost use Rattle.geo_crowd.specs.Carrying.{IsCarried, IsOver, Turns, Writes};
+    ghost use Rattle.geo_crowd.specs.Carrying.{IsCarried, MayRead, MayHear, MayWrite, Stands, Turns, new_carriage};
 
     /// A connection on which nothing came and nothing was written, and of which it is not known whether it is ready.
     pub fn new(alloc: Global, stream: S) -> Carried<S>
-        ensures { result ≡ record { left = S.remaining stream; written = S.contents stream; session = new_connection } }
+        ensures { result ≡ new_carriage (S.remaining stream) (S.contents stream) (S.last_given stream) (S.last_accepted stream) }
     {
         Carried {
             stream,
@@ -139,7 +191,7 @@ impl<S: Stream> Carried<S> {
 
     /// Whether it is to be read.
     fn may_read(&self) -> bool
-        ensures { result ≡ true → self.now.session.goes_on ≡ true }
+        ensures { result ≡ true → MayRead self.now }
     {
         self.outcome.is_none()
             && self.is_readable
@@ -149,19 +201,14 @@ impl<S: Stream> Carried<S> {
 
     /// Writes what is owed, as far as there is room.
     fn write(&mut self)
-        ensures { Writes self.old self.new }
+        ensures { MayWrite self.old self.new }
     {
         if !self.is_writable {
             return;
         }
-        match send(&mut self.stream, &mut self.session) {
-            Sent::All => {}
-            Sent::Part => self.is_writable = false,
-            Sent::Failed => {
-                self.is_writable = false;
-                self.outcome = Some(Err(SessionFault::Write));
-            }
-        }
+        let sent = send(&mut self.stream, &mut self.session);
+        self.is_writable = sent == Sent::All;
+        self.outcome = sent.outcome(self.outcome);
     }
 
     /// Reads once where it may, and has what comes answered.
@@ -173,12 +220,12 @@ impl<S: Stream> Carried<S> {
         gate: &G,
         buffer: &mut [u8],
     )
-        ensures { Turns B.answers B.refuses self.old self.new backend.old backend.new }
+        ensures { MayHear B.answers B.refuses self.old self.new backend.old backend.new }
     {
         if !self.may_read() {
             return;
         }
-        match take(
+        let came = take(
             rt,
             alloc,
             &mut self.stream,
@@ -186,15 +233,9 @@ impl<S: Stream> Carried<S> {
             backend,
             gate,
             buffer,
-        ) {
-            // a socket that gave less than there was room for has no more, and tells when it has, but for its end, if that is known
-            Came::Answered(None, is_full) => self.is_readable = is_full | self.is_ending,
-            Came::Answered(Some(end), _) => self.outcome = Some(Ok(end)),
-            Came::Broken(fault) => self.outcome = Some(Err(fault)),
-            Came::Later => self.is_readable = false,
-            Came::End => self.outcome = Some(Ok(SessionEnd::EndOfInput)),
-            Came::Failed => self.outcome = Some(Err(SessionFault::Read)),
-        }
+        );
+        self.is_readable = came.has_more(self.is_ending);
+        self.outcome = came.outcome();
     }
 
     /// The stream. What was not written is lost.
@@ -208,15 +249,17 @@ impl<S: Stream> Carried<S> {
 
     /// How it stands.
     fn standing(&self) -> Standing
-        ensures carries { IsCarried self.now.written self.now.session }
-        ensures over { IsOver result self.now.session.owed }
+        ensures carries { IsCarried self.now.written self.now.session self.now.outcome }
+        ensures stands { Stands result self.now }
     {
         let owes = !self.session.owed().is_empty();
         match self.outcome {
-            Some(Err(SessionFault::Write)) => Standing::Over(Err(SessionFault::Write)),
             Some(outcome) if !owes => Standing::Over(outcome),
-            _ if owes && self.is_writable || self.may_read() => Standing::Again,
-            _ => Standing::Waits,
+            Some(outcome) if is_cut(outcome) => Standing::Over(outcome),
+            Some(_) if self.is_writable => Standing::Again,
+            Some(_) => Standing::Waits,
+            None if owes && self.is_writable || self.may_read() => Standing::Again,
+            None => Standing::Waits,
         }
     }
 
@@ -230,8 +273,8 @@ impl<S: Stream> Carried<S> {
         buffer: &mut [u8],
     ) -> Standing
         ensures turns { Turns B.answers B.refuses self.old self.new backend.old backend.new }
-        ensures carries { IsCarried self.new.written self.new.session }
-        ensures over { IsOver result self.new.session.owed }
+        ensures carries { IsCarried self.new.written self.new.session self.new.outcome }
+        ensures stands { Stands result self.new }
     {
         self.write();
         self.read(rt, alloc, backend, gate, buffer);

@@ -1,99 +1,55 @@
 //! The connections of one thread.
-ghost use Rattle.std.specs.Prelude.{◌≡◌, ◌≢◌, ◌++◌, ◌∷◌, ◌⊎◌, [], IfOk, OnErr, MatchBool, None, Some, List, ℕ, cond};
-ghost use Rattle.geo_crowd.specs.Crowds.{next_due};
+ghost use Rattle.std.specs.Prelude.{◌≡◌, ◌≢◌, ◌++◌, ◌∷◌, ◌⊎◌, [], length, vec_capacity, IfOk, OnErr, IsSome, MatchBool, None, Some};
+ghost use Rattle.geo_crowd.specs.Listing.{AllListed, HasRoomForAll, StandsIn, is_listed_at};
 
 use crate::carried::Carried;
+use crate::passed::Passed;
 use crate::polling::{Polling, Ready};
-use crate::standing::Standing;
+use crate::roster::Roster;
 use crate::stream::Stream;
+use crate::turns::pass_over;
 use geo_session::{Backend, Gate};
-use slab::Slab;
 use std::alloc::{AllocError, Global};
-use std::mem;
 use std::rt::Clock;
 use std::sync::Wait;
-
-/// A read brings so many bytes at most.
-const PIECE: usize = 16_384;
-
-/// What a pass brought to its end.
-#[derive(Clone, Copy, Debug, PartialEq, Eq)]
-pub struct Passed {
-    /// How many connections ended.
-    pub ended: usize,
-    /// How many of them by a fault.
-    pub faults: usize,
-    /// Whether some connection can go on at once.
-    pub goes_on: bool,
-}
-
-impl Passed {
-    /// Counts a connection that has ended, if it has.
-    fn count(&mut self, standing: Option<Standing>) {
-        if let Some(Standing::Over(outcome)) = standing {
-            self.ended = self.ended.saturating_add(1);
-            self.faults = self.faults.saturating_add(outcome.is_err() as usize);
-        }
-    }
-}
-
-/// Whether a connection has a turn in the next pass too.
-fn goes_on(standing: Option<Standing>) -> bool
-    ensures { (number : ℕ) → next_due standing number [] ≡ cond result (number ∷ []) [] }
-{
-    matches!(standing, Some(Standing::Again))
-}
-
-/// A connection, and whether it is listed for the next pass.
-#[derive(Drop)]
-struct Member<S: Stream + Drop> {
-    carried: Carried<S>,
-    is_listed: bool,
-}
 
 /// The connections of one thread, each under a number.
 #[derive(Drop)]
 pub struct Crowd<S: Stream + Drop> {
-    alloc: Global,
-    members: Slab<Member<S>>,
+    roster: Roster<S>,
     // Those that can go on.
     listed: Vec<usize>,
-    buffer: Vec<u8>,
-    // The streams of those that are over, until somebody fetches them.
-    left: Vec<S>,
+    ghost lists: { AllListed (is_listed_at roster.members) listed.items },
+    ghost room: { HasRoomForAll roster.members (length listed.items) (vec_capacity listed) },
 }
 
 impl<S: Stream + Drop> Crowd<S> {
-    ghost use Rattle.geo_crowd.specs.Crowds.{at, due, Stand, OthersStand, Visits, Passes};
+    ghost use Rattle.geo_crowd.specs.Crowds.{at, due, Stand, OthersStand, Passes, Rounds, sums_of};
 
     /// No connections.
     pub fn new(alloc: Global) -> Result<Crowd<S>, AllocError>
         ensures none { IfOk result (λ crowd. Stand (λ _. None) (at crowd)) }
         ensures due { IfOk result (λ crowd. due crowd ≡ []) }
     {
-        let buffer = vec![in alloc; 0u8; PIECE]?;
         Ok(Crowd {
-            alloc,
-            members: Slab::new(alloc),
+            roster: Roster::new(alloc)?,
             listed: Vec::new(alloc),
-            buffer,
-            left: Vec::new(alloc),
         })
     }
 
     /// How many connections there are.
     pub fn len(&self) -> usize {
-        self.members.len()
+        self.roster.len()
     }
 
     /// Whether there is none.
     pub fn is_empty(&self) -> bool {
-        self.members.is_empty()
+        self.roster.len() == 0
     }
 
     /// The number of the connection that is taken in next.
     pub fn next_number(&self) -> usize {
-        self.members.vacant_key()
+        self.roster.next_number()
     }
 
     /// Takes a connection in, and says under which number. It is given a turn in the next pass. Where memory is refused the
@@ -106,63 +62,34 @@ impl<S: Stream + Drop> Crowd<S> {
         ensures unchanged { OnErr result (Stand (at self.old) (at self.new) × (due self.new ≡ due self.old)) }
     {
         // room for the number of each, however they become ready
-        self.listed.reserve(self.members.len().saturating_add(1))?;
-        let member = Member {
-            carried,
-            is_listed: true,
-        };
-        let Ok(number) = self.members.insert(member) else {
+        let Some(count) = self.roster.len().checked_add(1) else {
             return Err(AllocError);
         };
-        let Ok(()) = self.listed.push(number) else {
-            unreachable!();
-        };
-        Ok(number)
+        self.listed.reserve(count)?;
+        match self.roster.insert(carried) {
+            Ok(number) => {
+                let Ok(()) = self.listed.push(number) else {
+                    unreachable!();
+                };
+                Ok(number)
+            }
+            Err(error) => Err(error),
+        }
     }
 
-    /// A connection is ready: it is given a turn in the next pass.
+    /// A connection is ready: it is given a turn in the next pass. Nothing is done where none has the number.
     pub fn is_ready(&mut self, ready: Ready)
         ensures stand { Stand (at self.old) (at self.new) }
-        ensures due { (due self.new ≡ due self.old) ⊎ (due self.new ≡ due self.old ++ (ready.number ∷ [])) }
+        ensures listed { IsSome (at self.old ready.number) → StandsIn (due self.new) ready.number }
+        ensures due { (due self.new ≡ due self.old)
+            ⊎ (IsSome (at self.old ready.number) × (due self.new ≡ due self.old ++ (ready.number ∷ []))) }
     {
-        let Ready {
-            number,
-            readable,
-            writable,
-            ending,
-        } = ready;
-        let Some(member) = self.members.get_mut(number) else {
+        if !self.roster.wake(ready) {
             return;
+        }
+        let Ok(()) = self.listed.push(ready.number) else {
+            unreachable!();
         };
-        member.carried.is_ready(readable, writable, ending);
-        if !member.is_listed && self.listed.push(number).is_ok() {
-            member.is_listed = true;
-        }
-    }
-
-    /// Gives a connection its turn, and lets go of it where that was the last.
-    fn visit<R: Wait + Clock, B: Backend, G: Gate>(
-        &mut self,
-        rt: &R,
-        backend: &mut B,
-        gate: &G,
-        number: usize,
-    ) -> Option<Standing>
-        ensures visits { Visits B.answers B.refuses number result (at self.old) (at self.new) backend.old backend.new }
-        ensures due { due self.new ≡ due self.old }
-    {
-        let member = self.members.get_mut(number)?;
-        let standing = member
-            .carried
-            .turn(rt, self.alloc, backend, gate, self.buffer.as_mut_slice());
-        member.is_listed = standing == Standing::Again;
-        if matches!(standing, Standing::Over(_)) {
-            if let Some(member) = self.members.try_remove(number) {
-                // where memory is refused the stream is closed at once
-                let _ = self.left.push(member.carried.into_stream());
-            }
-        }
-        Some(standing)
     }
 
     /// The streams of the connections that were over since it was asked last, for whoever closes them.
@@ -170,7 +97,7 @@ impl<S: Stream + Drop> Crowd<S> {
         ensures stand { Stand (at self.old) (at self.new) }
         ensures due { due self.new ≡ due self.old }
     {
-        mem::replace(&mut self.left, Vec::new(self.alloc))
+        self.roster.take_left()
     }
 
     /// One pass: each connection that can go on has one turn.
@@ -180,30 +107,10 @@ impl<S: Stream + Drop> Crowd<S> {
         backend: &mut B,
         gate: &G,
     ) -> Passed
-        ensures passes { Passes B.answers B.refuses (due self.old) (due self.new) (at self.old) (at self.new) backend.old backend.new }
+        ensures passes { Passes B.answers B.refuses (due self.old) (sums_of self.new result) (at self.old) (at self.new) backend.old backend.new }
         ensures goes_on { MatchBool result.goes_on (due self.new ≢ []) (due self.new ≡ []) }
     {
-        let mut passed = Passed {
-            ended: 0,
-            faults: 0,
-            goes_on: false,
-        };
-        // nobody else lists a connection during a pass, so that those that go on are kept where they stand
-        let mut turns = mem::replace(&mut self.listed, Vec::new(self.alloc));
-        let mut kept = 0;
-        for at in 0..turns.len() {
-            let number = turns[at];
-            let standing = self.visit(rt, backend, gate, number);
-            passed.count(standing);
-            if goes_on(standing) {
-                turns[kept] = number;
-                kept += 1;
-            }
-        }
-        turns.truncate(kept);
-        passed.goes_on = kept > 0;
-        self.listed = turns;
-        passed
+        pass_over(rt, &mut self.roster, &mut self.listed, backend, gate)
     }
 
     /// One round: waits until some connection is ready, or not at all where some can go on, and gives each that can one turn.
@@ -214,13 +121,15 @@ impl<S: Stream + Drop> Crowd<S> {
         backend: &mut B,
         gate: &G,
     ) -> Passed
-        ensures passes { (turns : List ℕ)
-            × Passes B.answers B.refuses turns (due self.new) (at self.old) (at self.new) backend.old backend.new }
+        ensures rounds { Rounds B.answers B.refuses (P.told polling.new) (due self.old) (sums_of self.new result) (at self.old) (at self.new)
+            backend.old backend.new }
         ensures goes_on { MatchBool result.goes_on (due self.new ≢ []) (due self.new ≡ []) }
     {
         polling.wait(!self.listed.is_empty());
-        for ready in polling.ready() {
-            self.is_ready(*ready);
+        let told = polling.ready();
+        for at in 0..told.len() {
+            let ready = told[at];
+            self.is_ready(ready);
         }
         self.pass(rt, backend, gate)
     }

@@ -9,12 +9,16 @@
 
 mod carried;
 mod crowd;
+mod passed;
 mod polling;
+mod roster;
 mod standing;
 mod stream;
+mod turns;
 
 pub use carried::Carried;
-pub use crowd::{Crowd, Passed};
+pub use crowd::Crowd;
+pub use passed::Passed;
 pub use polling::{Polling, Ready};
 pub use standing::Standing;
 pub use stream::{Accepted, Given, Stream};

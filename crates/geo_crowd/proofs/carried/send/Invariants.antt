@@ -6,6 +6,7 @@ abbrev pub invariant-loop-stream : goal.invariant-loop-stream
 invariant-loop-stream g l = record {
   sends : Sends l.initial.session l.session (g.S.Stream.contents l.fn.stream) (g.S.Stream.contents l.stream);
   stays : g.S.Stream.remaining l.stream ≡ g.S.Stream.remaining l.fn.stream;
+  given : g.S.Stream.last_given l.stream ≡ g.S.Stream.last_given l.fn.stream;
 }
 
 abbrev pub decreases-loop-stream : goal.decreases-loop-stream

@@ -1,6 +1,10 @@
-use Rattle.geo_crowd.proofs.Moves.{turns_between}
 use Rattle.geo_crowd.proofs.carried.Carried.turn.Goals as goal
 
 pub returns-clause-turns : goal.returns-clause-turns
-returns-clause-turns g c =
-    turns_between g.B.Backend.answers g.B.Backend.refuses c.args.self.now c.write.new.self c.read.new.self c.write-2.new.self c.args.backend.now c.read.new.backend c.write.ensures c.read.ensures c.write-2.ensures
+returns-clause-turns g c = record {
+  mid = c.write.new.self;
+  next = c.read.new.self;
+  first = c.write.ensures;
+  hears = c.read.ensures;
+  last = c.write-2.ensures;
+}
