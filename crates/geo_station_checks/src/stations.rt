@@ -368,5 +368,6 @@ fn the_call_that_fills_an_era_ends_it(rt: HostRuntime) {
           5 calls, false, Missing\n\
           era 2 behind 4, share 5\n\
           seat 0 step 5: act at 100; END\r\n\n"
+            .as_slice()
     );
 }
