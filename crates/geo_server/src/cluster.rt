@@ -1,12 +1,15 @@
 //! All sites of a configuration, from their first thread to what is told of them.
-ghost use Rattle.std.specs.Prelude.{◌≡◌, ◌≤◌, true};
+ghost use Rattle.std.specs.Prelude.{◌≡◌, ◌≤◌, true, length, IfOk, Some};
 ghost use Rattle.geo_audit.specs.Verdicts.{AreInOrder};
 ghost use Rattle.geo_config.specs.Lawful.{IsLawful};
+ghost use Rattle.geo_history.specs.Stories.{most_bytes_in, setup_in};
 
 use crate::fault::{ClusterFault, add};
+use crate::putting::Way;
 use crate::report::{report, verdict_word};
 use crate::site::{Crew, Ended, Fresh, Job, Shared, made_posts, run_site};
 use crate::start::Start;
+use crate::threads::run_all;
 use crate::wires::{Memory, Tcp, Wires};
 use geo_audit::audit;
 use geo_config::{Config, LinkKind, SiteConfig};
@@ -23,7 +26,7 @@ use std::random::RandomSource;
 use std::rt::Clock;
 use std::sync::Wait;
 use std::sync::atomic::AtomicU64;
-use std::thread::{Threads, map_vec};
+use std::thread::Threads;
 use std::time::Duration;
 
 /// Listens at an address.
@@ -52,6 +55,12 @@ fn opened<R: RandomSource>(
     site: &SiteConfig,
 ) -> Result<Fresh, ClusterFault>
     requires { IsLawful config.now }
+    ensures site { IfOk result (λ fresh. (setup_in fresh.kept).site ≡ site.now.number) }
+    ensures sites { IfOk result (λ fresh. (setup_in fresh.kept).sites ≡ length config.now.sites.items) }
+    ensures pages { IfOk result (λ fresh. (setup_in fresh.kept).pages ≡ config.now.pages) }
+    ensures records { IfOk result (λ fresh. (setup_in fresh.kept).max_records ≡ config.now.max_records) }
+    ensures reaps { IfOk result (λ fresh. (setup_in fresh.kept).reap_after ≡ config.now.reap_after) }
+    ensures bound { IfOk result (λ fresh. most_bytes_in fresh.kept ≡ Some config.now.era_bytes) }
 {
     let Ok(hasher) = RandomState::new(rt) else {
         return Err(ClusterFault::Socket);
@@ -65,7 +74,9 @@ fn opened<R: RandomSource>(
         hasher,
     };
     match Kept::new(alloc, setup) {
-        Ok(kept) => Ok(Fresh { kept }),
+        Ok(kept) => Ok(Fresh {
+            kept: kept.bounded(config.era_bytes),
+        }),
         Err(_) => Err(ClusterFault::Memory),
     }
 }
@@ -77,7 +88,7 @@ struct Ends<P, Q> {
     froms: Vec<Q>,
 }
 
-/// A link from each site to each other one, in the order of their numbers.
+/// A link from each site to each other one, in the order of their numbers, and what each gets from beside these.
 fn wired<R, W: Wires<R>>(
     rt: &R,
     alloc: Global,
@@ -97,9 +108,13 @@ fn wired<R, W: Wires<R>>(
     for from in 0..sites {
         for to in 0..sites {
             if from != to {
-                let (put, get) = wires.link(rt, alloc, to)?;
+                let way = Way {
+                    from: from as u8 + 1,
+                    to: to as u8 + 1,
+                };
+                let (put, get) = wires.link(rt, alloc, way)?;
                 let peer = Peer {
-                    site: to as u8 + 1,
+                    site: way.to,
                     link: put,
                 };
                 if let Some(ends) = all.get_mut(from) {
@@ -109,6 +124,12 @@ fn wired<R, W: Wires<R>>(
                     add(&mut ends.froms, get)?;
                 }
             }
+        }
+    }
+    for at in 0..sites {
+        let guests = wires.guests(rt, alloc, at)?;
+        if let (Some(ends), Some(guests)) = (all.get_mut(at), guests) {
+            add(&mut ends.froms, guests)?;
         }
     }
     Ok(all)
@@ -151,12 +172,18 @@ fn workers_of(config: &Config) -> u64 {
     all
 }
 
-/// How many threads all sites have: each those for its workers, gossip and maintenance, for a link from each other site, and the one
-/// that lets clients in.
+/// How many threads all sites have: each those for its workers, gossip and maintenance, for a link from each other site, the one that
+/// lets clients in, and at a peer port the one that hears who comes later.
 fn threads_of(config: &Config) -> u64 {
+    let guests = match config.link {
+        LinkKind::Memory => 0u64,
+        LinkKind::Tcp => 1,
+    };
+    let sites = config.sites.len() as u64;
+    let others = sites.saturating_add(2).saturating_add(guests);
     let mut all = workers_of(config);
     for _site in config.sites.iter() {
-        all = all.saturating_add(config.sites.len() as u64 + 2);
+        all = all.saturating_add(others);
     }
     all
 }
@@ -186,12 +213,16 @@ where
 {
     let ends = wired(rt, alloc, config.sites.len(), wires)?;
     let jobs = jobs(rt, alloc, config, listeners, ends)?;
-    let ended = map_vec(
+    let ended = run_all(
         rt,
+        alloc,
+        &shared.start,
+        shared.stop,
         jobs,
         &|job: Job<W::Put, W::Get>| -> Result<Ended, ClusterFault> {
             run_site(rt, alloc, shared, job)
         },
+        || {},
     )?;
     let mut all = Vec::new(alloc);
     for one in ended {
@@ -207,6 +238,7 @@ fn run<
         + Wait
         + Clock
         + RandomSource
+        + Eprint
         + Sync,
     G: Gate,
 >(rt: &R, alloc: Global, config: &Config, gate: &G) -> Result<Vec<Ended>, ClusterFault>
@@ -233,6 +265,7 @@ fn run<
         LinkKind::Memory => run_sites(rt, alloc, config, &shared, clients, &Memory),
         LinkKind::Tcp => {
             let wires = Tcp {
+                net: rt,
                 ports: ports.as_slice(),
                 stop: &stop,
             };
@@ -299,6 +332,7 @@ pub fn run_cluster<
         + Wait
         + Clock
         + RandomSource
+        + Eprint
         + Sync,
     G: Gate,
     W: Write,

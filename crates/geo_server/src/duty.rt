@@ -2,50 +2,36 @@
 ghost use Rattle.std.specs.Prelude.{◌≡◌};
 
 use crate::clock::SystemClock;
+use crate::counting::{Clerk, Counting, Named, Rested};
 use crate::site::Shared;
 use crate::worker::Worker;
 use geo_crowd::Passed;
 use geo_gossip::{Peer, receive, round};
 use geo_link::{Link, Tallied};
+use geo_session::Gate;
 use geo_session::clock::Clock;
-use geo_session::{Counted, Gate};
 use geo_station::{Seat, Station};
-use geo_tally::{Counter, Tally, TallySeat};
+use geo_tally::{Counter, TallySeat};
 use std::alloc::Global;
 use std::rt;
 use std::sync::Wait;
 use std::sync::ledger::Ledger;
 
-/// A seat of a tally, with the tally that gave it.
-#[derive(Drop)]
-pub(crate) struct Counting<'a> {
-    pub(crate) tally: &'a Tally,
-    pub(crate) seat: TallySeat,
-    ghost given: { seat.tally ≡ tally.now.tally },
-}
-
-impl Counting<'_> {
-    /// Adds one to a counter.
-    fn count(&mut self, counter: Counter) {
-        let _ = self.tally.add(&mut self.seat, counter);
-    }
-}
-
 /// What a thread of a site does until the cluster is told to stop.
 #[derive(Drop)]
-pub(crate) enum Duty<'a, L: Ledger, P: Link + Drop, Q: Link + Drop> {
+pub(crate) enum Duty<'a, L: Ledger, N: Named, P: Link + Drop, Q: Link + Drop> {
     /// Carries clients' connections.
-    Serve(Counted<'a, L, SystemClock>, Worker<'a>),
+    Serve(Clerk<'a, L, N>, Worker<'a>),
     /// Tells the other sites what was written here.
-    Gossip(Seat<L>, Counting<'a>, Vec<Peer<P>>),
+    Gossip(Seat<L>, Counting<'a, N>, Vec<Peer<P>>),
     /// Does what a site needs from time to time.
-    Maintain(Seat<L>),
+    Maintain(Seat<L>, Counting<'a, N>),
     /// Takes what another site tells.
-    Receive(Seat<L>, Tallied<'a, Q>),
+    Receive(Seat<L>, Counting<'a, N>, Q),
 }
 
 /// Counts sessions that ended.
-fn count_sessions<L: Ledger>(backend: &mut Counted<'_, L, SystemClock>, passed: Passed) {
+fn count_sessions<L: Ledger, N: Named>(backend: &mut Clerk<'_, L, N>, passed: Passed) {
     for _session in 0..passed.ended {
         backend.count(Counter::Sessions);
     }
@@ -54,46 +40,46 @@ fn count_sessions<L: Ledger>(backend: &mut Counted<'_, L, SystemClock>, passed: 
     }
 }
 
-/// Carries clients' connections until no more come and all have ended, and gives the station's seat back.
-fn serve_clients<R: Wait + rt::Clock, L: Ledger, G: Gate>(
+/// Carries clients' connections until no more come and all have ended, and gives the seats back.
+fn serve_clients<R: Wait + rt::Clock, L: Ledger, N: Named, G: Gate>(
     rt: &R,
     alloc: Global,
     shared: &Shared<'_, G>,
-    mut backend: Counted<'_, L, SystemClock>,
+    mut backend: Clerk<'_, L, N>,
     mut worker: Worker<'_>,
-) -> Seat<L> {
+) -> Rested<L, N> {
     if !shared.comes(rt) {
-        return backend.into_seats().0;
+        return backend.into_rested();
     }
     for _ in rt.forever() {
         let passed = worker.turn(rt, alloc, &mut backend, shared.gate);
         count_sessions(&mut backend, passed);
         if worker.is_done() {
             shared.worker_ends();
-            return backend.into_seats().0;
+            return backend.into_rested();
         }
     }
     unreachable!()
 }
 
 /// Sends rounds until the cluster stops, and then lets go of the links, by which those who receive at their ends learn of it.
-fn gossip<R: Wait + rt::Clock, L: Ledger, K: Link + Drop, G: Gate>(
+fn gossip<R: Wait + rt::Clock, L: Ledger, N: Named, K: Link + Drop, G: Gate>(
     rt: &R,
     alloc: Global,
     shared: &Shared<'_, G>,
     station: &Station<L>,
     mut seat: Seat<L>,
-    mut counting: Counting<'_>,
+    mut counting: Counting<'_, N>,
     mut peers: Vec<Peer<K>>,
-) -> Seat<L> {
+) -> Rested<L, N> {
     if !shared.comes(rt) {
-        return seat;
+        return counting.into_rested(seat);
     }
     for _ in rt.forever() {
         let _ = round(rt, alloc, station, &mut seat, peers.as_mut_slice());
         counting.count(Counter::Rounds);
         if shared.stops_within(rt) {
-            return seat;
+            return counting.into_rested(seat);
         }
     }
     unreachable!()
@@ -120,27 +106,64 @@ fn maintain<R: Wait + rt::Clock, L: Ledger, G: Gate>(
     unreachable!()
 }
 
-impl<L: Ledger, P: Link + Drop, Q: Link + Drop> Duty<'_, L, P, Q> {
-    /// Does it to its end, once all threads have begun, and gives the station's seat back.
+/// Takes what comes over a link until it is closed, and gives back the seat that counts what the link refused.
+fn hear<R: Wait, L: Ledger, K: Link + Drop>(
+    rt: &R,
+    alloc: Global,
+    station: &Station<L>,
+    seat: &mut Seat<L>,
+    mut link: Tallied<'_, K>,
+) -> TallySeat
+    ensures { result.tally ≡ link.entry.seat.tally }
+{
+    let _ = receive(rt, alloc, station, seat, &mut link);
+    let (_link, counts) = link.into_parts();
+    counts
+}
+
+/// Takes what another site tells until it tells no more.
+fn hear_out<R: Wait, L: Ledger, N: Named, K: Link + Drop, G: Gate>(
+    rt: &R,
+    alloc: Global,
+    shared: &Shared<'_, G>,
+    station: &Station<L>,
+    mut seat: Seat<L>,
+    counting: Counting<'_, N>,
+    from: K,
+) -> Rested<L, N> {
+    if !shared.comes(rt) {
+        return counting.into_rested(seat);
+    }
+    let Counting {
+        tally,
+        seat: counts,
+        ..
+    } = counting;
+    let link = Tallied::new(from, tally, counts);
+    let counts = hear(rt, alloc, station, &mut seat, link);
+    Rested::new(seat, counts)
+}
+
+impl<L: Ledger, N: Named, P: Link + Drop, Q: Link + Drop> Duty<'_, L, N, P, Q> {
+    /// Does it to its end, once all threads have begun, and gives the seats back.
     pub(crate) fn run<R: Wait + rt::Clock, G: Gate>(
         self,
         rt: &R,
         alloc: Global,
         shared: &Shared<'_, G>,
         station: &Station<L>,
-    ) -> Seat<L> {
+    ) -> Rested<L, N> {
         match self {
             Duty::Serve(backend, worker) => serve_clients(rt, alloc, shared, backend, worker),
             Duty::Gossip(seat, counting, peers) => gossip(
                 rt, alloc, shared, station, seat, counting, peers,
             ),
-            Duty::Maintain(seat) => maintain(rt, alloc, shared, station, seat),
-            Duty::Receive(mut seat, mut link) => {
-                if shared.comes(rt) {
-                    let _ = receive(rt, alloc, station, &mut seat, &mut link);
-                }
-                seat
+            Duty::Maintain(seat, counting) => {
+                counting.into_rested(maintain(rt, alloc, shared, station, seat))
             }
+            Duty::Receive(seat, counting, from) => hear_out(
+                rt, alloc, shared, station, seat, counting, from,
+            ),
         }
     }
 }

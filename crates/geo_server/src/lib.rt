@@ -9,15 +9,20 @@
 mod accept;
 mod clock;
 mod cluster;
+mod counting;
 mod duty;
 mod fault;
+mod guest;
 mod leaving;
 mod mailbox;
+mod porter;
+mod putting;
 mod report;
 mod site;
 mod socket;
 mod start;
 mod tcp;
+mod threads;
 mod wires;
 mod worker;
 

@@ -1,30 +1,32 @@
 //! One site with its threads.
 ghost use Rattle.std.specs.Prelude.{◌≡◌, ℕ, [], IfOk, IfSome};
 ghost use Rattle.std.specs.List.{All};
+ghost use Rattle.geo_tally.specs.Counts.{all_together, in_order};
 ghost use Rattle.geo_history.specs.Keeping.{opened_with};
 ghost use Rattle.geo_history.specs.Stories.{story_in};
 
 use crate::accept::accept;
-use crate::clock::SystemClock;
-use crate::duty::{Counting, Duty};
+use crate::counting::{Clerk, Counting, Named, Rested};
+use crate::duty::Duty;
 use crate::fault::{ClusterFault, add};
 use crate::mailbox::Mailbox;
 use crate::start::Start;
+use crate::threads::run_all;
 use crate::worker::{HANDED_IN, Worker};
 use geo_gossip::Peer;
 use geo_history::{History, Kept};
-use geo_link::{Link, Tallied};
-use geo_session::{Counted, Gate};
+use geo_link::Link;
+use geo_session::Gate;
 use geo_station::{Seat, Station};
-use geo_tally::{Counter, Tally, TallySeat};
+use geo_tally::{Tally, TallySeat};
 use mio::{Poll, Waker};
-use std::alloc::{AllocError, Global};
-use std::marker::Brand;
+use std::alloc::Global;
+use std::marker::{Brand, PhantomData};
 use std::net::{Net, TcpListener, TcpStream};
 use std::sync::Wait;
 use std::sync::atomic::{AtomicU64, Ordering};
 use std::sync::ledger::{Blank, Ledger};
-use std::thread::{Threads, join, map_vec};
+use std::thread::Threads;
 use std::time::Duration;
 use std::{io, rt};
 
@@ -46,7 +48,7 @@ pub(crate) struct Shared<'a, G> {
 }
 
 impl<G> Shared<'_, G> {
-    /// A thread has come. Whether it is to begin.
+    /// A thread has come. Whether it is to begin, once all have.
     pub(crate) fn comes<R: Wait>(&self, rt: &R) -> bool {
         self.start.comes(rt, self.stop)
     }
@@ -112,31 +114,37 @@ pub(crate) struct Ended {
 }
 
 /// The next seat of a tally that wasn't used yet.
-fn next_counting<'a>(tally: &'a Tally, seats: &mut Vec<TallySeat>) -> Option<Counting<'a>>
+fn next_counting<'a, N: Named>(
+    tally: &'a Tally,
+    seats: &mut Vec<TallySeat>,
+) -> Option<Counting<'a, N>>
     requires given { All (λ s. s.tally ≡ tally.now.tally) seats.old.items }
+    requires named { tally.now.tally ≡ N.tally }
     ensures given { All (λ s. s.tally ≡ tally.now.tally) seats.new.items }
 {
     let seat = seats.pop()?;
-    Some(Counting { tally, seat })
+    Some(Counting::new(tally, seat))
 }
 
 /// What the threads of a site are given, while it is put together.
 #[derive(Drop)]
-struct Duties<'a, L: Ledger, P: Link + Drop, Q: Link + Drop> {
+struct Duties<'a, L: Ledger, N: Named, P: Link + Drop, Q: Link + Drop> {
     station: &'a Station<L>,
     tally: &'a Tally,
     counts: Vec<TallySeat>,
-    all: Vec<Duty<'a, L, P, Q>>,
+    all: Vec<Duty<'a, L, N, P, Q>>,
+    of: PhantomData<N>,
     ghost given: { All (λ s. s.tally ≡ tally.now.tally) counts.items },
+    ghost named: { tally.now.tally ≡ N.tally },
 }
 
-impl<'a, L: Ledger, P: Link + Drop, Q: Link + Drop> Duties<'a, L, P, Q> {
+impl<'a, L: Ledger, N: Named, P: Link + Drop, Q: Link + Drop> Duties<'a, L, N, P, Q> {
     /// A seat of the station and one of the tally. There are as many of both as threads that need them.
     fn seats<R: Wait>(
         &mut self,
         rt: &R,
         alloc: Global,
-    ) -> Result<(Seat<L>, Counting<'a>), ClusterFault> {
+    ) -> Result<(Seat<L>, Counting<'a, N>), ClusterFault> {
         let Ok(seat) = self.station.seat(rt, alloc) else {
             return Err(ClusterFault::Memory);
         };
@@ -146,12 +154,10 @@ impl<'a, L: Ledger, P: Link + Drop, Q: Link + Drop> Duties<'a, L, P, Q> {
         }
     }
 
-    fn add(&mut self, duty: Duty<'a, L, P, Q>) -> Result<(), ClusterFault> {
+    fn add(&mut self, duty: Duty<'a, L, N, P, Q>) -> Result<(), ClusterFault> {
         add(&mut self.all, duty)
     }
-}
 
-impl<'a, L: Ledger, P: Link + Drop, Q: Link + Drop> Duties<'a, L, P, Q> {
     /// A worker for clients.
     fn serve<R: Wait>(
         &mut self,
@@ -159,15 +165,8 @@ impl<'a, L: Ledger, P: Link + Drop, Q: Link + Drop> Duties<'a, L, P, Q> {
         alloc: Global,
         worker: Worker<'a>,
     ) -> Result<(), ClusterFault> {
-        let (
-            seat,
-            Counting {
-                tally,
-                seat: counts,
-            },
-        ) = self.seats(rt, alloc)?;
-        let backend = Counted::new(self.station, seat, &SystemClock, tally, counts);
-        self.add(Duty::Serve(backend, worker))
+        let (seat, counting) = self.seats(rt, alloc)?;
+        self.add(Duty::Serve(Clerk::new(self.station, seat, counting), worker))
     }
 
     /// The thread that tells other sites, and the one that maintains the site.
@@ -179,35 +178,15 @@ impl<'a, L: Ledger, P: Link + Drop, Q: Link + Drop> Duties<'a, L, P, Q> {
     ) -> Result<(), ClusterFault> {
         let (seat, counting) = self.seats(rt, alloc)?;
         self.add(Duty::Gossip(seat, counting, peers))?;
-        let Ok(seat) = self.station.seat(rt, alloc) else {
-            return Err(ClusterFault::Memory);
-        };
-        self.add(Duty::Maintain(seat))
+        let (seat, counting) = self.seats(rt, alloc)?;
+        self.add(Duty::Maintain(seat, counting))
     }
 
     /// A thread that takes what another site tells.
     fn receive<R: Wait>(&mut self, rt: &R, alloc: Global, from: Q) -> Result<(), ClusterFault> {
-        let (
-            seat,
-            Counting {
-                tally,
-                seat: counts,
-            },
-        ) = self.seats(rt, alloc)?;
-        self.add(Duty::Receive(seat, Tallied::new(from, tally, counts)))
+        let (seat, counting) = self.seats(rt, alloc)?;
+        self.add(Duty::Receive(seat, counting, from))
     }
-}
-
-/// The sums of a tally, read by a seat of it once the others rest.
-fn sums_of(counting: Counting<'_>) -> [u64; 5] {
-    let Counting { tally, mut seat } = counting;
-    [
-        tally.read(&mut seat, Counter::Sessions),
-        tally.read(&mut seat, Counter::Requests),
-        tally.read(&mut seat, Counter::Faults),
-        tally.read(&mut seat, Counter::Rounds),
-        tally.read(&mut seat, Counter::FramesRefused),
-    ]
 }
 
 /// Where clients come in.
@@ -218,22 +197,15 @@ struct Door {
     sessions: u64,
 }
 
-/// The duties of a site's threads, and what reads the tally in the end.
-#[derive(Drop)]
-struct Roster<'a, L: Ledger, P: Link + Drop, Q: Link + Drop> {
-    duties: Vec<Duty<'a, L, P, Q>>,
-    reading: Option<Counting<'a>>,
-}
-
 /// Gives each thread its duty, in the order of workers, gossip, maintenance and links.
-fn assigned<'a, R: Wait, L: Ledger, P: Link + Drop, Q: Link + Drop>(
+fn assigned<'a, R: Wait, L: Ledger, N: Named, P: Link + Drop, Q: Link + Drop>(
     rt: &R,
     alloc: Global,
-    mut given: Duties<'a, L, P, Q>,
+    mut given: Duties<'a, L, N, P, Q>,
     peers: Vec<Peer<P>>,
     froms: Vec<Q>,
     workers: Vec<Worker<'a>>,
-) -> Result<Roster<'a, L, P, Q>, ClusterFault> {
+) -> Result<Vec<Duty<'a, L, N, P, Q>>, ClusterFault> {
     for worker in workers {
         given.serve(rt, alloc, worker)?;
     }
@@ -241,23 +213,15 @@ fn assigned<'a, R: Wait, L: Ledger, P: Link + Drop, Q: Link + Drop>(
     for from in froms {
         given.receive(rt, alloc, from)?;
     }
-    let Duties {
-        tally,
-        mut counts,
-        all,
-        ..
-    } = given;
-    let reading = next_counting(tally, &mut counts);
-    Ok(Roster {
-        duties: all,
-        reading,
-    })
+    let Duties { all, .. } = given;
+    Ok(all)
 }
 
-/// Lets clients in while the threads do their duties, and gives the station's seats back once all have ended.
+/// Lets clients in while the threads do their duties, and gives the seats back once all have ended.
 fn work<
     R: Threads + Wait + rt::Clock + Sync,
     L: Ledger + Send + Sync,
+    N: Named + Send,
     P: Link + Send + Drop,
     Q: Link + Send + Drop,
     G: Gate,
@@ -266,50 +230,24 @@ fn work<
     alloc: Global,
     shared: &Shared<'_, G>,
     station: &Station<L>,
-    duties: Vec<Duty<'_, L, P, Q>>,
+    duties: Vec<Duty<'_, L, N, P, Q>>,
     door: Door,
     mailboxes: &[Mailbox],
-) -> Result<Vec<Seat<L>>, ClusterFault> {
+) -> Result<Vec<Rested<L, N>>, ClusterFault> {
     let Door { listener, sessions } = door;
-    let ((), seats) = join(
+    run_all(
         rt,
+        alloc,
+        &shared.start,
+        shared.stop,
+        duties,
+        &|duty: Duty<'_, L, N, P, Q>| -> Rested<L, N> { duty.run(rt, alloc, shared, station) },
         || {
             if shared.comes(rt) {
                 accept(rt, listener, sessions, mailboxes);
             }
         },
-        || -> Result<Vec<Seat<L>>, AllocError> { all_run(rt, alloc, shared, station, duties) },
-    );
-    match seats {
-        Ok(_) if shared.start.lacks_threads() => Err(ClusterFault::Threads),
-        Ok(seats) => Ok(seats),
-        Err(_) => Err(ClusterFault::Memory),
-    }
-}
-
-/// Has each thread do its duty, and gives the seats back once all have ended. Where memory is wanted for them no site begins.
-fn all_run<
-    R: Threads + Wait + rt::Clock + Sync,
-    L: Ledger + Send + Sync,
-    P: Link + Send + Drop,
-    Q: Link + Send + Drop,
-    G: Gate,
->(
-    rt: &R,
-    alloc: Global,
-    shared: &Shared<'_, G>,
-    station: &Station<L>,
-    duties: Vec<Duty<'_, L, P, Q>>,
-) -> Result<Vec<Seat<L>>, AllocError> {
-    let seats = map_vec(
-        rt,
-        duties,
-        &|duty: Duty<'_, L, P, Q>| -> Seat<L> { duty.run(rt, alloc, shared, station) },
-    );
-    if seats.is_err() {
-        shared.abandon();
-    }
-    seats
+    )
 }
 
 /// What waits for the workers' sockets, and where each gets its clients.
@@ -367,6 +305,99 @@ fn seats_of<P, Q>(job: &Job<P, Q>) -> usize {
         .saturating_add(2)
 }
 
+/// The seats that a site's threads have left.
+#[derive(Drop)]
+struct Left<L: Ledger> {
+    seats: Vec<Seat<L>>,
+    counts: Vec<TallySeat>,
+}
+
+/// The seats of the station, and those of the tally.
+fn parted<L: Ledger, N: Named>(
+    alloc: Global,
+    rested: Vec<Rested<L, N>>,
+) -> Result<Left<L>, ClusterFault>
+    ensures { IfOk result (λ left. All (λ s. s.tally ≡ N.tally) left.counts.items) }
+{
+    let mut seats = Vec::new(alloc);
+    let mut counts = Vec::new(alloc);
+    for one in rested {
+        let Rested {
+            seat,
+            counts: count,
+            ..
+        } = one;
+        let (Ok(()), Ok(())) = (seats.push(seat), counts.push(count)) else {
+            return Err(ClusterFault::Memory);
+        };
+    }
+    Ok(Left { seats, counts })
+}
+
+/// The sums of what all seats of a tally have added. Where seats are missing, memory was refused for them.
+fn sums_of(tally: Tally, seats: Vec<TallySeat>) -> Result<[u64; 5], ClusterFault>
+    requires given { All (λ s. s.tally ≡ tally.tally) seats.items }
+    ensures exact { IfOk result (λ sums. sums ≡ in_order (all_together (λ s. s.counts) seats.items)) }
+{
+    match tally.close(seats) {
+        Ok(sums) => Ok(sums),
+        Err(_) => Err(ClusterFault::Memory),
+    }
+}
+
+/// Runs a site whose ledger and whose tally are named.
+fn run_counted<
+    R: Net + Threads + Wait + rt::Clock + Sync,
+    L: Ledger + Send + Sync,
+    N: Named + Send,
+    P: Link + Send + Drop,
+    Q: Link + Send + Drop,
+    G: Gate,
+>(
+    rt: &R,
+    alloc: Global,
+    shared: &Shared<'_, G>,
+    station: &Station<L>,
+    tally: &Tally,
+    counts: Vec<TallySeat>,
+    job: Plan<P, Q>,
+) -> Result<Left<L>, ClusterFault>
+    requires given { All (λ s. s.tally ≡ tally.now.tally) counts.items }
+    requires named { tally.now.tally ≡ N.tally }
+    ensures { IfOk result (λ left. All (λ s. s.tally ≡ N.tally) left.counts.items) }
+{
+    let Plan { crew, posts, door } = job;
+    let Crew { peers, froms, .. } = crew;
+    let Posts { polls, mailboxes } = posts;
+    let workers = workers_of(alloc, polls, mailboxes.as_slice())?;
+    let given: Duties<'_, L, N, P, Q> = Duties {
+        station,
+        tally,
+        counts,
+        all: Vec::new(alloc),
+        of: PhantomData,
+    };
+    let duties = assigned(rt, alloc, given, peers, froms, workers)?;
+    let rested = work(
+        rt,
+        alloc,
+        shared,
+        station,
+        duties,
+        door,
+        mailboxes.as_slice(),
+    )?;
+    parted(alloc, rested)
+}
+
+/// What a site's threads do.
+#[derive(Drop)]
+struct Plan<P, Q> {
+    crew: Crew<P, Q>,
+    posts: Posts,
+    door: Door,
+}
+
 /// Runs a site whose ledger is named.
 fn run_named<
     R: Net + Threads + Wait + rt::Clock + Sync,
@@ -400,27 +431,13 @@ fn run_named<
     let Ok((tally, counts)) = Tally::new(alloc, seats) else {
         return Err(ClusterFault::Memory);
     };
-    let Crew { peers, froms, .. } = crew;
-    let Posts { polls, mailboxes } = posts;
-    let workers = workers_of(alloc, polls, mailboxes.as_slice())?;
-    let given = Duties {
-        station: &station,
-        tally: &tally,
-        counts,
-        all: Vec::new(alloc),
-    };
-    let Roster { duties, reading } = assigned(rt, alloc, given, peers, froms, workers)?;
     let door = Door { listener, sessions };
-    let seats = work(
-        rt,
-        alloc,
-        shared,
-        &station,
-        duties,
-        door,
-        mailboxes.as_slice(),
+    let job = Plan { crew, posts, door };
+    let left = run_counted::<R, L, Brand, P, Q, G>(
+        rt, alloc, shared, &station, &tally, counts, job,
     )?;
-    let sums = reading.map_or([0; 5], sums_of);
+    let Left { seats, counts } = left;
+    let sums = sums_of(tally, counts)?;
     let history = station.close(seats).ok();
     Ok(Ended { history, sums })
 }

@@ -2,29 +2,33 @@
 ghost use Rattle.geo_delta.specs.Ranges.{InRange};
 
 use crate::fault::ClusterFault;
+use crate::porter::Porter;
+use crate::putting::{Putting, Way};
 use geo_delta::Parcel;
 use geo_grammar::Device;
 use geo_link::{Link, LinkError, StreamLink};
 use std::alloc::Global;
 use std::io;
 use std::net::{Net, OpenListener, OpenStream, TcpListener, TcpStream};
+use std::rt::Clock;
 use std::sync::Wait;
 use std::sync::atomic::{AtomicU64, Ordering};
 use std::time::Duration;
 
-/// For how many milliseconds a peer port is left alone where nobody waits at it, or where memory was refused for what comes.
+/// For how many milliseconds a link is left alone where memory was refused for what comes.
 const PAUSE: u64 = 50;
 
-/// For how many milliseconds a stranger at a peer port may say nothing.
-const PATIENCE: u64 = 1000;
+/// For how many milliseconds a peer may take to make room for more, and to be connected to.
+pub(crate) const PATIENCE: u64 = 5000;
 
 /// Parcels over a socket.
 pub(crate) type TcpLink = StreamLink<TcpStream, TcpStream>;
 
-/// A link over a socket.
+/// A link over a socket. A write to a peer that takes nothing for long fails.
 pub(crate) fn link_over(alloc: Global, stream: TcpStream) -> io::Result<TcpLink> {
     // a small parcel is not to wait for a larger one
     let _ = stream.set_nodelay(true);
+    stream.set_write_timeout(Some(Duration::from_millis(PATIENCE)))?;
     let reader = Device::new(stream.try_clone()?);
     match StreamLink::new(alloc, reader, Device::new(stream)) {
         Ok(link) => Ok(link),
@@ -60,61 +64,65 @@ fn joined<R: Net<Stream = TcpStream, Listener = TcpListener>>(
 }
 
 /// Both ends of a link that leads to a peer port: for the site that puts, and for the one whose port it is.
-pub(crate) fn tcp_link<'a, R: Net<Stream = TcpStream, Listener = TcpListener>>(
-    rt: &R,
+pub(crate) fn tcp_link<'a, R: Net<Stream = TcpStream, Listener = TcpListener> + Clock + Eprint>(
+    rt: &'a R,
     alloc: Global,
-    port: &'a TcpListener,
+    port: &TcpListener,
     stop: &'a AtomicU64,
-) -> Result<(TcpLink, PeerPort<'a>), ClusterFault> {
+    way: Way,
+) -> Result<(Putting<'a, R>, Getting<'a, R>), ClusterFault> {
+    let Ok(address) = port.local_addr() else {
+        return Err(ClusterFault::Socket);
+    };
     match joined(rt, alloc, port) {
         Ok((putting, getting)) => {
-            let port = PeerPort {
-                port,
+            let own = Own {
+                link: getting,
                 stop,
-                current: Some(getting),
             };
-            Ok((putting, port))
+            Ok((
+                Putting::new(rt, stop, way, address, putting),
+                Getting::Own(own),
+            ))
         }
         Err(error) => Err(ClusterFault::of_socket(&error)),
     }
 }
 
-/// The getting end of a link that leads to a peer port. Once its link is closed it takes from whoever else has connected to the
-/// port, until the cluster stops and nobody waits there.
+/// The getting end of the link with which a site began.
 #[derive(Drop)]
-pub(crate) struct PeerPort<'a> {
-    port: &'a TcpListener,
+pub(crate) struct Own<'a> {
+    link: TcpLink,
     stop: &'a AtomicU64,
-    current: Option<TcpLink>,
 }
 
-impl PeerPort<'_> {
-    fn stops(&self) -> bool {
-        self.stop.load(Ordering::SeqCst) != 0
-    }
-
+impl Own<'_> {
     /// What is told where memory was refused: that, after a pause, for it may be there by then. Once the cluster stops nobody waits
     /// for it.
     fn wants_memory<R: Wait>(&self, rt: &R) -> LinkError {
-        if self.stops() {
+        if self.stop.load(Ordering::SeqCst) != 0 {
             return LinkError::Closed;
         }
         self.stop.park_timeout(rt, 0, Duration::from_millis(PAUSE));
         LinkError::Memory
     }
 
-    /// A link to the next who waits at the port.
-    fn stranger(&self, alloc: Global) -> Option<TcpLink> {
-        self.port.set_nonblocking(true).ok()?;
-        let (stream, _) = self.port.accept().ok()?;
-        stream
-            .set_read_timeout(Some(Duration::from_millis(PATIENCE)))
-            .ok()?;
-        link_over(alloc, stream).ok()
+    fn get<R: Wait>(&mut self, rt: &R, alloc: Global) -> Result<Parcel, LinkError> {
+        match self.link.get(rt, alloc) {
+            Err(LinkError::Memory) => Err(self.wants_memory(rt)),
+            answer => answer,
+        }
     }
 }
 
-impl Link for PeerPort<'_> {
+/// What a thread of a site gets from: the link with which it began, or whoever comes to the port later.
+#[derive(Drop)]
+pub(crate) enum Getting<'a, N> {
+    Own(Own<'a>),
+    Guests(Porter<'a, N>),
+}
+
+impl<N: Net + Clock> Link for Getting<'_, N> {
     // what strangers send is not known
     ghost puts = { λ _ _ _. Unit {0} };
 
@@ -129,23 +137,9 @@ impl Link for PeerPort<'_> {
     }
 
     fn get<R: Wait>(&mut self, rt: &R, alloc: Global) -> Result<Parcel, LinkError> {
-        for _ in rt.forever() {
-            if let Some(link) = &mut self.current {
-                match link.get(rt, alloc) {
-                    Err(LinkError::Closed) => {}
-                    Err(LinkError::Memory) => return Err(self.wants_memory(rt)),
-                    answer => return answer,
-                }
-            }
-            let stops = self.stops();
-            self.current = self.stranger(alloc);
-            if self.current.is_none() {
-                if stops {
-                    return Err(LinkError::Closed);
-                }
-                self.stop.park_timeout(rt, 0, Duration::from_millis(PAUSE));
-            }
+        match self {
+            Getting::Own(own) => own.get(rt, alloc),
+            Getting::Guests(porter) => porter.get(rt, alloc),
         }
-        unreachable!()
     }
 }

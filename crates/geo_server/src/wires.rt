@@ -1,9 +1,12 @@
 //! How sites are joined.
 use crate::fault::ClusterFault;
-use crate::tcp::{PeerPort, TcpLink, tcp_link};
+use crate::porter::Porter;
+use crate::putting::{Putting, Way};
+use crate::tcp::{Getting, tcp_link};
 use geo_link::{Link, MemoryLink, memory_link};
 use std::alloc::Global;
 use std::net::{Net, TcpListener, TcpStream};
+use std::rt::Clock;
 use std::sync::atomic::AtomicU64;
 
 /// How many parcels may wait on a link in memory.
@@ -16,13 +19,11 @@ pub(crate) trait Wires<R> {
     /// The kind of link from which a site gets.
     type Get: Link + Drop;
 
-    /// Both ends of a link that leads to a site, of which the first is at index 0.
-    fn link(
-        &self,
-        rt: &R,
-        alloc: Global,
-        to: usize,
-    ) -> Result<(Self::Put, Self::Get), ClusterFault>;
+    /// Both ends of a link.
+    fn link(&self, rt: &R, alloc: Global, way: Way) -> Result<(Self::Put, Self::Get), ClusterFault>;
+
+    /// What a site gets from beside its links, of which the first site is at index 0.
+    fn guests(&self, rt: &R, alloc: Global, at: usize) -> Result<Option<Self::Get>, ClusterFault>;
 }
 
 /// Links in memory.
@@ -38,35 +39,58 @@ impl<R> Wires<R> for Memory {
         &self,
         _rt: &R,
         alloc: Global,
-        _to: usize,
+        _way: Way,
     ) -> Result<(MemoryLink, MemoryLink), ClusterFault> {
         match memory_link(alloc, WAITING) {
             Ok(ends) => Ok(ends),
             Err(_) => Err(ClusterFault::Memory),
         }
     }
+
+    fn guests(
+        &self,
+        _rt: &R,
+        _alloc: Global,
+        _at: usize,
+    ) -> Result<Option<MemoryLink>, ClusterFault> {
+        Ok(None)
+    }
 }
 
 /// Connections to the sites' peer ports.
-#[derive(Clone, Copy)]
-pub(crate) struct Tcp<'a> {
+#[derive(Drop)]
+pub(crate) struct Tcp<'a, N> {
+    pub(crate) net: &'a N,
     pub(crate) ports: &'a [TcpListener],
     pub(crate) stop: &'a AtomicU64,
 }
 
-impl<'a, R: Net<Stream = TcpStream, Listener = TcpListener>> Wires<R> for Tcp<'a> {
-    type Put = TcpLink;
+impl<'a, R, N: Net<Stream = TcpStream, Listener = TcpListener> + Clock + Eprint> Wires<R>
+    for Tcp<'a, N> {
+    type Put = Putting<'a, N>;
 
-    type Get = PeerPort<'a>;
+    type Get = Getting<'a, N>;
 
     fn link(
         &self,
-        rt: &R,
+        _rt: &R,
         alloc: Global,
-        to: usize,
-    ) -> Result<(TcpLink, PeerPort<'a>), ClusterFault> {
-        match self.ports.get(to) {
-            Some(port) => tcp_link(rt, alloc, port, self.stop),
+        way: Way,
+    ) -> Result<(Putting<'a, N>, Getting<'a, N>), ClusterFault> {
+        match self.ports.get((way.to as usize).saturating_sub(1)) {
+            Some(port) => tcp_link(self.net, alloc, port, self.stop, way),
+            None => Err(ClusterFault::Socket),
+        }
+    }
+
+    fn guests(
+        &self,
+        _rt: &R,
+        alloc: Global,
+        at: usize,
+    ) -> Result<Option<Getting<'a, N>>, ClusterFault> {
+        match self.ports.get(at) {
+            Some(port) => Ok(Some(Getting::Guests(Porter::new(self.net, alloc, port, self.stop)?))),
             None => Err(ClusterFault::Socket),
         }
     }

@@ -50,6 +50,8 @@ impl Sockets {
 }
 
 impl Polling for Sockets {
+    ghost told = { λ s. s.ready.items };
+
     fn wait(&mut self, at_once: bool) {
         let most = self.patience(at_once);
         // a signal ends the wait, and no more

@@ -42,9 +42,12 @@ impl Stream for Fake {
         if self.reads {
             return Given::Later;
         }
+        if self.input.is_empty() {
+            return Given::End;
+        }
         let count = self.size.min(self.input.len()).min(buffer.len());
         if count == 0 {
-            return Given::End;
+            return Given::Later;
         }
         let (piece, rest) = self.input.split_at(count);
         let (front, _) = buffer.split_at_mut(count);
@@ -214,9 +217,12 @@ impl Stream for Brief {
     ghost contents = { λ _. None };
 
     fn read(&mut self, buffer: &mut [u8]) -> Given {
+        if self.input.is_empty() {
+            return Given::End;
+        }
         let count = self.input.len().min(buffer.len());
         if count == 0 {
-            return Given::End;
+            return Given::Later;
         }
         let (piece, rest) = self.input.split_at(count);
         let (front, _) = buffer.split_at_mut(count);

@@ -34,6 +34,7 @@ fn run<
         + Wait
         + Clock
         + RandomSource
+        + Eprint
         + Sync,
     G: Gate,
 >(rt: &R, alloc: Global, text: &str, gate: &G) -> Option<Vec<u8>> {
@@ -92,6 +93,7 @@ fn one_client<
         + Wait
         + Clock
         + RandomSource
+        + Eprint
         + Sync,
 >(rt: &R, alloc: Global) -> Option<(Vec<u8>, Vec<u8>)> {
     let port = free_port(rt)?;
@@ -171,6 +173,7 @@ fn two_read_version<
         + Wait
         + Clock
         + RandomSource
+        + Eprint
         + Sync,
 >(rt: &R, alloc: Global, port: u16) -> (bool, bool) {
     join(
@@ -187,6 +190,7 @@ fn two_clients<
         + Wait
         + Clock
         + RandomSource
+        + Eprint
         + Sync,
 >(rt: &R, alloc: Global, workers: usize, gate: &Meeting) -> Option<((bool, bool), Vec<u8>)> {
     let port = free_port(rt)?;
@@ -229,6 +233,7 @@ fn fault_at_taken<
         + Wait
         + Clock
         + RandomSource
+        + Eprint
         + Sync,
 >(rt: &R, alloc: Global) -> Option<ClusterFault> {
     let listener = TcpListener::bind(rt, "127.0.0.1:0").ok()?;

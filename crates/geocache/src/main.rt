@@ -42,7 +42,10 @@ fn main(rt: HostRuntime) -> ExitCode {
     let status = match asked_for(&rt) {
         Ok(Call::Script) => run_from_input(&rt),
         Ok(Call::Serve(file)) => run_from_file(&rt, file.as_str()),
-        Err(error) if error.kind() == io::ErrorKind::OutOfMemory => NO_MEMORY,
+        Err(error) if error.kind() == io::ErrorKind::OutOfMemory => {
+            let _told = eprintln!(rt; "out of memory");
+            NO_MEMORY
+        }
         Ok(Call::Other) | Err(_) => {
             let _told = eprintln!(rt; "usage: geocache script | geocache serve FILE");
             REFUSED

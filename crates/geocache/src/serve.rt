@@ -12,34 +12,30 @@ use std::rt::Clock;
 use std::sync::Wait;
 use std::thread::Threads;
 
+/// The status for want of memory, which is told on standard error.
+fn wanted<R: Eprint>(rt: &R) -> u8 {
+    let _told = eprintln!(rt; "{}", ClusterFault::Memory);
+    NO_MEMORY
+}
+
 /// The status for a refused configuration, which is told on standard error.
 fn refused<R: Eprint>(rt: &R, fault: ConfigFault) -> u8 {
     if matches!(fault, ConfigFault::Memory) {
-        return NO_MEMORY;
+        return wanted(rt);
     }
     let _told = eprintln!(rt; "configuration: {fault}");
     REFUSED
 }
 
-/// The status for how a cluster ended. What was wanted and can be mended by who runs it is told on standard error: an address that
-/// nobody can listen at, too few descriptors, too few threads.
+/// The status for how a cluster ended. What was wanted is told on standard error.
 fn status_of<R: Eprint>(rt: &R, outcome: Result<(), ClusterFault>) -> u8 {
-    match outcome {
-        Ok(()) => 0,
-        Err(ClusterFault::Memory) => NO_MEMORY,
-        Err(ClusterFault::Listen(address)) => {
-            let _told = eprintln!(rt; "cannot listen on {address}");
-            DEVICE_FAILED
-        }
-        Err(ClusterFault::Socket) => DEVICE_FAILED,
-        Err(ClusterFault::Descriptors) => {
-            let _told = eprintln!(rt; "{}", ClusterFault::Descriptors);
-            DEVICE_FAILED
-        }
-        Err(ClusterFault::Threads) => {
-            let _told = eprintln!(rt; "{}", ClusterFault::Threads);
-            NO_MEMORY
-        }
+    let Err(fault) = outcome else {
+        return 0;
+    };
+    let _told = eprintln!(rt; "{fault}");
+    match fault {
+        ClusterFault::Memory | ClusterFault::Threads => NO_MEMORY,
+        ClusterFault::Listen(_) | ClusterFault::Socket | ClusterFault::Descriptors => DEVICE_FAILED,
     }
 }
 
@@ -58,7 +54,7 @@ pub fn run_from_file<
 >(rt: &R, file: &str) -> u8 {
     let text = match fs::read_to_string(rt, file) {
         Ok(text) => text,
-        Err(error) if error.kind() == io::ErrorKind::OutOfMemory => return NO_MEMORY,
+        Err(error) if error.kind() == io::ErrorKind::OutOfMemory => return wanted(rt),
         Err(_) => {
             let _told = eprintln!(rt; "configuration: unreadable");
             return REFUSED;
