@@ -279,7 +279,7 @@ class Server:
         # Threads make as many allocations as their turns come to, so that the last of a run may be none of another.
         if (refused > 0) != (0 < number <= counted):
             return f"{refused} of {counted} allocations were refused"
-        if errors and not errors.startswith(b"cannot "):
+        if not is_told(status, errors):
             return f"status {status}, {errors!r}"
         if number > 0 and refused > 0 and status in (3, 4) and not output:
             return None
@@ -289,6 +289,15 @@ class Server:
         if told[b"audit"] != b"sound":
             return f"{output!r}"
         return talk.fault({name: int(told[name]) for name in (b"sessions", b"faults")}, later)
+
+
+def is_told(status, errors):
+    """Whether standard error has what is owed with this status."""
+    if status == 3:
+        return errors in (OUT_OF_MEMORY, b"cannot start another thread\n")
+    if status == 4:
+        return errors.startswith(b"cannot ") or errors == b"a socket or the output failed\n"
+    return errors == b""
 
 
 def subjects(program, library):
