@@ -58,7 +58,7 @@ fn with_sites(alloc: Global, count: u8) -> Result<String, AllocError> {
 }
 
 /// Keys one by one: lines at the top, lines for the site, what is told.
-const KEYS: [(&str, &str, &str); 62] = [
+const KEYS: [(&str, &str, &str); 56] = [
     ("", "", "64 100000 60 Memory 100 5; 1 a 4 -"),
     ("pages = 14", "", "out of range pages"),
     ("pages = 15", "", "15 100000 60 Memory 100 5; 1 a 4 -"),
@@ -106,20 +106,6 @@ const KEYS: [(&str, &str, &str); 62] = [
     ("every = 60000", "", "64 100000 60 Memory 60000 5; 1 a 4 -"),
     ("every = 60001", "", "out of range every"),
     ("every = 2026-01-01", "", "wrong type every"),
-    ("era_bytes = 1048575", "", "out of range era_bytes"),
-    (
-        "era_bytes = 1048576",
-        "",
-        "64 100000 60 Memory 100 5 bytes 1048576; 1 a 4 -",
-    ),
-    (
-        "era_bytes = 1099511627776",
-        "",
-        "64 100000 60 Memory 100 5 bytes 1099511627776; 1 a 4 -",
-    ),
-    ("era_bytes = 1099511627777", "", "out of range era_bytes"),
-    ("era_bytes = \"1048576\"", "", "wrong type era_bytes"),
-    ("era_bytes = 0\nera = 0", "", "out of range era"),
     ("site = []", "", "not toml"),
     ("", "number = 1", "not toml"),
     ("", "workers = 0", "out of range workers"),
@@ -251,6 +237,30 @@ const SIXTEEN: &str =
 fn told_of_sites(alloc: Global, count: u8) -> Result<String, AllocError> {
     let text = with_sites(alloc, count)?;
     told(alloc, text.as_str())
+}
+
+/// How many bytes the steps of an era may keep: a line at the top, what is told.
+const BYTES: [(&str, &str); 6] = [
+    ("era_bytes = 1048575", "out of range era_bytes"),
+    (
+        "era_bytes = 1048576",
+        "64 100000 60 Memory 100 5 bytes 1048576; 1 a 4 -",
+    ),
+    (
+        "era_bytes = 1099511627776",
+        "64 100000 60 Memory 100 5 bytes 1099511627776; 1 a 4 -",
+    ),
+    ("era_bytes = 1099511627777", "out of range era_bytes"),
+    ("era_bytes = \"1048576\"", "wrong type era_bytes"),
+    ("era_bytes = 0\nera = 0", "out of range era"),
+];
+
+#[test]
+fn tells_of_the_bytes_of_an_era(rt: HostRuntime) -> Result<(), Fail> {
+    for (top, want) in BYTES {
+        assert_eq!(rt; told_of_lines(rt.alloc(), top, "")?.as_str(), want, "{top}");
+    }
+    Ok(())
 }
 
 #[test]
