@@ -3,3 +3,4 @@ mod devices;
 mod grammar;
 mod memcache;
 mod show;
+mod telling;

@@ -11,7 +11,7 @@ mod parcels;
 mod replies;
 mod requests;
 
-use geo_grammar::{Shared, ValueBytes};
+use geo_grammar::{Shared, Shown, ValueBytes};
 use geo_lattice::{Exact, Items};
 use geo_versions::Key;
 use std::cmp::Ordering;
@@ -57,6 +57,12 @@ impl Equal for Key {
 }
 
 impl Equal for ValueBytes {
+    fn equals(&self, other: &Self) -> bool {
+        self.as_slice() == other.as_slice()
+    }
+}
+
+impl Equal for Shown {
     fn equals(&self, other: &Self) -> bool {
         self.as_slice() == other.as_slice()
     }

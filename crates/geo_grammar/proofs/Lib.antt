@@ -4,3 +4,4 @@ pub mod Whole
 pub mod Ends
 pub mod Fed
 pub mod KeyRuns
+pub mod Told

@@ -9,4 +9,5 @@ pub mod Blocks
 pub mod States
 pub mod Requests
 pub mod Replies
+pub mod Holdings
 pub mod Quitting

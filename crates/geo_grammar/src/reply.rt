@@ -3,8 +3,8 @@ ghost use Rattle.std.specs.Prelude.{◌≡◌, true, false, MatchOption};
 ghost use Rattle.geo_grammar.specs.Replies.{is_short};
 
 use crate::shared::Shared;
+use crate::shown::Shown;
 use crate::stats::Stats;
-use crate::value::ValueBytes;
 use geo_lattice::Twin;
 use geo_versions::Key;
 use std::alloc::{AllocError, Global};
@@ -15,7 +15,7 @@ pub struct Found {
     pub key: Key,
     pub flags: u32,
     pub unique: Option<u64>,
-    pub bytes: ValueBytes,
+    pub bytes: Shown,
 }
 
 impl Twin for Found {

@@ -42,7 +42,8 @@ fn push_unique(out: &mut Vec<u8>, unique: Option<u64>) -> Result<(), AllocError>
     push_number(out, number)
 }
 
-fn push_found(out: &mut Vec<u8>, found: &Found) -> Result<(), AllocError>
+/// Appends the text of one value. Where memory is refused a beginning of it may stand there.
+pub(crate) fn push_found(out: &mut Vec<u8>, found: &Found) -> Result<(), AllocError>
     ensures text { OnOk result (out.new.items ≡ out.old.items ++ found_bytes found.now) }
     ensures keeps { StartsWith out.new.items out.old.items }
 {

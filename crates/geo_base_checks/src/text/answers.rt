@@ -1,7 +1,8 @@
 //! The texts of answers and of faults, from memcached's protocol.txt.
 use super::show::{items_of, push_bytes, push_number, value};
 use geo_grammar::{
-    Found, Item, Reply, Request, Shared, ValueBytes, fault_text, push_answer, push_reply, render,
+    Found, Item, Reply, Request, Shared, Shown, ValueBytes, fault_text, push_answer, push_reply,
+    render,
 };
 use geo_lattice::Twin;
 use geo_versions::Key;
@@ -17,7 +18,7 @@ fn found(alloc: Global, flags: u32, unique: Option<u64>, bytes: &[u8]) -> Result
         key: Key::new(alloc, b"a")?.ok_or("no key")?,
         flags,
         unique,
-        bytes: value(alloc, bytes)?,
+        bytes: Shown::of(Vec::from_slice(alloc, bytes)?),
     })
 }
 
