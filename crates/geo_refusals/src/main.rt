@@ -31,6 +31,7 @@ fn lines_of(name: &str) -> Option<(u8, &'static [Line])> {
         "flush" => (1, rows::FLUSH),
         "touches" => (1, rows::TOUCHES),
         "repeats" => (1, rows::REPEATS),
+        "owners" => (1, rows::OWNERS),
         "deltas" => (2, rows::DELTAS),
         "commands" => (1, rows::COMMANDS),
         _ => return None,

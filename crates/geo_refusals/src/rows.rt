@@ -177,6 +177,35 @@ pub const REPEATS: &[Line] = &[
     Line::Act(1, 100, b"stats\r\n"),
 ];
 
+/// One line shows long values more than once, which stand in memory once each: `a` and `b` are found again while the places of all
+/// values before are looked through, then `b`, `d` and `a` by a map of these places. Where memory for the map is refused the line is
+/// answered without it. A touch shows them so too.
+pub const OWNERS: &[Line] = &[
+    Line::Act(
+        1,
+        100,
+        b"set a 0 0 64\r\naaaaaaaaaaaaaaaaaaaaaaaaaaaaaaaaaaaaaaaaaaaaaaaaaaaaaaaaaaaaaaaa\r\n",
+    ),
+    Line::Act(
+        1,
+        100,
+        b"set b 0 0 64\r\nbbbbbbbbbbbbbbbbbbbbbbbbbbbbbbbbbbbbbbbbbbbbbbbbbbbbbbbbbbbbbbbb\r\n",
+    ),
+    Line::Act(
+        1,
+        100,
+        b"set d 0 0 64\r\ndddddddddddddddddddddddddddddddddddddddddddddddddddddddddddddddd\r\n",
+    ),
+    Line::Act(1, 100, b"set c 0 0 1\r\nc\r\n"),
+    Line::Act(
+        1,
+        100,
+        b"get a c b a a a a a a a a a a a a a a a a a a a a a a a a a a a a a a a a b d d a x\r\n",
+    ),
+    Line::Act(1, 100, b"gat 50 b b a\r\n"),
+    Line::Act(1, 100, b"stats\r\n"),
+];
+
 /// What a site was heard to know is left out of what it is told.
 pub const DELTAS: &[Line] = &[
     Line::Act(1, 100, b"set a 0 0 2\r\nhi\r\n"),

@@ -1,7 +1,6 @@
 -- One key more is looked up.
-use Rattle.std.proofs.Common.{◌≡◌, ℕ, zero, suc, ◌+◌, ◌<◌, Bool, true, refl, true≢false, arith, List, [], ◌∷◌, ◌++◌, length, take, Option, sym, ap, ◌∙◌, get_or, append_assoc}
+use Rattle.std.proofs.Common.{◌≡◌, ℕ, zero, suc, ◌+◌, ◌<◌, Bool, true, refl, true≢false, arith, List, [], ◌∷◌, ◌++◌, length, take, sym, ap, ◌∙◌, get_or, append_assoc}
 use Rattle.std.proofs.lemmas.List.{take_more, append-nil, map-append}
-use Rattle.std.specs.Prelude.{option_to_list}
 use Rattle.geo_grammar.specs.declared.reply.Found.{Found}
 use Rattle.geo_values.specs.Stock.{Stock, hit_at}
 use Rattle.geo_values.specs.Stock as stocks
@@ -13,11 +12,11 @@ found_append : (numbers : Bool) (seen : Visible) (xs : List (List ℕ)) (k : Lis
 found_append numbers seen [] k = append-nil (found_at numbers k (seen k))
 found_append numbers seen (x ∷ xs) k = ap (λ ys. found_at numbers x (seen x) ++ ys) (found_append numbers seen xs k) ∙ sym (append_assoc (found_at numbers x (seen x)) (found_of numbers seen xs) (found_at numbers k (seen k)))
 
-pub found_more : (numbers : Bool) (seen : Visible) (keys : List (List ℕ)) (i : ℕ) (key : List ℕ) (all more extra : List Found) (found : Option Found)
-    → i < length keys → key ≡ get_or keys i key → all ≡ found_of numbers seen (take i keys) → option_to_list found ≡ found_at numbers key (seen key)
-    → more ≡ all ++ extra → extra ≡ option_to_list found → more ≡ found_of numbers seen (take (i + 1) keys)
-found_more numbers seen keys i key all more extra found lt at done one is ex =
-    is ∙ (λ j. done j ++ (ex ∙ one) j) ∙ sym (found_append numbers seen (take i keys) key)
+pub found_more : (numbers : Bool) (seen : Visible) (keys : List (List ℕ)) (i : ℕ) (key : List ℕ) (all more : List Found)
+    → i < length keys → key ≡ get_or keys i key → all ≡ found_of numbers seen (take i keys) → more ≡ all ++ found_at numbers key (seen key)
+    → more ≡ found_of numbers seen (take (i + 1) keys)
+found_more numbers seen keys i key all more lt at done is =
+    is ∙ (λ j. done j ++ found_at numbers key (seen key)) ∙ sym (found_append numbers seen (take i keys) key)
     ∙ ap (λ k. found_of numbers seen (take i keys ++ k ∷ [])) at
     ∙ ap (found_of numbers seen) (sym (take_more keys i key lt))
 

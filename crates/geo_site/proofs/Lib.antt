@@ -27,3 +27,4 @@ pub mod Victims
 pub mod Rows
 pub mod Parted
 pub mod Passing
+pub mod Repeating

@@ -7,4 +7,5 @@ pub mod Sites
 pub mod Changes
 pub mod Noting
 pub mod Passing
+pub mod Repeats
 pub mod States

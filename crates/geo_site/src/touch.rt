@@ -12,10 +12,11 @@ ghost use Rattle.geo_site.specs.Sites.{state_in, touched_in, HasIssued, Rests, S
 ghost use Rattle.geo_site.specs.Changes.{next_stamp_of, HasRecord, HasBody};
 
 use crate::acted::{Acted, twice_values};
-use crate::fetch::Places;
 use crate::notes::note;
 use crate::passed::Passed;
+use crate::places::Places;
 use crate::reap::earlier;
+use crate::repeats::Findings;
 use crate::site::Site;
 use geo_grammar::{Found, Reply, Shared};
 use geo_memcache::live;
@@ -84,19 +85,14 @@ impl Site {
     ) -> Result<(Vec<Found>, Places), AllocError>
         ensures { IfOk result (λ found. found.0.items ≡ touched_in self.now now expiry keys.now numbers) }
     {
-        let mut all = Vec::new(alloc);
-        let mut places = Places::new(alloc);
+        let mut findings = Findings::none(alloc, self.hasher);
         let mut passed = Passed::none(self.hasher, keys.len());
         for (index, key) in keys.iter().enumerate() {
-            if !self.is_found(alloc, now, expiry, &mut passed, &keys[..index], key) {
-                continue;
-            }
-            if let Some((place, found)) = self.look(alloc, now, key, numbers)? {
-                places.push(place)?;
-                all.push(found)?;
+            if self.is_found(alloc, now, expiry, &mut passed, &keys[..index], key) {
+                self.look(alloc, now, key, numbers, &mut findings)?;
             }
         }
-        Ok((all, places))
+        Ok(findings.parts())
     }
 
     /// Whether stamps are left for so many operations.
