@@ -12,7 +12,7 @@ use Rattle.geo_grammar.specs.declared.request.Request.{Request}
 use Rattle.geo_grammar.specs.Faults.{has_long_line}
 use Rattle.geo_grammar.specs.Quitting.{is_quit, has_quit, until_quit}
 use Rattle.geo_session.specs.Closings.{StaysOpen}
-use Rattle.geo_session.specs.Connections.{Connection, Answered, Broken, BreaksFor, IsRefused, IsEnd}
+use Rattle.geo_session.specs.Connections.{Connection, Answered, Broken, BreaksFor, IsRefused, IsEnd, IsSettled}
 use Rattle.geo_session.specs.Exchanges.{Exchange, items_in, text_of, count_after, Runs}
 use Rattle.geo_session.specs.Sessions.{IsDue, Ended, Sends, AllWritten, StopsFor, Stopped, blames_reader, blames_writer}
 use Rattle.geo_session.specs.Batches.{AnswersItems, LosesAnswers, AnsweredBy, BrokenBy, Served, ServedPart}
@@ -140,6 +140,13 @@ module _ {S : Type 0} (answers : S → Request → Reply → S → Type 0) (refu
   pub served_on : (r : Result (Option SessionEnd) SessionFault) → IfOk r (λ end. mid.goes_on ≡ is_none end) → IfOk r (λ end. new.goes_on ≡ is_none end)
   served_on (Err fault) h = h
   served_on (Ok end) h = ap (λ (c : Connection). c.goes_on) sends.stays ∙ h
+
+  pub served_settled : {T : Type 0} {F : Type 0} (r : Result T F) → IfOk r (λ _. Answered answers piece old mid before after) → IfOk r (λ _. IsSettled new)
+  served_settled (Err e) h = h
+  served_settled (Ok x) h = record {
+    none_waits = ap (λ (c : Connection). c.waiting) sends.stays ∙ h.settled.none_waits;
+    none_untold = ap (λ (c : Connection). c.untold) sends.stays ∙ h.settled.none_untold;
+  }
 
   part_of : (fault : SessionFault) → Broken answers refuses fault piece old mid before after → new.owed ≡ [] → ServedPart answers refuses fault piece old.read before after u v
   part_of Read h paid = absurd h.why

@@ -1,5 +1,5 @@
 -- What is done with the items that one read brings, before their answers are written.
-use Rattle.std.specs.Prelude.{◌≡◌, ℕ, true, false, List, [], ◌∷◌, ◌++◌, Option}
+use Rattle.std.specs.Prelude.{◌≡◌, ◌≢◌, ℕ, true, false, List, [], ◌∷◌, ◌++◌, Option}
 use Rattle.std.specs.Io.KnownBytes.{Appends}
 use Rattle.geo_grammar.specs.Protocol.{items_of}
 use Rattle.geo_grammar.specs.declared.item.Item.{Item}
@@ -11,6 +11,8 @@ use Rattle.geo_session.specs.Connections.{IsRefused, BreaksFor}
 use Rattle.geo_session.specs.Exchanges.{Exchange, item_in, items_in, text_of, count_after, Runs}
 use Rattle.geo_session.specs.Sessions.{StopsFor}
 use Rattle.geo_session.specs.declared.answers.Answers.{Answers}
+use Rattle.geo_session.specs.declared.answers.Begun.{Begun}
+use Rattle.geo_session.specs.declared.answers.Begun.TheVariants.{Whole, Part, Refused}
 use Rattle.geo_session.specs.declared.answers.Course.{Course}
 use Rattle.geo_session.specs.declared.answers.Course.TheVariants.{Open, Quits, Spent}
 use Rattle.geo_session.specs.declared.fault.SessionFault.{SessionFault}
@@ -43,6 +45,24 @@ pub record RefusesItem {S : Type 0} (refuses : S → Request → S → Type 0) (
   pub is : item ≡ kind.Request request
   pub refused : refuses old request new
   pub adds : Adds before after []
+
+-- an item was answered, and the text is still to be told
+pub record AnswersPart {S : Type 0} (answers : S → Request → Reply → S → Type 0) (item : Item) (left : List ℕ) (old new : S) (before
+    after : Answers) : Type 0 where
+  pub exchange : Exchange
+  pub came : item_in exchange ≡ item
+  pub run : Runs answers old (exchange ∷ []) new
+  pub untold : left ≡ text_of (exchange ∷ [])
+  pub some : left ≢ []
+  pub text : after.text.items ≡ before.text.items
+  pub count : after.calls ≡ count_after before.calls (exchange ∷ [])
+
+-- how far an item was answered
+abbrev pub Begins : {S : Type 0} → (S → Request → Reply → S → Type 0) → (S → Request → S → Type 0) → Begun → Item → S → S → Answers → Answers
+    → Type 0
+Begins answers refuses Whole item old new before after = AnswersItem answers item old new before after
+Begins answers refuses (Part telling) item old new before after = AnswersPart answers item telling old new before after
+Begins answers refuses Refused item old new before after = RefusesItem refuses item old new before after
 
 -- how far items were answered
 abbrev pub IsCourse : {S : Type 0} → (S → Request → S → Type 0) → Course → List Item → List Item → S → S → Type 0

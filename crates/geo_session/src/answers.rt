@@ -4,7 +4,7 @@ ghost use Rattle.geo_grammar.specs.Limits.{most_number};
 
 use crate::backend::Backend;
 use crate::gate::Gate;
-use geo_grammar::{Item, Request, fault_text, push_reply};
+use geo_grammar::{Item, Request, Telling, begin_reply, fault_text, push_reply};
 use std::alloc::{AllocError, Global};
 use std::rt::Clock;
 use std::sync::Wait;
@@ -23,6 +23,17 @@ pub enum Course {
     Spent,
 }
 
+/// How far an item is answered.
+#[derive(Drop)]
+pub enum Begun {
+    /// The text of the answer is rendered.
+    Whole,
+    /// The reply shows several values, which are still to be told.
+    Part(Telling),
+    /// The backend gives no answer.
+    Refused,
+}
+
 /// One more, as far as 64 bits go.
 fn one_more(count: u64) -> u64
     ensures { result ≡ min (count + 1) most_number }
@@ -38,7 +49,7 @@ pub struct Answers {
 }
 
 impl Answers {
-    ghost use Rattle.geo_session.specs.Batches.{Adds, AnswersItem, LosesAnswer, RefusesItem, AnswersItems, LosesAnswers};
+    ghost use Rattle.geo_session.specs.Batches.{Adds, Begins, AnswersItem, LosesAnswer, RefusesItem, AnswersItems, LosesAnswers};
 
     /// No answers, in a session without any.
     pub fn new(alloc: Global) -> Answers
@@ -106,6 +117,56 @@ impl Answers {
             Item::Fault(fault) => {
                 self.text.extend_from_slice(fault_text(fault))?;
                 Ok(true)
+            }
+        }
+    }
+
+    /// Has a request answered, and begins its answer where the client wants it.
+    fn begin_request<R: Wait + Clock, B: Backend, G: Gate>(
+        &mut self,
+        rt: &R,
+        alloc: Global,
+        backend: &mut B,
+        gate: &G,
+        request: Request,
+    ) -> Result<Begun, AllocError>
+        ensures ok { IfOk result (λ begun. Begins B.answers B.refuses begun (Item.Request request) backend.old backend.new self.old self.new) }
+        ensures err { IfErr result (λ _. LosesAnswer B.answers (Item.Request request) backend.old backend.new self.old self.new) }
+    {
+        let is_quiet = request.is_noreply();
+        let Some(reply) = backend.act(rt, alloc, request) else {
+            return Ok(Begun::Refused);
+        };
+        let calls = one_more(self.calls);
+        self.calls = calls;
+        gate.pass(rt, calls);
+        if is_quiet {
+            return Ok(Begun::Whole);
+        }
+        match begin_reply(&mut self.text, reply)? {
+            Some(telling) => Ok(Begun::Part(telling)),
+            None => Ok(Begun::Whole),
+        }
+    }
+
+    /// Answers an item, or begins to where the answer shows several values.
+    pub fn begin_item<R: Wait + Clock, B: Backend, G: Gate>(
+        &mut self,
+        rt: &R,
+        alloc: Global,
+        backend: &mut B,
+        gate: &G,
+        item: Item,
+    ) -> Result<Begun, AllocError>
+        ensures ok { IfOk result (λ begun. Begins B.answers B.refuses begun item backend.old backend.new self.old self.new) }
+        ensures err { IfErr result (λ _. LosesAnswer B.answers item backend.old backend.new self.old self.new) }
+    {
+        match item {
+            Item::Request(request) => self.begin_request(rt, alloc, backend, gate, request),
+            Item::Fault(fault) => {
+                let told = fault_text(fault);
+                self.text.extend_from_slice(told)?;
+                Ok(Begun::Whole)
             }
         }
     }

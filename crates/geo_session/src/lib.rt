@@ -17,6 +17,7 @@ mod end;
 mod fault;
 mod gate;
 mod output;
+mod pending;
 mod serving;
 mod session;
 

@@ -1,7 +1,7 @@
 //! A session from its first byte to its end.
 ghost use Rattle.std.specs.Prelude.{◌≡◌, ◌<◌, ◌≤◌, ◌++◌, [], true, false, vec_len, is_none, IfErr, IfOk, OnOk};
 ghost use Rattle.geo_grammar.specs.Protocol.{items_of};
-ghost use Rattle.geo_session.specs.Connections.{IsEnd};
+ghost use Rattle.geo_session.specs.Connections.{IsEnd, IsSettled};
 ghost use Rattle.geo_session.specs.Sessions.{longest_piece, Ended, Stopped, blames_reader, blames_writer};
 ghost use Rattle.geo_session.specs.Batches.{Served, ServedPart};
 
@@ -61,10 +61,12 @@ fn serve_piece<R: Wait + Clock, O: Write, B: Backend, G: Gate>(
 ) -> Result<Option<SessionEnd>, SessionFault>
     requires goes_on { session.old.goes_on ≡ true }
     requires paid { session.old.owed ≡ [] }
+    requires settled { IsSettled session.old }
     ensures ok { IfOk result (λ _. Served B.answers piece.now session.old.read backend.old backend.new (O.contents writer.old.inner)
         (O.contents writer.new.inner)) }
     ensures read { OnOk result (session.new.read ≡ session.old.read ++ piece.now) }
     ensures paid { OnOk result (session.new.owed ≡ []) }
+    ensures settled { OnOk result (IsSettled session.new) }
     ensures end { IfOk result (λ end. IsEnd (items_of session.new.read) end) }
     ensures goes_on { IfOk result (λ end. session.new.goes_on ≡ is_none end) }
     ensures err { IfErr result (λ fault. ServedPart B.answers B.refuses fault piece.now session.old.read backend.old backend.new

@@ -1,30 +1,39 @@
 //! A connection between two reads.
-ghost use Rattle.std.specs.Prelude.{◌≡◌, ◌≤◌, ◌++◌, [], true, length, drop, is_none, IfErr, IfOk};
+ghost use Rattle.std.specs.Prelude.{◌≡◌, ◌≤◌, ◌++◌, [], true, false, cond, length, drop, is_none, IfErr, IfOk, OnOk, MatchBool, None, Some};
 ghost use Rattle.geo_grammar.specs.Protocol.{items_of};
+ghost use Rattle.geo_grammar.specs.Quitting.{has_quit};
 ghost use Rattle.geo_session.specs.Closings.{StaysOpen};
-ghost use Rattle.geo_session.specs.Connections.{new_connection, IsEnd};
+ghost use Rattle.geo_session.specs.Connections.{new_connection, IsEnd, IsSettled};
 ghost use Rattle.geo_session.specs.Batches.{AnsweredBy, BrokenBy};
+ghost use Rattle.geo_session.specs.declared.fault.SessionFault.TheVariants.{Memory};
 
 use crate::answers::{Answers, Course};
 use crate::backend::Backend;
 use crate::end::SessionEnd;
 use crate::fault::SessionFault;
 use crate::gate::Gate;
-use geo_grammar::{Reader, items_of_longer};
+use crate::pending::Pending;
+use geo_grammar::{Item, Reader, items_of_longer};
 use std::alloc::Global;
+use std::collections::VecDeque;
 use std::marker::Model;
 use std::rt::Clock;
 use std::sync::Wait;
 
+/// Where more bytes of answers than that stand rendered no more are rendered.
+const MOST_RENDERED: usize = 1_048_576;
+
 /// A connection between two reads. It takes the bytes of a read, and leaves those that are owed to the client; it reads and writes
 /// nothing itself. So a thread can carry many.
 ///
-/// Contracts see all that it took, what it owes, how often its backend answered, and whether it takes more.
+/// What comes can be answered bit by bit, so that a client that asks for much is owed a mebibyte and one value at most: the requests
+/// wait, and of a reply the values that are not rendered yet. Contracts see all that it took, what waits, what it owes and what of
+/// that isn't rendered, how often its backend answered, and whether it takes more.
 #[derive(Drop)]
 pub struct Session {
     alloc: Global,
     requests: Reader,
-    answers: Answers,
+    pending: Pending,
     // So many bytes of the answers are written.
     sent: usize,
     goes_on: bool,
@@ -32,19 +41,43 @@ pub struct Session {
 
 impl Model for Session {
     ghost use Rattle.std.specs.Prelude.{drop};
+    ghost use Rattle.geo_grammar.specs.Quitting.{until_quit};
     ghost use Rattle.geo_session.specs.Connections.{Connection, IsSession};
+    ghost use Rattle.geo_session.specs.Pendings.{untold_in};
 
     ghost Value = { Connection };
 
     ghost view = { λ s. record {
       read = s.requests;
-      owed = drop s.sent s.answers.text.items;
-      answered = s.answers.calls;
+      waiting = until_quit s.pending.waiting.items;
+      owed = drop s.sent s.pending.answers.text.items;
+      untold = untold_in s.pending;
+      answered = s.pending.answers.calls;
       goes_on =
           s.goes_on;
     } };
 
-    ghost invariant = { λ s. IsSession s.requests s.sent s.answers.text.items s.goes_on };
+    ghost invariant = { λ s. IsSession s.requests s.sent s.pending.answers.text.items s.goes_on };
+}
+
+/// Whether one of these items asks for the end.
+fn brings_quit(items: &[Item]) -> bool
+    ensures { result ≡ has_quit items.now }
+{
+    items.iter().any(|item| item.is_quit())
+}
+
+/// The end that a piece brings, by whether it brings a `quit`, and whether nothing more is read behind it.
+fn end_by(quits: bool, ended: bool) -> Option<SessionEnd>
+    ensures { result ≡ cond quits (Some SessionEnd.Quit) (cond ended (Some SessionEnd.LineTooLong) None) }
+{
+    if quits {
+        return Some(SessionEnd::Quit);
+    }
+    if ended {
+        return Some(SessionEnd::LineTooLong);
+    }
+    None
 }
 
 /// Answers what a piece brings.
@@ -76,7 +109,7 @@ fn answer_piece<R: Wait + Clock, B: Backend, G: Gate>(
 }
 
 impl Session {
-    ghost use Rattle.geo_session.specs.Connections.{Answered, Broken};
+    ghost use Rattle.geo_session.specs.Connections.{Answered, Broken, Comes, GoesOn, BreaksOff, GoesFar};
 
     /// A connection on which nothing came. It takes no memory.
     pub fn new(alloc: Global) -> Session
@@ -85,7 +118,7 @@ impl Session {
         Session {
             alloc,
             requests: Reader::new(alloc),
-            answers: Answers::new(alloc),
+            pending: Pending::none(alloc),
             sent: 0,
             goes_on: true,
         }
@@ -98,11 +131,18 @@ impl Session {
         self.goes_on
     }
 
-    /// What is owed to the client.
+    /// Whether nothing waits: all that came is answered, and the text of the answers is rendered.
+    pub fn is_settled(&self) -> bool
+        ensures { MatchBool result (IsSettled self.now) (IsSettled self.now → ⊥) }
+    {
+        self.pending.is_done()
+    }
+
+    /// What is owed to the client, as far as it is rendered.
     pub fn owed(&self) -> &[u8]
         ensures { result.now ≡ self.now.owed }
     {
-        let (_, owed) = self.answers.text.as_slice().split_at(self.sent);
+        let (_, owed) = self.pending.answers.text.as_slice().split_at(self.sent);
         owed
     }
 
@@ -112,8 +152,8 @@ impl Session {
         ensures { self.new ≡ record self.old { owed = drop count self.old.owed } }
     {
         self.sent += count;
-        if self.sent == self.answers.text.len() {
-            self.answers.restart(self.alloc);
+        if self.sent == self.pending.answers.text.len() {
+            self.pending.answers.restart(self.alloc);
             self.sent = 0;
         }
     }
@@ -129,7 +169,8 @@ impl Session {
         gate: &G,
         piece: &[u8],
     ) -> Result<Option<SessionEnd>, SessionFault>
-        requires { self.old.goes_on ≡ true }
+        requires goes_on { self.old.goes_on ≡ true }
+        requires settled { IsSettled self.old }
         ensures ok { IfOk result (λ _. Answered B.answers piece.now self.old self.new backend.old backend.new) }
         ensures end { IfOk result (λ end. IsEnd (items_of self.new.read) end) }
         ensures goes_on { IfOk result (λ end. self.new.goes_on ≡ is_none end) }
@@ -142,10 +183,67 @@ impl Session {
             backend,
             gate,
             &mut self.requests,
-            &mut self.answers,
+            &mut self.pending.answers,
             piece,
         )?;
         self.goes_on = end.is_none();
         Ok(end)
+    }
+
+    /// Takes what a read brought: the requests in it, up to a `quit`, wait to be answered. It tells the end that this brings; None where
+    /// the session goes on. Behind an end, or want of memory, it takes no more, and what waits can still be answered.
+    pub fn come(&mut self, piece: &[u8]) -> Result<Option<SessionEnd>, SessionFault>
+        requires goes_on { self.old.goes_on ≡ true }
+        requires settled { IsSettled self.old }
+        ensures ok { OnOk result (Comes piece.now self.old self.new) }
+        ensures end { IfOk result (λ end. IsEnd (items_of self.new.read) end) }
+        ensures goes_on { IfOk result (λ end. self.new.goes_on ≡ is_none end) }
+        ensures err { IfErr result (λ fault. (fault ≡ Memory) × (self.new ≡ record self.old { goes_on = false })) }
+    {
+        items_of_longer();
+        self.goes_on = false;
+        let items = self.requests.feed(piece)?;
+        let brought = end_by(brings_quit(items.as_slice()), self.requests.ended());
+        self.pending.waiting = VecDeque::from_vec(items);
+        self.goes_on = brought.is_none();
+        Ok(brought)
+    }
+
+    /// Lets go of what was written, once it is a mebibyte, for a client that never takes all that it is owed.
+    fn forget_sent(&mut self)
+        ensures { self.new ≡ self.old }
+    {
+        if self.sent < MOST_RENDERED {
+            return;
+        }
+        let left = self.pending.answers.text.len() - self.sent;
+        self.pending.answers.text.rotate_left(self.sent);
+        self.pending.answers.text.truncate(left);
+        self.sent = 0;
+    }
+
+    /// Answers what waits, and renders the answers behind what is owed, until nothing waits or more than a mebibyte is owed. Each answer
+    /// of the backend passes the gate first. After a fault nothing waits any more: what was not answered is dropped, and a reply
+    /// for whose rest there is no memory is cut off behind one of its values.
+    pub fn go_on<R: Wait + Clock, B: Backend, G: Gate>(
+        &mut self,
+        rt: &R,
+        backend: &mut B,
+        gate: &G,
+    ) -> Result<(), SessionFault>
+        ensures ok { OnOk result (GoesOn B.answers self.old self.new backend.old backend.new) }
+        ensures far { OnOk result (GoesFar self.new) }
+        ensures err { IfErr result (λ fault. BreaksOff B.answers B.refuses fault self.old self.new backend.old backend.new) }
+    {
+        self.forget_sent();
+        let most = self.sent.saturating_add(MOST_RENDERED);
+        match self.pending.go_on(rt, self.alloc, backend, gate, most) {
+            Ok(()) => Ok(()),
+            Err(fault) => {
+                self.goes_on = false;
+                self.pending.let_go(self.alloc);
+                Err(fault)
+            }
+        }
     }
 }

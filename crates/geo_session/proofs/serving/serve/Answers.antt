@@ -29,6 +29,7 @@ loop-read-init g c =
       stays = none_stays;
       goes_on = refl;
       paid = refl;
+      settled = record { none_waits = refl; none_untold = refl };
       long = omega arith;
       some = omega (arith, c.in_ok-buffer.ensures);
       most = omega (arith, c.in_ok-buffer.ensures);
@@ -132,6 +133,7 @@ loop-read-preserved g c =
       stays = stays;
       goes_on = rw c.in-None.is at c.in_ok-taken.ensures.goes_on;
       paid = c.in_ok-taken.ensures.paid;
+      settled = c.in_ok-taken.ensures.settled;
       long = omega (arith, inv.long, c.if-count-eq0.false, c.split_at.ensures.front_len, length-append text piece, ap (λ (x : List ℕ). length x) read);
       some = c.next_buffer-buffer.ensures.some;
       most = c.next_buffer-buffer.ensures.most;

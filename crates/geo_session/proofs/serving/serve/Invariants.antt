@@ -2,6 +2,7 @@ use Rattle.std.proofs.Common.{◌≡◌, ◌<◌, ◌≤◌, false, true, [], ve
 use Rattle.std.specs.Io.KnownBytes.{Consumes}
 use Rattle.geo_grammar.specs.Protocol.{items_of}
 use Rattle.geo_session.specs.Closings.{StaysOpen}
+use Rattle.geo_session.specs.Connections.{IsSettled}
 use Rattle.geo_session.proofs.Pieces.{Progress}
 use Rattle.geo_session.proofs.serving.serve.Given as goal
 
@@ -12,6 +13,7 @@ invariant-loop-read g l = record {
   stays : StaysOpen (items_of l.session.read);
   goes_on : l.session.goes_on ≡ true;
   paid : l.session.owed ≡ [];
+  settled : IsSettled l.session;
   long : l._read ≤ length l.session.read;
   some : 0 < vec_len l.buffer;
   most : vec_len l.buffer ≤ 262144;

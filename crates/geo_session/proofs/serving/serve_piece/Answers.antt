@@ -2,7 +2,7 @@ use Rattle.std.proofs.Common.{sym, subst, ◌∙◌}
 use Rattle.geo_session.specs.Batches.{ServedPart}
 use Rattle.geo_session.specs.declared.fault.SessionFault.{SessionFault}
 use Rattle.geo_session.proofs.Lists.{at_err}
-use Rattle.geo_session.proofs.Pieces.{served, served_read, served_end, served_on, served_part, unwritten, broken_blames}
+use Rattle.geo_session.proofs.Pieces.{served, served_read, served_end, served_on, served_settled, served_part, unwritten, broken_blames}
 use Rattle.geo_session.proofs.serving.serve_piece.Goals as goal
 
 pub returns-in_err-send_owed-clause-err : goal.returns-in_err-send_owed-clause-err
@@ -33,3 +33,6 @@ returns-clause-unread g c = (broken_blames g.B.Backend.answers g.B.Backend.refus
 
 pub returns-clause-blames : goal.returns-clause-blames
 returns-clause-blames g c = λ fresh. c.in_ok-send_owed.ensures.works fresh ∙ sym (broken_blames g.B.Backend.answers g.B.Backend.refuses c.args.piece.now c.args.session.now c.take-taken.new.self c.args.backend.now c.take-taken.new.backend c.take-taken.result c.take-taken.ensures.err).1
+
+pub returns-clause-settled : goal.returns-clause-settled
+returns-clause-settled g c = served_settled g.B.Backend.answers g.B.Backend.refuses c.args.piece.now c.args.session.now c.take-taken.new.self c.send_owed.new.session c.args.backend.now c.take-taken.new.backend _ _ c.requires.paid c.send_owed.ensures.sends c.take-taken.result c.take-taken.ensures.ok
