@@ -1,7 +1,8 @@
 //! A connection with its session.
 ghost use Rattle.std.specs.Prelude.{◌≡◌, ◌≢◌, true, MatchBool};
+ghost use Rattle.geo_session.specs.Connections.{IsSettled};
 ghost use Rattle.geo_session.specs.Sessions.{Sends};
-ghost use Rattle.geo_crowd.specs.Carrying.{Reads, SendEnds, outcome_by, outcome_after};
+ghost use Rattle.geo_crowd.specs.Carrying.{Reads, SendEnds, outcome_by, outcome_after, outcome_gone};
 
 use crate::standing::Standing;
 use crate::stream::{Accepted, Given, Stream};
@@ -17,9 +18,9 @@ const MOST_OWED: usize = 1_048_576;
 /// What came of a read.
 #[derive(Clone, Copy, Debug, PartialEq, Eq)]
 pub enum Came {
-    /// Bytes, which are answered, the end that they bring, and whether more may be there: they filled the buffer.
-    Answered(Option<SessionEnd>, bool),
-    /// Bytes, and a fault within them.
+    /// Bytes, whose requests wait for their answers, the end that they bring, and whether more may be there: they filled the buffer.
+    Bytes(Option<SessionEnd>, bool),
+    /// Bytes that could not be taken.
     Broken(SessionFault),
     /// Nothing yet.
     Later,
@@ -35,8 +36,8 @@ impl Came {
         ensures { result ≡ outcome_by self }
     {
         match self {
-            Came::Answered(None, _) | Came::Later => None,
-            Came::Answered(Some(end), _) => Some(Ok(end)),
+            Came::Bytes(None, _) | Came::Later => None,
+            Came::Bytes(Some(end), _) => Some(Ok(end)),
             Came::Broken(fault) => Some(Err(fault)),
             Came::End => Some(Ok(SessionEnd::EndOfInput)),
             Came::Failed => Some(Err(SessionFault::Read)),
@@ -46,7 +47,7 @@ impl Came {
     /// Whether more may be there.
     fn has_more(self, is_ending: bool) -> bool {
         // a socket that gave less than there was room for has no more, and tells when it has, but for its end, if that is known
-        matches!(self, Came::Answered(None, is_full) if is_full | is_ending)
+        matches!(self, Came::Bytes(None, is_full) if is_full | is_ending)
     }
 }
 
@@ -76,11 +77,24 @@ impl Sent {
     }
 }
 
-/// Whether a connection with such an outcome can be written no more.
-fn is_cut(outcome: Result<SessionEnd, SessionFault>) -> bool
-    ensures { MatchBool result (outcome ≡ Err SessionFault.Write) (outcome ≢ Err SessionFault.Write) }
+/// The outcome behind answers that were gone on with, with this one before.
+fn outcome_behind(
+    gone: Result<(), SessionFault>,
+    before: Option<Result<SessionEnd, SessionFault>>,
+) -> Option<Result<SessionEnd, SessionFault>>
+    ensures { result ≡ outcome_gone gone before }
 {
-    matches!(outcome, Err(SessionFault::Write))
+    match gone {
+        Ok(()) => before,
+        Err(fault) => Some(Err(fault)),
+    }
+}
+
+/// Whether a connection with such an outcome can be written no more.
+fn is_cut(outcome: Option<Result<SessionEnd, SessionFault>>) -> bool
+    ensures { MatchBool result (outcome ≡ Some (Err SessionFault.Write)) (outcome ≢ Some (Err SessionFault.Write)) }
+{
+    matches!(outcome, Some(Err(SessionFault::Write)))
 }
 
 /// Writes what a session owes, as far as there is room.
@@ -100,19 +114,11 @@ fn send<S: Stream>(stream: &mut S, session: &mut Session) -> Sent
     Sent::All
 }
 
-/// Reads once, and has what comes answered.
-fn take<S: Stream, R: Wait + Clock, B: Backend, G: Gate>(
-    rt: &R,
-    alloc: Global,
-    stream: &mut S,
-    session: &mut Session,
-    backend: &mut B,
-    gate: &G,
-    buffer: &mut [u8],
-) -> Came
-    requires { session.old.goes_on ≡ true }
-    ensures reads { Reads B.answers B.refuses result (S.remaining stream.old) (S.remaining stream.new) (S.last_given stream.new) session.old
-        session.new backend.old backend.new }
+/// Reads once, and has the session take what comes.
+fn take<S: Stream>(stream: &mut S, session: &mut Session, buffer: &mut [u8]) -> Came
+    requires goes_on { session.old.goes_on ≡ true }
+    requires settled { IsSettled session.old }
+    ensures reads { Reads result (S.remaining stream.old) (S.remaining stream.new) (S.last_given stream.new) session.old session.new }
     ensures stays { S.contents stream.new ≡ S.contents stream.old }
     ensures accepted { S.last_accepted stream.new ≡ S.last_accepted stream.old }
 {
@@ -120,8 +126,8 @@ fn take<S: Stream, R: Wait + Clock, B: Backend, G: Gate>(
         Given::Bytes(count) => {
             let is_full = count == buffer.len();
             let (piece, _) = buffer.split_at(count);
-            match session.take(rt, alloc, backend, gate, piece) {
-                Ok(end) => Came::Answered(end, is_full),
+            match session.come(piece) {
+                Ok(end) => Came::Bytes(end, is_full),
                 Err(fault) => Came::Broken(fault),
             }
         }
@@ -132,7 +138,9 @@ fn take<S: Stream, R: Wait + Clock, B: Backend, G: Gate>(
 }
 
 /// One client's connection, which a thread carries beside others. What is written to the client, and what it is owed, is the text of
-/// the answers to what came from it, or to a beginning of that.
+/// the answers to what came from it, or to a beginning of that. Behind want of memory the end of that text may be missing.
+///
+/// A client that asks for much is owed a mebibyte and one value at most: what else it asked for waits until that is written.
 #[derive(Drop)]
 pub struct Carried<S: Stream> {
     stream: S,
@@ -164,7 +172,8 @@ impl<S: Stream> Model for Carried<S> {
 
 impl<S: Stream> Carried<S> {
     ghost use Rattle.std.specs.Prelude.{◌≡◌};
-    ghost use Rattle.geo_crowd.specs.Carrying.{IsCarried, MayRead, MayHear, MayWrite, Stands, Turns, new_carriage};
+    ghost use Rattle.geo_crowd.specs.Carrying.{CanGoOn, IsCarried, IsDone, IsStill, MayGoOn, MayHear, MayRead, MayWrite};
+    ghost use Rattle.geo_crowd.specs.Carrying.{Stands, Turns, new_carriage};
 
     /// A connection on which nothing came and nothing was written, and of which it is not known whether it is ready.
     pub fn new(alloc: Global, stream: S) -> Carried<S>
@@ -196,7 +205,31 @@ impl<S: Stream> Carried<S> {
         self.outcome.is_none()
             && self.is_readable
             && self.session.goes_on()
+            && self.session.is_settled()
             && self.session.owed().len() <= MOST_OWED
+    }
+
+    /// Whether something waits for an answer that can still be written.
+    fn may_go_on(&self) -> bool
+        ensures { MatchBool result (CanGoOn self.now) (IsStill self.now) }
+    {
+        !is_cut(self.outcome) && !self.session.is_settled()
+    }
+
+    /// Whether all that came is answered, and all answers are written.
+    fn is_done(&self) -> bool
+        ensures { MatchBool result (IsDone self.now.session) (IsDone self.now.session → ⊥) }
+    {
+        self.session.is_settled() && self.session.owed().is_empty()
+    }
+
+    /// Whether a turn can write, or has nothing to write and something to answer.
+    fn can_move(&self) -> bool {
+        if self.session.owed().is_empty() {
+            !self.session.is_settled()
+        } else {
+            self.is_writable
+        }
     }
 
     /// Writes what is owed, as far as there is room.
@@ -211,31 +244,27 @@ impl<S: Stream> Carried<S> {
         self.outcome = sent.outcome(self.outcome);
     }
 
-    /// Reads once where it may, and has what comes answered.
-    fn read<R: Wait + Clock, B: Backend, G: Gate>(
-        &mut self,
-        rt: &R,
-        alloc: Global,
-        backend: &mut B,
-        gate: &G,
-        buffer: &mut [u8],
-    )
-        ensures { MayHear B.answers B.refuses self.old self.new backend.old backend.new }
+    /// Reads once where it may.
+    fn read(&mut self, buffer: &mut [u8])
+        ensures { MayHear self.old self.new }
     {
         if !self.may_read() {
             return;
         }
-        let came = take(
-            rt,
-            alloc,
-            &mut self.stream,
-            &mut self.session,
-            backend,
-            gate,
-            buffer,
-        );
+        let came = take(&mut self.stream, &mut self.session, buffer);
         self.is_readable = came.has_more(self.is_ending);
         self.outcome = came.outcome();
+    }
+
+    /// Has what waits answered, as far as the session goes.
+    fn go_on<R: Wait + Clock, B: Backend, G: Gate>(&mut self, rt: &R, backend: &mut B, gate: &G)
+        ensures { MayGoOn B.answers B.refuses self.old self.new backend.old backend.new }
+    {
+        if !self.may_go_on() {
+            return;
+        }
+        let gone = self.session.go_on(rt, backend, gate);
+        self.outcome = outcome_behind(gone, self.outcome);
     }
 
     /// The stream. What was not written is lost.
@@ -252,22 +281,21 @@ impl<S: Stream> Carried<S> {
         ensures carries { IsCarried self.now.written self.now.session self.now.outcome }
         ensures stands { Stands result self.now }
     {
-        let owes = !self.session.owed().is_empty();
         match self.outcome {
-            Some(outcome) if !owes => Standing::Over(outcome),
-            Some(outcome) if is_cut(outcome) => Standing::Over(outcome),
-            Some(_) if self.is_writable => Standing::Again,
+            Some(outcome) if self.is_done() => Standing::Over(outcome),
+            Some(outcome) if is_cut(self.outcome) => Standing::Over(outcome),
+            Some(_) if self.can_move() => Standing::Again,
             Some(_) => Standing::Waits,
-            None if owes && self.is_writable || self.may_read() => Standing::Again,
+            None if self.can_move() || self.may_read() => Standing::Again,
             None => Standing::Waits,
         }
     }
 
-    /// One turn: writes what is owed, reads once where not too much is owed, has what comes answered, and writes again.
+    /// One turn: writes what is owed, reads once where nothing waits and not too much is owed, has what waits answered until it is
+    /// owed much, and writes again.
     pub fn turn<R: Wait + Clock, B: Backend, G: Gate>(
         &mut self,
         rt: &R,
-        alloc: Global,
         backend: &mut B,
         gate: &G,
         buffer: &mut [u8],
@@ -277,7 +305,8 @@ impl<S: Stream> Carried<S> {
         ensures stands { Stands result self.new }
     {
         self.write();
-        self.read(rt, alloc, backend, gate, buffer);
+        self.read(buffer);
+        self.go_on(rt, backend, gate);
         self.write();
         self.standing()
     }

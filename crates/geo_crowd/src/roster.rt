@@ -115,7 +115,7 @@ impl<S: Stream + Drop> Roster<S> {
         let member = self.members.get_mut(number)?;
         let standing = member
             .carried
-            .turn(rt, self.alloc, backend, gate, self.buffer.as_mut_slice());
+            .turn(rt, backend, gate, self.buffer.as_mut_slice());
         member.is_listed = standing == Standing::Again;
         if matches!(standing, Standing::Over(_)) {
             if let Some(member) = self.members.try_remove(number) {

@@ -217,17 +217,22 @@ impl Clients {
         })
     }
 
+    /// Has what is asked come to the session and answered.
+    fn answer<R: Wait + Clock>(&mut self, rt: &R) -> Result<Option<SessionEnd>, SessionFault> {
+        if !self.session.goes_on() || !self.session.is_settled() {
+            return Err(SessionFault::Spent);
+        }
+        let end = self.session.come(self.asked.as_slice())?;
+        self.session.go_on(rt, &mut self.backend, &OpenGate)?;
+        Ok(end)
+    }
+
     /// Hands the session what is asked, and takes what it owes.
     fn hand<R: Wait + Clock>(&mut self, rt: &R, alloc: Global) -> Result<Course, Stop> {
-        if !self.session.goes_on() {
-            return Err(Stop::Wrong("a session is over"));
-        }
-        let asked = self.asked.as_slice();
-        let taken = self
-            .session
-            .take(rt, alloc, &mut self.backend, &OpenGate, asked);
+        let answered = self.answer(rt);
         self.came.extend_from_slice(self.session.owed())?;
-        match taken {
+        match answered {
+            _ if !self.session.is_settled() => Err(Stop::Wrong("something waits still")),
             Ok(None) => {
                 let count = self.session.owed().len();
                 self.session.sent(count);

@@ -150,7 +150,7 @@ fn carried<R: Wait + Clock>(
 ) -> Option<(Vec<u8>, Result<SessionEnd, SessionFault>)> {
     let mut carried = Carried::new(alloc, stream);
     for _turn in 0..1_000 {
-        let standing = carried.turn(rt, alloc, &mut Idle, &OpenGate, buffer);
+        let standing = carried.turn(rt, &mut Idle, &OpenGate, buffer);
         if let Standing::Over(outcome) = standing {
             let Fake { written, .. } = carried.into_stream();
             return Some((written, outcome));

@@ -231,7 +231,7 @@ fn ends_at_a_line_that_is_too_long(rt: HostRuntime) -> Result<(), Fail> {
 
 /// Whether a session takes a piece by hand, owes these bytes, ends at `quit`, and owes nothing once they are sent.
 fn is_carried<R: Wait + Clock>(rt: &R, alloc: Global, session: &mut Session, owed: &[u8]) -> bool {
-    if !session.goes_on() {
+    if !session.goes_on() || !session.is_settled() {
         return false;
     }
     let mut backend = Idle { left: 9 };
@@ -252,4 +252,32 @@ fn is_carried<R: Wait + Clock>(rt: &R, alloc: Global, session: &mut Session, owe
 fn a_session_can_be_carried_by_hand(rt: HostRuntime) {
     let mut session = Session::new(rt.alloc());
     assert!(rt; is_carried(&rt, rt.alloc(), &mut session, b"OK\r\nOK\r\n"));
+}
+
+/// Whether a piece that ends at `quit` waits in a session until that goes on, whose backend answers so often, and what it owes then.
+fn is_carried_on<R: Wait + Clock>(
+    rt: &R,
+    session: &mut Session,
+    calls: u64,
+    owed: &[u8],
+) -> Option<Result<(), SessionFault>> {
+    if !session.goes_on() || !session.is_settled() {
+        return None;
+    }
+    let end = session.come(b"version\r\nquit\r\nversion\r\n");
+    let waits = !session.is_settled() && session.owed().is_empty();
+    let gone = session.go_on(rt, &mut Idle { left: calls }, &OpenGate);
+    let is_over = session.is_settled() && !session.goes_on();
+    let is_so = end == Ok(Some(SessionEnd::Quit)) && waits && is_over && session.owed() == owed;
+    if is_so { Some(gone) } else { None }
+}
+
+#[test]
+fn what_comes_waits_until_a_session_goes_on(rt: HostRuntime) {
+    let mut whole = Session::new(rt.alloc());
+    let gone = is_carried_on(&rt, &mut whole, 9, b"OK\r\nOK\r\n");
+    assert_eq!(rt; gone, Some(Ok(())));
+    let mut spent = Session::new(rt.alloc());
+    let gone = is_carried_on(&rt, &mut spent, 1, b"OK\r\n");
+    assert_eq!(rt; gone, Some(Err(SessionFault::Spent)));
 }
