@@ -9,8 +9,9 @@ use std::net::{Net, TcpListener, TcpStream};
 use std::rt::Clock;
 use std::sync::atomic::AtomicU64;
 
-/// How many parcels may wait on a link in memory.
-const WAITING: usize = 16;
+/// How many parcels may wait on a link in memory: each tells all that its site wrote since the one before, so that a few do, and a
+/// site that is behind holds no more memory.
+const WAITING: usize = 2;
 
 /// How sites are joined.
 pub(crate) trait Wires<R> {
