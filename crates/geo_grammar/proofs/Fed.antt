@@ -49,6 +49,6 @@ block_goes_on head got false = refl
 -- in any other state more is read
 pub goes_on_reading : (state : State) → (state ≡ state_of.Ended → ⊥) → false ≡ is_ended (place_of state)
 goes_on_reading (state_of.Line seen) h = refl
-goes_on_reading (state_of.Data head got returned) h = block_goes_on head got.items returned
+goes_on_reading (state_of.Data head got returned) h = block_goes_on head got returned
 goes_on_reading (state_of.Skip left why) h = refl
 goes_on_reading state_of.Ended h = absurd (h refl)

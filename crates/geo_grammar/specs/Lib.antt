@@ -10,4 +10,5 @@ pub mod States
 pub mod Requests
 pub mod Replies
 pub mod Holdings
+pub mod Tellings
 pub mod Quitting

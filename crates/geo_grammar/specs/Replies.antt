@@ -1,5 +1,5 @@
 -- The text of each fault and each answer (memcached's protocol.txt). All lines end in a return and a newline.
-use Rattle.std.specs.Prelude.{ℕ, Bool, true, false, List, [], ◌++◌, length, codes, decimal, Option, Some, None, if◌then◌else◌}
+use Rattle.std.specs.Prelude.{ℕ, ◌<◌, Bool, true, false, List, [], ◌∷◌, ◌++◌, length, codes, decimal, Option, Some, None, if◌then◌else◌}
 use Rattle.std.specs.List.{flat_map}
 use Rattle.geo_grammar.specs.declared.fault.Fault.{Fault}
 use Rattle.geo_grammar.specs.declared.fault.Fault.TheVariants as fault
@@ -18,9 +18,17 @@ fault_bytes fault.LineTooLong = codes "CLIENT_ERROR line too long\r\n"
 fault_bytes fault.TooLarge = codes "SERVER_ERROR object too large for cache\r\n"
 fault_bytes fault.BadNumber = codes "CLIENT_ERROR invalid numeric argument\r\n"
 
+-- so many bytes of a value are told at once
+abbrev pub most_told : ℕ
+most_told = 65536
+
 abbrev pub unique_bytes : Option ℕ → List ℕ
 unique_bytes None = []
 unique_bytes (Some number) = codes " " ++ decimal number
+
+-- the line of a value
+abbrev pub found_line : Found → List ℕ
+found_line found = codes "VALUE " ++ found.key ++ codes " " ++ decimal found.flags ++ codes " " ++ decimal (length found.bytes) ++ unique_bytes found.unique ++ codes "\r\n"
 
 -- one value: its line, and then its data
 abbrev pub found_bytes : Found → List ℕ
@@ -71,6 +79,32 @@ is_short TooLarge = true
 is_short MapFull = true
 is_short ClockEnded = true
 is_short OutOfMemory = true
+
+-- values that are told piece by piece: several, or a long one
+abbrev pub IsMuch : List Found → Type 0
+IsMuch [] = ⊥
+IsMuch (one ∷ []) = most_told < length one.bytes
+IsMuch (one ∷ (two ∷ more)) = Unit {0}
+
+-- a reply that is told piece by piece
+abbrev pub ShowsMuch : Reply → Type 0
+ShowsMuch Stored = ⊥
+ShowsMuch NotStored = ⊥
+ShowsMuch Exists = ⊥
+ShowsMuch NotFound = ⊥
+ShowsMuch Deleted = ⊥
+ShowsMuch Touched = ⊥
+ShowsMuch Done = ⊥
+ShowsMuch (Number number) = ⊥
+ShowsMuch (Values found) = IsMuch found
+ShowsMuch Version = ⊥
+ShowsMuch (Stats s) = ⊥
+ShowsMuch Closed = ⊥
+ShowsMuch NotANumber = ⊥
+ShowsMuch TooLarge = ⊥
+ShowsMuch MapFull = ⊥
+ShowsMuch ClockEnded = ⊥
+ShowsMuch OutOfMemory = ⊥
 
 -- the client wants no answer
 abbrev pub is_noreply : Request → Bool

@@ -11,7 +11,7 @@ use Rattle.geo_grammar.specs.declared.state.State.TheVariants.{Line, Data, Skip,
 
 abbrev pub place_of : State → Place
 place_of (Line seen) = InLine seen.items
-place_of (Data head got returned) = block_place head got.items returned
+place_of (Data head got returned) = block_place head got returned
 place_of (Skip left why) = Skips left why
 place_of Ended = place.Ended
 
@@ -39,7 +39,7 @@ IsBlock Ended = ⊥
 -- the request of a data block that those bytes end
 abbrev pub finished : State → List ℕ → List Item
 finished (Line seen) front = []
-finished (Data head got returned) front = item.Request (stored head (got.items ++ front)) ∷ []
+finished (Data head got returned) front = item.Request (stored head (got ++ front)) ∷ []
 finished (Skip left why) front = []
 finished Ended front = []
 

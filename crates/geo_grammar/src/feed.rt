@@ -113,11 +113,11 @@ fn feed_last(
     let State::Data { got, .. } = state else {
         unreachable!()
     };
-    got.extend_from_slice(front)?;
+    got.extend(front)?;
     let State::Data { head, got, .. } = mem::replace(state, next) else {
         unreachable!()
     };
-    out[0] = Item::Request(head.request(got));
+    out[0] = Item::Request(head.request(got.into_value(alloc)));
     Ok(out)
 }
 
@@ -143,7 +143,7 @@ fn feed_block(alloc: Global, state: &mut State, piece: &[u8]) -> Result<Vec<Item
             front,
             returned: now,
         } => {
-            got.extend_from_slice(front)?;
+            got.extend(front)?;
             *returned = now;
             Ok(Vec::new(alloc))
         }

@@ -20,8 +20,8 @@ pub struct Head {
 
 impl Head {
     /// The request, now that its data is there.
-    pub fn request(self, bytes: Vec<u8>) -> Request
-        ensures { result ≡ stored self bytes.items }
+    pub fn request(self, bytes: ValueBytes) -> Request
+        ensures { result ≡ stored self bytes }
     {
         let Head {
             verb,
@@ -38,7 +38,7 @@ impl Head {
             flags,
             exptime,
             unique,
-            bytes: ValueBytes::of(bytes),
+            bytes,
             noreply,
         }
     }

@@ -10,6 +10,7 @@ use crate::item::Item;
 use crate::line::{Line, read_line};
 use crate::split::{LineSplit, split_seen};
 use crate::state::State;
+use crate::value::{DataBlock, ValueBytes};
 use std::alloc::{AllocError, Global};
 
 /// Whether a state is the front of a line.
@@ -37,14 +38,14 @@ fn read_block<'a>(
     ensures place { IfOk result (λ rest. IsPlace (place_of state.new)) }
     ensures bound { IfOk result (λ rest. length rest.now ≤ length piece.now) }
 {
-    let mut got = Vec::with_capacity(alloc, head.size)?;
     match split_block(&head, &[], false, piece) {
         BlockSplit::Good { front, rest } => {
-            got.extend_from_slice(front)?;
-            out.push(Item::Request(head.request(got)))?;
+            let bytes = ValueBytes::of(Vec::from_slice(alloc, front)?);
+            out.push(Item::Request(head.request(bytes)))?;
             Ok(rest)
         }
         BlockSplit::Open { .. } | BlockSplit::Bad { .. } => {
+            let got = DataBlock::with_room(alloc, head.size)?;
             *state = State::Data {
                 head,
                 got,

@@ -4,6 +4,7 @@ ghost use Rattle.geo_grammar.specs.declared.state.State.TheVariants.{Skip};
 
 use crate::fault::BlockFault;
 use crate::head::Head;
+use crate::value::DataBlock;
 
 /// Where a reader stands between two pieces.
 #[derive(Drop)]
@@ -13,7 +14,7 @@ pub enum State {
     /// In a data block, of which this came. `returned`: all of it came, and the return behind it.
     Data {
         head: Head,
-        got: Vec<u8>,
+        got: DataBlock,
         returned: bool,
     },
     /// So many bytes are skipped, and then all up to the next line end, where the fault is given.

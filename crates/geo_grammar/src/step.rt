@@ -13,6 +13,7 @@ use crate::line::{Line, read_line};
 use crate::lines::read_lines;
 use crate::split::{LineSplit, split_line, split_seen};
 use crate::state::State;
+use crate::value::DataBlock;
 use std::alloc::{AllocError, Global};
 
 /// What a part of a piece does: an item or none, the state behind it, and the rest of the piece.
@@ -41,7 +42,7 @@ fn line_transition<'a>(
             State::Line(Vec::new(alloc)),
         ),
         Line::Storage(head) => {
-            let got = Vec::with_capacity(alloc, head.size)?;
+            let got = DataBlock::with_room(alloc, head.size)?;
             (
                 None,
                 State::Data {
@@ -145,20 +146,20 @@ fn skip_step<'a>(alloc: Global, left: usize, fault: BlockFault, piece: &'a [u8])
 fn block_step<'a>(
     alloc: Global,
     head: Head,
-    mut got: Vec<u8>,
+    mut got: DataBlock,
     returned: bool,
     piece: &'a [u8],
 ) -> Result<Transition<'a>, AllocError>
-    requires place { IsPlace (block_place head got.items returned) }
+    requires place { IsPlace (block_place head got returned) }
     requires some { 0 < length piece.now }
     ensures leads { IfOk result
-        (λ t. Leads (block_place head got.items returned) piece.now (option_to_list t.item) (place_of t.state) t.rest.now) }
+        (λ t. Leads (block_place head got returned) piece.now (option_to_list t.item) (place_of t.state) t.rest.now) }
     ensures place { IfOk result (λ t. IsPlace (place_of t.state)) }
     ensures shorter { IfOk result (λ t. length t.rest.now < length piece.now) }
 {
     match split_block(&head, got.as_slice(), returned, piece) {
         BlockSplit::Open { front, returned } => {
-            got.extend_from_slice(front)?;
+            got.extend(front)?;
             let state = State::Data {
                 head,
                 got,
@@ -171,9 +172,9 @@ fn block_step<'a>(
             })
         }
         BlockSplit::Good { front, rest } => {
-            got.extend_from_slice(front)?;
+            got.extend(front)?;
             Ok(Transition {
-                item: Some(Item::Request(head.request(got))),
+                item: Some(Item::Request(head.request(got.into_value(alloc)))),
                 state: State::Line(Vec::new(alloc)),
                 rest,
             })

@@ -1,8 +1,9 @@
 //! The texts of answers.
-ghost use Rattle.std.specs.Prelude.{◌≡◌, ◌++◌, List, codes, decimal, length, IfOk, OnOk, OnErr};
+ghost use Rattle.std.specs.Prelude.{◌≡◌, ◌≢◌, ◌++◌, false, List, codes, decimal, length, IfOk, OnOk, OnErr};
 ghost use Rattle.std.specs.List.{flat_map};
 ghost use Rattle.std.specs.Io.{StartsWith};
-ghost use Rattle.geo_grammar.specs.Replies.{answer_bytes, reply_bytes, found_bytes, unique_bytes, stat_bytes, stats_bytes};
+ghost use Rattle.geo_grammar.specs.Replies.{answer_bytes, is_noreply, reply_bytes, found_bytes, found_line, unique_bytes, stat_bytes, stats_bytes};
+ghost use Rattle.geo_grammar.specs.declared.reply.Reply.TheVariants.{Closed};
 
 use crate::reply::{Found, Reply};
 use crate::request::Request;
@@ -42,14 +43,22 @@ fn push_unique(out: &mut Vec<u8>, unique: Option<u64>) -> Result<(), AllocError>
     push_number(out, number)
 }
 
+/// Appends the line of one value. Where memory is refused a beginning of it may stand there.
+pub(crate) fn push_line(out: &mut Vec<u8>, found: &Found) -> Result<(), AllocError>
+    ensures text { OnOk result (out.new.items ≡ out.old.items ++ found_line found.now) }
+    ensures keeps { StartsWith out.new.items out.old.items }
+{
+    push_head(out, found)?;
+    push_unique(out, found.unique)?;
+    out.extend_from_slice(b"\r\n")
+}
+
 /// Appends the text of one value. Where memory is refused a beginning of it may stand there.
 pub(crate) fn push_found(out: &mut Vec<u8>, found: &Found) -> Result<(), AllocError>
     ensures text { OnOk result (out.new.items ≡ out.old.items ++ found_bytes found.now) }
     ensures keeps { StartsWith out.new.items out.old.items }
 {
-    push_head(out, found)?;
-    push_unique(out, found.unique)?;
-    out.extend_from_slice(b"\r\n")?;
+    push_line(out, found)?;
     out.extend_from_slice(found.bytes.as_slice())?;
     out.extend_from_slice(b"\r\n")
 }
@@ -93,6 +102,7 @@ fn push_stats(out: &mut Vec<u8>, stats: &Stats) -> Result<(), AllocError>
 fn push_text(out: &mut Vec<u8>, reply: &Reply) -> Result<(), AllocError>
     ensures text { OnOk result (out.new.items ≡ out.old.items ++ reply_bytes reply.now) }
     ensures keeps { StartsWith out.new.items out.old.items }
+    ensures memory { OnErr result (reply.now ≢ Closed) }
 {
     match reply {
         Reply::Stored => out.extend_from_slice(b"STORED\r\n"),
@@ -127,6 +137,7 @@ fn push_text(out: &mut Vec<u8>, reply: &Reply) -> Result<(), AllocError>
 pub fn push_reply(out: &mut Vec<u8>, reply: &Reply) -> Result<(), AllocError>
     ensures text { OnOk result (out.new.items ≡ out.old.items ++ reply_bytes reply.now) }
     ensures err { OnErr result (out.new.items ≡ out.old.items) }
+    ensures memory { OnErr result (reply.now ≢ Closed) }
 {
     let before = out.len();
     match push_text(out, reply) {
@@ -143,6 +154,7 @@ pub fn push_reply(out: &mut Vec<u8>, reply: &Reply) -> Result<(), AllocError>
 pub fn push_answer(out: &mut Vec<u8>, request: &Request, reply: &Reply) -> Result<(), AllocError>
     ensures text { OnOk result (out.new.items ≡ out.old.items ++ answer_bytes request.now reply.now) }
     ensures err { OnErr result (out.new.items ≡ out.old.items) }
+    ensures memory { OnErr result ((is_noreply request.now ≡ false) × (reply.now ≢ Closed)) }
 {
     if request.is_noreply() {
         return Ok(());

@@ -1,9 +1,10 @@
 //! The bytes of a value.
-ghost use Rattle.std.specs.Prelude.{◌≡◌, length};
+ghost use Rattle.std.specs.Prelude.{◌≡◌, ◌++◌, [], length, IfOk, OnOk, OnErr};
 ghost use Rattle.sha2.specs.Sha256.{sha256};
 
 use geo_lattice::Twin;
 use geo_versions::Digest;
+use sha2::{Digest as Hash, Sha256};
 use std::alloc::{AllocError, Global};
 use std::marker::Model;
 
@@ -73,7 +74,9 @@ impl ValueBytes {
     pub fn know_digest(&mut self, alloc: Global)
         ensures { self.new ≡ self.old }
     {
-        self.digest = Box::new(alloc, self.digest()).ok();
+        if self.digest.is_none() {
+            self.digest = Box::new(alloc, self.digest()).ok();
+        }
     }
 
     /// Lets go of their SHA-256, so that it takes no memory where the bytes are kept.
@@ -90,5 +93,77 @@ impl Twin for ValueBytes {
             bytes: Vec::from_slice(alloc, self.bytes.as_slice())?,
             digest: None,
         })
+    }
+}
+
+/// Of a data block of so many bytes or more the SHA-256 is computed as it comes.
+const LONG: usize = 8_192;
+
+/// The bytes of a data block as they come, which contracts see as a list of bytes and nothing more. The SHA-256 of a long one is
+/// computed piece by piece, so that nobody who is served by the same thread waits for the whole of it at once.
+#[derive(Drop)]
+pub struct DataBlock {
+    bytes: Vec<u8>,
+    // Fed with these bytes. None where they are few, or where there was no memory for it.
+    hasher: Option<Box<Sha256>>,
+}
+
+impl Model for DataBlock {
+    ghost use Rattle.std.specs.Prelude.{List, ℕ, IfSome};
+    ghost use Rattle.sha2.specs.Hashers.{Holds256};
+
+    ghost Value = { List ℕ };
+
+    ghost view = { λ b. b.bytes.items };
+
+    ghost invariant = { λ b. IfSome b.hasher (λ h. Holds256 h.value b.bytes.items) };
+}
+
+impl DataBlock {
+    /// One of which nothing came, with room for so many bytes.
+    pub fn with_room(alloc: Global, size: usize) -> Result<DataBlock, AllocError>
+        ensures { IfOk result (λ block. block ≡ []) }
+    {
+        let bytes = Vec::with_capacity(alloc, size)?;
+        let hasher = if size < LONG {
+            None
+        } else {
+            Box::new(alloc, Sha256::new()).ok()
+        };
+        Ok(DataBlock { bytes, hasher })
+    }
+
+    /// What came of it.
+    pub fn as_slice(&self) -> &[u8]
+        ensures { result.now ≡ self.now }
+    {
+        self.bytes.as_slice()
+    }
+
+    /// More of it came.
+    pub fn extend(&mut self, piece: &[u8]) -> Result<(), AllocError>
+        ensures ok { OnOk result (self.new ≡ self.old ++ piece.now) }
+        ensures err { OnErr result (self.new ≡ self.old) }
+    {
+        self.bytes.extend_from_slice(piece)?;
+        if let Some(hasher) = &mut self.hasher {
+            hasher.update(piece);
+        }
+        Ok(())
+    }
+
+    /// What came of it as a value, whose SHA-256 is known where it was computed and there is memory to keep it in.
+    pub fn into_value(self, alloc: Global) -> ValueBytes
+        ensures { result ≡ self }
+    {
+        let DataBlock { bytes, hasher } = self;
+        let digest = match hasher {
+            Some(hasher) => {
+                let hash = Box::into_inner(hasher).finalize();
+                Box::new(alloc, Digest::new(hash)).ok()
+            }
+            None => None,
+        };
+        ValueBytes { bytes, digest }
     }
 }

@@ -2,7 +2,8 @@
 ghost use Rattle.std.specs.Prelude.{◌≤◌};
 
 use super::show::push_items;
-use geo_grammar::{Reader, read_all};
+use geo_grammar::{Item, Reader, Request, read_all};
+use geo_versions::Digest;
 use std::alloc::{AllocError, Global};
 use std::process::Abort;
 use std::test::Fail;
@@ -179,5 +180,32 @@ fn gives_a_long_line_with_its_first_byte_too_many(rt: HostRuntime) -> Result<(),
     let line = vec![in rt.alloc(); b'x'; 65536]?;
     let told = piece_by_piece(rt.alloc(), &[line.as_slice(), b"x", b"\nversion\r\n"])?;
     assert_eq!(rt; told.as_slice(), b"|LineTooLong;ended|ended|".as_slice());
+    Ok(())
+}
+
+/// The SHA-256 of a million times the letter a (from the examples beside FIPS 180-4).
+const MILLION: [u8; 32] = [
+    0xcd, 0xc7, 0x6e, 0x5c, 0x99, 0x14, 0xfb, 0x92, 0x81, 0xa1, 0xc7, 0xe2, 0x84, 0xd7, 0x3e, 0x67,
+    0xf1, 0x80, 0x9a, 0x48, 0xa4, 0x97, 0x20, 0x0e, 0x04, 0x6d, 0x39, 0xcc, 0xc7, 0x11, 0x2c, 0xd0,
+];
+
+/// The SHA-256 of the data of a lone store.
+fn digest_in(items: &[Item]) -> Option<Digest> {
+    match items {
+        [Item::Request(Request::Store { bytes, .. })] => Some(bytes.digest()),
+        _ => None,
+    }
+}
+
+#[test]
+fn data_has_its_sha_256_however_it_comes(rt: HostRuntime) -> Result<(), Fail> {
+    let alloc = rt.alloc();
+    let text = long_text(alloc, b"set k 0 0 1000000\r\n", b'a', 1_000_000, b"\r\n")?;
+    for size in [7, 16_384, 2_000_000] {
+        let pieces = pieces_of(alloc, text.as_slice(), size)?;
+        let items = read_all(alloc, pieces.as_slice())?;
+        let digest = digest_in(items.as_slice()).ok_or("no store")?;
+        assert_eq!(rt; digest.bytes().as_slice(), MILLION.as_slice());
+    }
     Ok(())
 }

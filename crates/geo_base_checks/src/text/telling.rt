@@ -1,4 +1,4 @@
-//! Values that a reply shows more than once, and a reply that is told value by value.
+//! Values that a reply shows more than once, and a reply that is told piece by piece.
 use super::show::{push_bytes, push_number};
 use geo_grammar::{Found, Reply, Shared, Shown, begin_reply};
 use geo_lattice::Twin;
@@ -60,6 +60,55 @@ fn tells_a_reply_value_by_value(rt: HostRuntime) -> Result<(), Fail> {
         let reply = values(rt.alloc(), *count)?;
         assert_eq!(rt; told(rt.alloc(), reply)?.as_slice(), *text);
     }
+    Ok(())
+}
+
+/// The lines of three values, what all their bytes are, and how many there are.
+const LONG: &[(&[u8], u8, usize)] = &[
+    (b"VALUE a 0 65537\r\n", b'1', 65_537),
+    (b"VALUE a 0 65536\r\n", b'2', 65_536),
+    (b"VALUE a 0 131072\r\n", b'3', 131_072),
+];
+
+/// How many bytes each telling of them adds: of a value of more than 64 KiB its line, 64 KiB, and the rest; and the end.
+const PIECES: &[usize] = &[17, 65_536, 3, 65_555, 18, 65_536, 65_538, 5];
+
+/// A reply of the long values, and its text.
+fn long_values(alloc: Global) -> Result<(Reply, Vec<u8>), Fail> {
+    let mut all = Vec::new(alloc);
+    let mut text = Vec::new(alloc);
+    for (line, fill, length) in LONG {
+        let bytes = vec![in alloc; *fill; *length]?;
+        text.extend_from_slice(line)?;
+        text.extend_from_slice(bytes.as_slice())?;
+        text.extend_from_slice(b"\r\n")?;
+        all.push(Found {
+            key: Key::new(alloc, b"a")?.ok_or("no key")?,
+            flags: 0,
+            unique: None,
+            bytes: Shown::of(bytes),
+        })?;
+    }
+    text.extend_from_slice(b"END\r\n")?;
+    Ok((Reply::Values(Shared::of(alloc, all)?), text))
+}
+
+#[test]
+fn tells_a_long_value_in_pieces(rt: HostRuntime) -> Result<(), Fail> {
+    let (reply, text) = long_values(rt.alloc())?;
+    let mut out = Vec::new(rt.alloc());
+    let mut telling = begin_reply(&mut out, reply)?.ok_or("nothing is told")?;
+    let mut counts = Vec::new(rt.alloc());
+    for _ in 0..20 {
+        let before = out.len();
+        let goes_on = telling.tell(&mut out)?;
+        counts.push(out.len().wrapping_sub(before))?;
+        if !goes_on {
+            break;
+        }
+    }
+    assert_eq!(rt; counts.as_slice(), PIECES);
+    assert!(rt; out.as_slice() == text.as_slice());
     Ok(())
 }
 
