@@ -140,7 +140,7 @@ fn take<S: Stream>(stream: &mut S, session: &mut Session, buffer: &mut [u8]) -> 
 /// One client's connection, which a thread carries beside others. What is written to the client, and what it is owed, is the text of
 /// the answers to what came from it, or to a beginning of that. Behind want of memory the end of that text may be missing.
 ///
-/// A client that asks for much is owed a mebibyte and one value at most: what else it asked for waits until that is written.
+/// A client that asks for much is owed 64 KiB and one piece of a value more at most: what else it asked for waits until that is written.
 #[derive(Drop)]
 pub struct Carried<S: Stream> {
     stream: S,

@@ -17,10 +17,10 @@ const LINE: &[u8] = b"get a b c\r\n";
 const LINES: usize = 50;
 
 /// Where more is owed no more is rendered.
-const MEBIBYTE: usize = 1_048_576;
+const RENDERED: usize = 65_536;
 
-/// The text of one value: its line, its bytes, and the end of the line behind them.
-const VALUE: usize = 18 + LENGTH + 2;
+/// What is rendered at once of a value: so many bytes, or less and the end of the line behind them.
+const PIECE: usize = 65_536 + 2;
 
 /// The values that are found, whatever is fetched: a name, and what all bytes are.
 const FOUND: [(&[u8], u8); 3] = [(b"a", b'1'), (b"b", b'2'), (b"c", b'3')];
@@ -140,10 +140,10 @@ impl<'a> Came<'a> {
         self.is_right = self.is_right && rest.is_empty();
     }
 
-    /// Whether each line was answered, and nothing else came; and what was owed was more than a mebibyte, by one value at most.
+    /// Whether each line was answered, and nothing else came; and what was owed was more than 64 KiB, by one piece at most.
     fn is_all(&self) -> bool {
         let is_whole = self.whole == LINES && self.at == 0;
-        self.is_right && is_whole && MEBIBYTE < self.most && self.most <= MEBIBYTE + VALUE
+        self.is_right && is_whole && RENDERED < self.most && self.most <= RENDERED + PIECE
     }
 }
 
@@ -236,9 +236,7 @@ const ENDS: [(&[u8], SessionEnd); 2] = [
 ];
 
 #[test]
-fn whoever_asks_for_much_is_owed_a_mebibyte_and_one_value_and_gets_it_all(
-    rt: HostRuntime,
-) -> Result<(), Fail> {
+fn whoever_asks_for_much_is_owed_little_and_gets_it_all(rt: HostRuntime) -> Result<(), Fail> {
     let alloc = rt.alloc();
     let answer = answer(alloc)?;
     let mut buffer = vec![in alloc; 0u8; 16_384]?;
@@ -270,7 +268,7 @@ fn handed<'a, R: Wait + Clock>(
     }
     session.come(said).ok()?;
     let mut came = Came::nothing(answer);
-    for _time in 0..1_000 {
+    for _time in 0..10_000 {
         if session.is_settled() {
             return Some(came);
         }
@@ -284,7 +282,7 @@ fn handed<'a, R: Wait + Clock>(
 }
 
 #[test]
-fn a_session_renders_a_mebibyte_and_one_value_at_once(rt: HostRuntime) -> Result<(), Fail> {
+fn a_session_renders_little_at_once(rt: HostRuntime) -> Result<(), Fail> {
     let answer = answer(rt.alloc())?;
     let said = lines_and(rt.alloc(), b"")?;
     let mut session = Session::new(rt.alloc());

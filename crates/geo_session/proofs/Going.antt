@@ -1,7 +1,7 @@
 -- What is still to be done for a client, bit by bit.
 use Rattle.std.proofs.Common.{◌≡◌, ℕ, ◌+◌, ◌<◌, ◌≢◌, ◌≤◌, Bool, true, false, not, is_none, is_some, List, [], ◌∷◌, ◌++◌, length, take, drop, cond, Option, None, Some, inl, inr, refl, sym, ap, subst, ◌∙◌, arith, append_assoc, append-nil}
 use Rattle.std.specs.Option.{unwrap_or, ForSome}
-use Rattle.std.proofs.lemmas.List.{drop-append-le, length-append}
+use Rattle.std.proofs.lemmas.List.{drop-append-le, take-append-le, take-append-drop, take_all, length-append}
 use Rattle.geo_grammar.specs.Quitting.{is_quit, has_quit, until_quit}
 use Rattle.geo_grammar.specs.declared.item.Item.{Item}
 use Rattle.geo_grammar.specs.declared.reply.Reply.{Reply}
@@ -21,6 +21,21 @@ use Rattle.geo_session.specs.declared.end.SessionEnd.{SessionEnd}
 use Rattle.geo_session.specs.declared.end.SessionEnd.TheVariants.{Quit, LineTooLong}
 use Rattle.geo_session.proofs.Pieces.{ends_by_quit, ends_by_line, quits_behind}
 use Rattle.geo_session.proofs.Talks.{Runs-append, items_in-append, text_of-append, count_after-append}
+
+-- of no items none waits, and none is answered
+none_among : (old new : List Item) (exchanges : List Exchange) → old ≡ items_in exchanges ++ new → old ≡ [] → (new ≡ []) × (exchanges ≡ [])
+none_among old new [] came none = (sym came ∙ none, refl)
+none_among old new (e ∷ es) came none = let bad = sym came ∙ none in cc
+
+no_bytes : (text : List ℕ) → length text ≤ 0 → text ≡ []
+no_bytes [] few = refl
+no_bytes (x ∷ xs) few = absurd (omega (arith, few))
+
+-- a text that stands in front of a longer beginning is the front of it
+kept_front : (new cut old left text : List ℕ) → new ++ cut ≡ (old ++ left) ++ text → length old ≤ length new → new ≡ old ++ drop (length old) new
+kept_front new cut old left text h within =
+    let front : take (length old) new ≡ old = sym (take-append-le (length old) new cut within) ∙ ap (take (length old)) (h ∙ append_assoc old left text) ∙ take-append-le (length old) old (left ++ text) (omega arith) ∙ take_all (length old) old (omega arith) in
+    sym (take-append-drop (length old) new) ∙ ap (λ (x : List ℕ). x ++ drop (length old) new) front
 
 module _ {S : Type 0} (answers : S → Request → Reply → S → Type 0) where
   -- nothing is done
@@ -51,18 +66,33 @@ module _ {S : Type 0} (answers : S → Request → Reply → S → Type 0) where
     going = k.going ∙ h.going;
   }
 
+  -- where nothing was to be done, nothing is
+  settled_stays : (c d : Connection) (s t : S) → GoesOn answers c d s t → length c.owed ≤ length d.owed → IsSettled c → IsSettled d
+  settled_stays c d s t h grows k =
+      let both = none_among c.waiting d.waiting h.exchanges h.came k.none_waits in
+      let told = ap (λ (x : List Exchange). length (text_of x)) both.1 in
+      let owed = ap (λ (x : List ℕ). length x) h.owed in
+      let none = ap (λ (x : List ℕ). length x) k.none_untold in
+      let new = length-append d.owed d.untold in
+      let old = length-append c.owed c.untold in
+      let sum = length-append (c.owed ++ c.untold) (text_of h.exchanges) in
+      record { none_waits = both.0; none_untold = no_bytes d.untold (omega (arith, told, owed, none, new, old, sum, grows)) }
+
   module _ (refuses : S → Request → S → Type 0) (fault : SessionFault) where
     -- what breaks behind what went on
     pub breaks_then : (c d e : Connection) (s t u : S) → GoesOn answers c d s t → Fails answers refuses fault d e t u → Breaks answers refuses fault c e s u
     breaks_then c d e s t u h k = record { at = d; between = t; went = h; fails = k }
 
     -- what waited is dropped, and what was left to be rendered is cut off
-    pub breaks_off : (c e f : Connection) (s u : S) → Breaks answers refuses fault c e s u → f.owed ≡ e.owed → f.answered ≡ e.answered → f.read ≡ e.read → f.waiting ≡ [] → f.untold ≡ [] → f.goes_on ≡ false
+    pub breaks_off : (c e f : Connection) (s u : S) → Breaks answers refuses fault c e s u → length c.owed ≤ length e.owed → f.owed ≡ e.owed → f.answered ≡ e.answered → f.read ≡ e.read → f.waiting ≡ [] → f.untold ≡ [] → f.goes_on ≡ false
         → BreaksOff answers refuses fault c f s u
-    breaks_off c e f s u b owed count read waits told closed =
+    breaks_off c e f s u b grows owed count read waits told closed =
         let h = b.went in
         let k = b.fails in
         let d : Connection = b.at in
+        let text : f.owed ++ d.untold ≡ (c.owed ++ c.untold) ++ text_of h.exchanges = ap (λ (x : List ℕ). x ++ d.untold) (owed ∙ k.owed) ∙ h.owed in
+        let before : length c.owed ≤ length d.owed = let same = ap (λ (x : List ℕ). length x) k.owed in omega (arith, grows, same) in
+        let after : length c.owed ≤ length f.owed = let same = ap (λ (x : List ℕ). length x) owed in omega (arith, grows, same) in
         record {
           done = h.exchanges;
           lost = k.lost;
@@ -72,11 +102,14 @@ module _ {S : Type 0} (answers : S → Request → Reply → S → Type 0) where
           came = h.came ∙ ap (λ (x : List Item). items_in h.exchanges ++ x) k.came ∙ sym (append_assoc (items_in h.exchanges) (items_in k.lost) k.left)
               ∙ ap (λ (x : List Item). x ++ k.left) (sym (items_in-append h.exchanges k.lost));
           run = Runs-append answers h.exchanges k.lost s b.between k.mid h.run k.run;
-          owed = ap (λ (x : List ℕ). x ++ d.untold) (owed ∙ k.owed) ∙ h.owed;
+          owed = text;
           answered = count ∙ k.answered ∙ ap (λ (n : ℕ). count_after n k.lost) h.answered ∙ sym (count_after-append c.answered h.exchanges k.lost);
           read = read ∙ k.read ∙ h.read;
           settled = record { none_waits = waits; none_untold = told };
           closed = closed;
+          asks = λ done. k.asks (settled_stays c d s b.between h before done);
+          more = drop (length c.owed) f.owed;
+          keeps = kept_front f.owed d.untold c.owed c.untold (text_of h.exchanges) text after;
           why = k.why;
           cuts = k.cuts;
         }
@@ -111,6 +144,9 @@ module _ {S : Type 0} (answers : S → Request → Reply → S → Type 0) (refu
   before_it : (more : List ℕ) → rendered ++ more ≡ (rendered ++ untold_in p) ++ more
   before_it more = ap (λ (x : List ℕ). x ++ more) (sym (ap (λ (x : List ℕ). rendered ++ x) (none_untold p none) ∙ append-nil rendered))
 
+  item_waits : IsSettled (with_item item p) → ⊥
+  item_waits h = let bad = h.none_waits in cc
+
   -- it was answered, and memory was refused for its text
   pub lost_one : LosesAnswer answers item s t p.answers a → Fails answers refuses Memory (with_item item p) (debt_of q) s t
   lost_one h = record {
@@ -122,6 +158,7 @@ module _ {S : Type 0} (answers : S → Request → Reply → S → Type 0) (refu
     owed = text_is ∙ h.text;
     answered = calls_are ∙ h.count;
     read = refl;
+    asks = item_waits;
     why = (omega arith, refl);
     cuts = inl (none_untold p none);
   }
@@ -137,6 +174,7 @@ module _ {S : Type 0} (answers : S → Request → Reply → S → Type 0) (refu
     owed = text_is ∙ h.adds.text ∙ append-nil rendered;
     answered = calls_are ∙ h.adds.count;
     read = refl;
+    asks = item_waits;
     why = (refl, record { request = h.request; more = left_behind; next = ap (λ (x : Item). x ∷ left_behind) h.is; refused = h.refused });
     cuts = inl (none_untold p none);
   }
@@ -189,8 +227,8 @@ pub going_by_telling : {S : Type 0} (answers : S → Request → Reply → S →
 going_by_telling answers p q s h = going_told answers (debt_of p) (debt_of q) s h.text (ap (λ x. until_quit x.items) (sym h.waiting)) h.calls refl refl
 
 -- want of memory while a reply is told
-pub telling_fails : {S : Type 0} (answers : S → Request → Reply → S → Type 0) (refuses : S → Request → S → Type 0) (c : Connection) (s : S) → Fails answers refuses Memory c c s s
-telling_fails answers refuses c s = record { lost = []; left = c.waiting; mid = s; came = refl; run = refl; owed = refl; answered = refl; read = refl; why = (omega arith, refl); cuts = inr (refl, refl) }
+pub telling_fails : {S : Type 0} (answers : S → Request → Reply → S → Type 0) (refuses : S → Request → S → Type 0) (c : Connection) (s : S) → (IsSettled c → ⊥) → Fails answers refuses Memory c c s s
+telling_fails answers refuses c s asks = record { lost = []; left = c.waiting; mid = s; came = refl; run = refl; owed = refl; answered = refl; read = refl; asks = asks; why = (omega arith, refl); cuts = inr (refl, refl) }
 
 -- what goes on from an item that was taken out goes on from where it stood
 pub in_front : {S : Type 0} (answers : S → Request → Reply → S → Type 0) (item : Item) (p q : Pending) (d : Connection) (s t : S) → p.waiting.items ≡ item ∷ q.waiting.items → q.answers ≡ p.answers → q.telling ≡ p.telling
@@ -216,6 +254,7 @@ fails_in_front answers refuses fault item p q d s t items same telling h = recor
   owed = h.owed ∙ ap (λ (x : Answers). x.text.items) same;
   answered = h.answered ∙ ap (λ (x : Answers). count_after x.calls h.lost) same;
   read = h.read;
+  asks = some_waits_there p (item ∷ q.waiting.items) items (omega arith);
   why = h.why;
   cuts = subst (λ (x : Option (List ℕ)). CutsFor fault h.lost (unwrap_or x [])) telling h.cuts;
 }
@@ -256,7 +295,7 @@ module _ {S : Type 0} (answers : S → Request → Reply → S → Type 0) (read
   pub session_breaks : (refuses : S → Request → S → Type 0) (fault : SessionFault) (r : Pending) (on : Bool) → Breaks answers refuses fault (debt_of p) (debt_of q) s u → r.answers ≡ q.answers → r.waiting.items ≡ [] → r.telling ≡ None
       → BreaksOff answers refuses fault (connection_of read p sent on) (connection_of read r sent false) s u
   session_breaks refuses fault r on b same waits told =
-      let h = breaks_off answers refuses fault (debt_of p) (debt_of q) (debt_of r) s u b (ap (λ (x : Answers). x.text.items) same) (ap (λ (x : Answers). x.calls) same) refl (ap until_quit waits) (none_untold r told) refl in
+      let h = breaks_off answers refuses fault (debt_of p) (debt_of q) (debt_of r) s u b grows (ap (λ (x : Answers). x.text.items) same) (ap (λ (x : Answers). x.calls) same) refl (ap until_quit waits) (none_untold r told) refl in
       let longer : length p.answers.text.items ≤ length r.answers.text.items = let lengths = ap (λ (x : Answers). length x.text.items) same in omega (arith, lengths, grows) in
       record {
         done = h.done;
@@ -271,6 +310,9 @@ module _ {S : Type 0} (answers : S → Request → Reply → S → Type 0) (read
         read = refl;
         settled = record { none_waits = ap until_quit waits; none_untold = none_untold r told };
         closed = refl;
+        asks = λ done. h.asks (record { none_waits = done.none_waits; none_untold = done.none_untold });
+        more = h.more;
+        keeps = ap (drop sent) h.keeps ∙ drop-append-le sent p.answers.text.items h.more within;
         why = h.why;
         cuts = h.cuts;
       }

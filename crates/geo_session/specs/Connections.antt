@@ -14,7 +14,7 @@ use Rattle.geo_session.specs.declared.fault.SessionFault.TheVariants.{Read, Writ
 
 -- where more bytes than that are owed no more are rendered
 abbrev pub most_rendered : ℕ
-most_rendered = 1048576
+most_rendered = 65536
 
 -- all that came, the items that wait for an answer; of the answers what is to be written next and, behind it, the text that does not
 -- stand in memory yet; how often the backend answered, and whether more is taken
@@ -100,8 +100,8 @@ pub record Broken {S : Type 0} (answers : S → Request → Reply → S → Type
 abbrev pub CutsFor : SessionFault → List Exchange → List ℕ → Type 0
 CutsFor fault lost cut = (cut ≡ []) ⊎ ((fault ≡ Memory) × (lost ≡ []))
 
--- a fault while items wait: a beginning of them is answered, the others are dropped, and no more is taken. The text of these answers
--- is owed, but for an answer for which there was no memory, and but for what is cut off at its end
+-- a fault while something is to be done: a beginning of the items that wait is answered, the others are dropped, and no more is taken. The
+-- text of these answers is owed behind what was, but for an answer for which there was no memory, and but for what is cut off at its end
 pub record BreaksOff {S : Type 0} (answers : S → Request → Reply → S → Type 0) (refuses : S → Request → S → Type 0) (fault : SessionFault)
     (old new : Connection) (before after : S) : Type 0 where
   pub done : List Exchange
@@ -116,6 +116,9 @@ pub record BreaksOff {S : Type 0} (answers : S → Request → Reply → S → T
   pub read : new.read ≡ old.read
   pub settled : IsSettled new
   pub closed : new.goes_on ≡ false
+  pub asks : IsSettled old → ⊥
+  pub more : List ℕ
+  pub keeps : new.owed ≡ old.owed ++ more
   pub why : BreaksFor refuses fault lost left mid after
   pub cuts : CutsFor fault lost cut
 
@@ -123,7 +126,7 @@ pub record BreaksOff {S : Type 0} (answers : S → Request → Reply → S → T
 abbrev pub GoesFar : Connection → Type 0
 GoesFar c = (most_rendered < length c.owed) ⊎ IsSettled c
 
--- one step that a fault ends: no text is added
+-- one step that a fault ends, where something was to be done: no text is added
 pub record Fails {S : Type 0} (answers : S → Request → Reply → S → Type 0) (refuses : S → Request → S → Type 0) (fault : SessionFault)
     (old new : Connection) (before after : S) : Type 0 where
   pub lost : List Exchange
@@ -134,6 +137,7 @@ pub record Fails {S : Type 0} (answers : S → Request → Reply → S → Type 
   pub owed : new.owed ≡ old.owed
   pub answered : new.answered ≡ count_after old.answered lost
   pub read : new.read ≡ old.read
+  pub asks : IsSettled old → ⊥
   pub why : BreaksFor refuses fault lost left mid after
   pub cuts : CutsFor fault lost old.untold
 

@@ -1,5 +1,5 @@
 //! What is still to be done for a client.
-ghost use Rattle.std.specs.Prelude.{◌≡◌, ◌≢◌, ◌<◌, ◌≤◌, ◌⊎◌, [], cond, length, None, Some, MatchBool, IfErr, OnOk};
+ghost use Rattle.std.specs.Prelude.{◌≡◌, ◌≢◌, ◌<◌, ◌≤◌, ◌⊎◌, [], cond, length, None, Some, MatchBool, IfErr, OnOk, OnErr};
 ghost use Rattle.std.specs.Option.{ForSome};
 ghost use Rattle.std.specs.VecDeque.{deque_len};
 ghost use Rattle.geo_grammar.specs.Quitting.{until_quit};
@@ -59,6 +59,7 @@ impl Pending {
     fn tell_on(&mut self, most: usize) -> Result<(), AllocError>
         ensures tells { Tells self.old self.new }
         ensures far { OnOk result ((most < length self.new.answers.text.items) ⊎ (self.new.telling ≡ None)) }
+        ensures asks { OnErr result (IsSettled (debt_of self.new) → ⊥) }
     {
         while self.answers.text.len() <= most {
             let Some(telling) = &mut self.telling else {

@@ -21,13 +21,13 @@ use std::rt::Clock;
 use std::sync::Wait;
 
 /// Where more bytes of answers than that stand rendered no more are rendered.
-const MOST_RENDERED: usize = 1_048_576;
+const MOST_RENDERED: usize = 65_536;
 
 /// A connection between two reads. It takes the bytes of a read, and leaves those that are owed to the client; it reads and writes
 /// nothing itself. So a thread can carry many.
 ///
-/// What comes can be answered bit by bit, so that a client that asks for much is owed a mebibyte and one value at most: the requests
-/// wait, and of a reply the values that are not rendered yet. Contracts see all that it took, what waits, what it owes and what of
+/// What comes can be answered bit by bit, so that a client that asks for much is owed 64 KiB and one piece more at most: the requests
+/// wait, and of a reply what is not rendered yet. Contracts see all that it took, what waits, what it owes and what of
 /// that isn't rendered, how often its backend answered, and whether it takes more.
 #[derive(Drop)]
 pub struct Session {
@@ -209,7 +209,7 @@ impl Session {
         Ok(brought)
     }
 
-    /// Lets go of what was written, once it is a mebibyte, for a client that never takes all that it is owed.
+    /// Lets go of what was written, once it is 64 KiB, for a client that never takes all that it is owed.
     fn forget_sent(&mut self)
         ensures { self.new ≡ self.old }
     {
@@ -222,9 +222,9 @@ impl Session {
         self.sent = 0;
     }
 
-    /// Answers what waits, and renders the answers behind what is owed, until nothing waits or more than a mebibyte is owed. Each answer
+    /// Answers what waits, and renders the answers behind what is owed, until nothing waits or more than 64 KiB are owed. Each answer
     /// of the backend passes the gate first. After a fault nothing waits any more: what was not answered is dropped, and a reply
-    /// for whose rest there is no memory is cut off behind one of its values.
+    /// for whose rest there is no memory is cut off.
     pub fn go_on<R: Wait + Clock, B: Backend, G: Gate>(
         &mut self,
         rt: &R,

@@ -12,7 +12,7 @@ returns-in_err-tell_on-clause-err g c =
     let q = c.tell_on.new.self in
     let s = c.args.backend.now in
     at_err _ Memory _ c.from_residual.ensures.1
-    (breaks_then g.B.Backend.answers g.B.Backend.refuses Memory (debt_of p) (debt_of q) (debt_of q) s s s (going_by_telling g.B.Backend.answers p q s c.tell_on.ensures.tells) (telling_fails g.B.Backend.answers g.B.Backend.refuses (debt_of q) s))
+    (breaks_then g.B.Backend.answers g.B.Backend.refuses Memory (debt_of p) (debt_of q) (debt_of q) s s s (going_by_telling g.B.Backend.answers p q s c.tell_on.ensures.tells) (telling_fails g.B.Backend.answers g.B.Backend.refuses (debt_of q) s c.in_err-tell_on.ensures.asks))
 
 pub loop-self-smaller : goal.loop-self-smaller
 loop-self-smaller g c =
@@ -60,4 +60,4 @@ returns-in_err-tell_on-2-clause-err g c =
     (in_front g.B.Backend.answers c.in-Some.item p popped (debt_of q) c.loop-self.backend c.answer.new.backend c.in-Some.ensures.items refl refl c.in_ok-answer.ensures.ok)
     (going_by_telling g.B.Backend.answers q r c.answer.new.backend tells)) in
     at_err _ Memory _ c.from_residual-in_err-tell_on-2.ensures.1
-    (breaks_then g.B.Backend.answers g.B.Backend.refuses Memory (debt_of c.args.self.now) (debt_of r) (debt_of r) c.args.backend.now c.answer.new.backend c.answer.new.backend went (telling_fails g.B.Backend.answers g.B.Backend.refuses (debt_of r) c.answer.new.backend))
+    (breaks_then g.B.Backend.answers g.B.Backend.refuses Memory (debt_of c.args.self.now) (debt_of r) (debt_of r) c.args.backend.now c.answer.new.backend c.answer.new.backend went (telling_fails g.B.Backend.answers g.B.Backend.refuses (debt_of r) c.answer.new.backend c.in_err-tell_on-2.ensures.asks))
