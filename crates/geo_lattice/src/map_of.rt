@@ -1,5 +1,5 @@
 //! A map, joined key by key.
-ghost use Rattle.std.specs.Prelude.{◌≡◌, ◌+◌, ◌≤◌, ◌<◌, IsTrue, IsOk, IfOk, IfSome, OnOk, OnErr, Option, IsSome, option_map, option_copied, None, Some, MatchOption, false, true, cond, is_some, length, ◌↔◌};
+ghost use Rattle.std.specs.Prelude.{◌≡◌, ◌+◌, ◌≤◌, ◌<◌, IsTrue, IsOk, IfOk, IfSome, OnOk, OnErr, Option, IsSome, option_map, option_copied, None, Some, MatchOption, false, true, cond, is_some, length, slice_get, ◌↔◌};
 ghost use Rattle.std.specs.Map.{keys_of, lookup};
 ghost use Rattle.std.specs.List.Sorted.{IsStrictlySortedBy};
 ghost use Rattle.std.specs.Option.{option_and_then};
@@ -136,6 +136,14 @@ impl<K: Twin + Eq + Hash, L: Bottom> MapOf<K, L> {
                 None => (None, place),
             },
         }
+    }
+
+    /// The key and the value at a place, of which there are as many as `len` tells, from 0 on. Which of them stands where, no clause says.
+    pub fn entry(&self, place: usize) -> Option<(&K, &L)>
+        ensures entry { option_map (λ e. (e.0.now, e.1.now)) result ≡ slice_get self.now.entries place }
+        ensures value { IfSome result (λ e. get K.eq self.now e.0.now ≡ Some e.1.now) }
+    {
+        self.entries.get_index(place)
     }
 
     /// The key of some value that passes a test, None exactly where no value does. It looks at one value after another, and takes no

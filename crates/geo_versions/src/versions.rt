@@ -31,7 +31,7 @@ pub struct Versions {
 }
 
 impl Versions {
-    ghost use Rattle.std.specs.Prelude.{◌≡◌, ◌+◌, ◌↔◌, List, ℕ, None, Some, IsSome, IsOk, OnOk, OnErr, IfOk, MatchOption, true, false, cond, option_copied, length, Bool};
+    ghost use Rattle.std.specs.Prelude.{◌≡◌, ◌+◌, ◌↔◌, List, ℕ, None, Some, IsSome, IfSome, IsOk, OnOk, OnErr, IfOk, MatchOption, slice_get, option_map, true, false, cond, option_copied, length, Bool};
     ghost use Rattle.std.specs.List.{All, IsDistinct, list_any};
     ghost use Rattle.std.specs.Map.{lookup};
     ghost use Rattle.geo_lattice.specs.Maps.{meaning_or};
@@ -83,6 +83,14 @@ impl Versions {
         ensures kept { (q : List ℕ) → list_any (same_key q) (keys_in self.now) ≡ has_register (record_in self.now q) }
     {
         self.records.len()
+    }
+
+    /// A key that has a record, and what is kept of it, for each place from 0 up to `len`. Which key stands where, no clause says.
+    pub fn entry(&self, place: usize) -> Option<(&Key, &Rec)>
+        ensures key { option_map (λ e. e.0.now) result ≡ slice_get (keys_in self.now) place }
+        ensures record { IfSome result (λ e. record_in self.now e.0.now ≡ rec_means e.1.now) }
+    {
+        self.records.entry(place)
     }
 
     /// The version of a key: None where the greatest operation on it is no write, or nothing is known of it.
