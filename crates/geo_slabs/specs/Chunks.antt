@@ -33,6 +33,11 @@ chunks_from look k [] = []
 chunks_from look k (None ∷ os) = None ∷ chunks_from look (suc k) os
 chunks_from look k (Some n ∷ os) = Some (look k n) ∷ chunks_from look (suc k) os
 
+-- one of these chunks is free
+pub record HasFree (chunks : List (Option (List ℕ))) : Type 0 where
+  pub number : ℕ
+  pub free : slice_get chunks number ≡ Some None
+
 -- 1 for a chunk that is free, else 0
 abbrev pub free_cell : Option (Option ℕ) → ℕ
 free_cell None = 0

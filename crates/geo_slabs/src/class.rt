@@ -1,8 +1,8 @@
 //! The chunks of one slab class.
-ghost use Rattle.std.specs.Prelude.{◌≡◌, ℕ, ◌+◌, ◌*◌, ◌<◌, ◌≤◌, [], length, Some, None, IfSome, IfNone, IfOk, slice_get, slice_set, slice_index_or, IsSome, IsSomeAnd, take, drop, ◌^◌, ◌++◌, ◌-◌, replicate, vec_capacity};
+ghost use Rattle.std.specs.Prelude.{◌≡◌, ℕ, ◌+◌, ◌*◌, ◌<◌, ◌≤◌, true, false, [], length, Some, None, IfSome, IfNone, IfOk, slice_get, slice_set, slice_index_or, IsSome, IsSomeAnd, take, drop, ◌^◌, ◌++◌, ◌-◌, replicate, vec_capacity};
 ghost use borrow.Rule.Slice.PartMut.{put_mid};
 ghost use Rattle.std.specs.Int.{w32, from_be_bytes};
-ghost use Rattle.geo_slabs.specs.Chunks.{ClassState, AllReserved, bytes_of, grown, page_bytes, link, HasLink, HoldsSoMany, TakeDoes};
+ghost use Rattle.geo_slabs.specs.Chunks.{ClassState, AllReserved, bytes_of, grown, page_bytes, link, HasFree, HasLink, HoldsSoMany, TakeDoes};
 
 use crate::lengths::Lengths;
 use std::alloc::{AllocError, Global};
@@ -191,6 +191,14 @@ impl Class {
         self.free = free;
         self.lengths.note(&[number, bytes.len() as u32]);
         Some(number)
+    }
+
+    /// Whether each chunk holds a value.
+    pub(crate) fn is_full(&self) -> bool
+        ensures full { result ≡ true → (k : ℕ) → slice_get self.now.chunks k ≡ Some None → ⊥ }
+        ensures free { result ≡ false → HasFree self.now.chunks }
+    {
+        take_number(self.free, &self.pages, self.chunk_bytes, self.per_page).is_none()
     }
 
     /// The bytes that a chunk holds, which are so many.

@@ -133,7 +133,7 @@ impl Model for Slabs {
 }
 
 impl Slabs {
-    ghost use Rattle.geo_slabs.specs.Storage.{PutDoes, IsPut, AllHeld, chunks_in, with_page, OpenDoes, IsUnused};
+    ghost use Rattle.geo_slabs.specs.Storage.{PutDoes, IsPut, IsFull, AllHeld, chunks_in, with_page, OpenDoes, IsUnused};
     ghost use Rattle.geo_slabs.specs.declared.slabs.Chunk.{Chunk};
 
     /// Slabs of so many pages, of which each class has one at first. TooFewPages below 15, TooManyPages above 65,536. It takes the
@@ -210,6 +210,15 @@ impl Slabs {
         ensures others { (other : Chunk) → IfSome result (λ chunk. other ≢ chunk) → held_in self.new other ≡ held_in self.old other }
     {
         self.put_paged(class, bytes)
+    }
+
+    /// Whether a class is full: a put into it would give None.
+    pub fn is_full(&self, class: usize) -> bool
+        requires { class < class_count }
+        ensures full { result ≡ true → IsFull self.now class }
+        ensures room { result ≡ false → IsFull self.now class → ⊥ }
+    {
+        self.spare.is_empty() && self.classes[class].is_full()
     }
 
     /// The bytes that a chunk holds.

@@ -13,6 +13,7 @@ pub mod Putting
 pub mod Waiting
 pub mod Arrived
 pub mod Stored
+pub mod Admitted
 pub mod Staying
 pub mod Retained
 pub mod Rewritten

@@ -57,19 +57,19 @@ module _ (b : Links) (h : IsLinked b) (class : ℕ) (lt : class < class_count) w
   as_many : count (named (key_of b) (b.lists class)) ≡ held_count (chunks_in b.storage class)
   as_many = count-named (key_of b) (b.lists class) ∙ sym (h.counted class lt)
 
-  used_up : AllHeld (chunks_in b.storage class) → is_used_up (stock_of b) class ≡ true
+  pub used_up : AllHeld (chunks_in b.storage class) → is_used_up (stock_of b) class ≡ true
   used_up held = same_numbers (count (named (key_of b) (b.lists class))) (pages_in b.storage class * chunks_a_page class) (as_many ∙ all_held (chunks_in b.storage class) held ∙ sym (h.whole class lt))
 
-  not_used_up : (number : ℕ) → slice_get (chunks_in b.storage class) number ≡ Some None → is_used_up (stock_of b) class ≡ false
+  pub not_used_up : (number : ℕ) → slice_get (chunks_in b.storage class) number ≡ Some None → is_used_up (stock_of b) class ≡ false
   not_used_up number free = other_numbers (count (named (key_of b) (b.lists class))) (pages_in b.storage class * chunks_a_page class)
       (λ e. absurd (omega (arith, one_free (chunks_in b.storage class) number free, e, as_many, h.whole class lt)))
 
 -- room in a stock, by what it has
 module _ (class : ℕ) (s : Stock) where
-  room_free : is_used_up s class ≡ false → with_room class s ≡ s
+  pub room_free : is_used_up s class ≡ false → with_room class s ≡ s
   room_free t = ap (λ b. cond {A = Stock} b (cond (nat_eq s.spare 0) (evicted_from class s) (with_page_of class s)) s) t
 
-  room_page : is_used_up s class ≡ true → nat_eq s.spare 0 ≡ false → with_room class s ≡ with_page_of class s
+  pub room_page : is_used_up s class ≡ true → nat_eq s.spare 0 ≡ false → with_room class s ≡ with_page_of class s
   room_page t z = ap (λ b. cond {A = Stock} b (cond (nat_eq s.spare 0) (evicted_from class s) (with_page_of class s)) s) t ∙ ap (λ b. cond {A = Stock} b (evicted_from class s) (with_page_of class s)) z
 
   room_evict : is_used_up s class ≡ true → nat_eq s.spare 0 ≡ true → with_room class s ≡ evicted_from class s
@@ -85,7 +85,7 @@ module _ (class : ℕ) (s : Stock) where
       by true = refl
       by false = refl
 
-  full_is : is_used_up s class ≡ true → nat_eq s.spare 0 ≡ true → is_full s class ≡ true
+  pub full_is : is_used_up s class ≡ true → nat_eq s.spare 0 ≡ true → is_full s class ≡ true
   full_is t z = ap (λ b. b && nat_eq s.spare 0) t ∙ z
 
   no_pages_more : with_pages 0 class s ≡ s

@@ -133,6 +133,23 @@ pub record IsStored (old new : Stock) (key bytes : List ℕ) (evicted : Option (
   -- a victim is another key, of which bytes of the class were held
   pub other : IfSome evicted (λ victim. (same_key victim key ≡ false) × IsHeldIn old victim class)
 
+-- a class that is not full with a free chunk: where none is free it takes a spare page
+abbrev pub with_chunk : ℕ → Stock → Stock
+with_chunk class s = cond (is_used_up s class) (with_page_of class s) s
+
+-- the bytes of a key that is not held are admitted where their class is not full, for which nothing is evicted
+pub record IsAdmitted (old new : Stock) (key bytes : List ℕ) (done : Bool) : Type 0 where
+  pub class : ℕ
+  pub fits : IsClassOf (length bytes) class
+  pub told : done ≡ not (is_full old class)
+  pub admitted : Same (cond done (arrived key bytes class (with_chunk class old)) old) new
+
+-- whether the class of so many bytes is full
+pub record TellsFull (s : Stock) (bytes : ℕ) (full : Bool) : Type 0 where
+  pub class : ℕ
+  pub fits : IsClassOf bytes class
+  pub told : full ≡ is_full s class
+
 -- of what is held, the bytes that have this SHA-256
 abbrev pub with_digest : List ℕ → Option (List ℕ) → Option (List ℕ)
 with_digest digest None = None

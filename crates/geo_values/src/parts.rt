@@ -56,7 +56,7 @@ impl Parts {
     ghost use Rattle.geo_values.specs.Held.{digest_of, by_key, digest_at};
     ghost use Rattle.geo_values.specs.Stock.{TestAnswers, IsRetained};
     ghost use Rattle.geo_values.specs.Links.{IsLinked, links_in, stock_of};
-    ghost use Rattle.geo_values.specs.Steps.{SameLinks, MayAnswer, Hits, RenewsIf, IsNotHot, moved_in, taken_out, CanGo, CanGoIfAny, CanEvictIfAny, HasVictim, Evicts, TakesOut, admitted, with_item, PutsWithRoom};
+    ghost use Rattle.geo_values.specs.Steps.{SameLinks, MayAnswer, Hits, RenewsIf, IsNotHot, moved_in, taken_out, CanGo, CanGoIfAny, CanEvictIfAny, HasVictim, Evicts, TakesOut, admitted, with_item, IsPutIn, PutsWithRoom};
 
     /// Takes a key's item out, and tells whether there was one.
     pub(crate) fn take_out(&mut self, key: &Key) -> bool
@@ -269,6 +269,22 @@ impl Parts {
         let evicted = self.evict(class);
         match self.slabs.put(class, bytes) {
             Some(chunk) => (chunk, evicted),
+            None => unreachable!(),
+        }
+    }
+
+    /// Puts bytes into a chunk of a class that is not full.
+    pub(crate) fn put_within(&mut self, class: usize, bytes: &[u8]) -> Chunk
+        requires class { class < class_count }
+        requires classes { length self.old.classes.items ≡ class_count }
+        requires fits { length bytes.now ≤ chunk_bytes class }
+        requires not_full { IsFull self.old.slabs class → ⊥ }
+        ensures put { IsPutIn (links_in self.old) (links_in self.new) class bytes.now result }
+        ensures classes { length self.new.classes.items ≡ class_count }
+        ensures room { spare self.old.items ≤ spare self.new.items }
+    {
+        match self.slabs.put(class, bytes) {
+            Some(chunk) => chunk,
             None => unreachable!(),
         }
     }

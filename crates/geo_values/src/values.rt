@@ -1,5 +1,5 @@
 //! Values under keys.
-ghost use Rattle.std.specs.Prelude.{◌≡◌, ◌+◌, ◌<◌, ◌≤◌, ℕ, cond, List, Option, Some, None, IsTrue, IsSome, is_some, IfSome, IfOk, OnOk, OnErr, length, replicate, option_copied, option_map};
+ghost use Rattle.std.specs.Prelude.{◌≡◌, ◌+◌, ◌<◌, ◌≤◌, ℕ, cond, List, Option, Some, None, false, IsTrue, IsSome, is_some, IfSome, IfOk, OnOk, OnErr, length, replicate, option_copied, option_map};
 ghost use Rattle.geo_values.specs.Stock.{no_items};
 ghost use Rattle.geo_slabs.specs.Storage.{class_count};
 
@@ -52,7 +52,7 @@ impl Values {
     ghost use Rattle.geo_versions.specs.Maps.{Rising};
     ghost use Rattle.geo_lru.specs.Rules.{victim_of, juggled_by, leaves_list};
     ghost use Rattle.geo_slabs.specs.Chunks.{page_bytes};
-    ghost use Rattle.geo_values.specs.Stock.{first_stock, Same, IsHeldIn, IsListed, IsNotInHot, IsStored, IsRetained, TestAnswers, dropped, hit_at, evicted_from, juggled_in, with_digest};
+    ghost use Rattle.geo_values.specs.Stock.{first_stock, Same, IsHeldIn, IsListed, IsNotInHot, IsStored, IsAdmitted, TellsFull, is_full, with_chunk, arrived, IsRetained, TestAnswers, dropped, hit_at, evicted_from, juggled_in, with_digest};
     ghost use Rattle.geo_slabs.specs.Storage.{IsUnused, IsClassOf};
     ghost use Rattle.geo_values.specs.Held.{stock_in, keys_in, count_in, digest_of, by_key, digest_at};
 
@@ -197,6 +197,58 @@ impl Values {
             return Ok(None);
         }
         self.store_anew(alloc, key, class, blob)
+    }
+
+    /// Whether the class of values of so many bytes, at most a mebibyte, is full.
+    pub fn is_full(&self, length: usize) -> bool
+        requires { length ≤ 1048576 }
+        ensures { TellsFull (stock_in self.now) length result }
+    {
+        self.parts.slabs.is_full(class_of(length))
+    }
+
+    /// Adds a key that is not held, with its bytes, at most a mebibyte. False exactly where the class of these bytes is full: then nothing
+    /// has changed, for nothing is evicted. Err only where a growth was refused: that too leaves all as it was.
+    pub fn admit(&mut self, alloc: Global, key: &Key, blob: &Blob<'_>) -> Result<bool, AllocError>
+        requires small { length blob.now ≤ 1048576 }
+        requires not_held { (stock_in self.old).held key.now ≡ None }
+        ensures admitted { IfOk result (λ done. IsAdmitted (stock_in self.old) (stock_in self.new) key.now blob.now done) }
+        ensures unchanged { OnErr result (Same (stock_in self.old) (stock_in self.new)) }
+        ensures room { OnErr result (TellsFull (stock_in self.old) (length blob.now) false) }
+    {
+        let its_class = class_of(blob.bytes().len());
+        if self.parts.slabs.is_full(its_class) {
+            return Ok(false);
+        }
+        self.admit_in(alloc, key, its_class, blob)?;
+        Ok(true)
+    }
+
+    /// Adds a key that is not held, with its bytes, in a chunk of a class that is not full.
+    fn admit_in(
+        &mut self,
+        alloc: Global,
+        key: &Key,
+        class: usize,
+        blob: &Blob<'_>,
+    ) -> Result<(), AllocError>
+        requires class { IsClassOf (length blob.now) class }
+        requires not_held { (stock_in self.old).held key.now ≡ None }
+        requires not_full { is_full (stock_in self.old) class ≡ false }
+        ensures admitted { OnOk result (Same (arrived key.now blob.now class (with_chunk class (stock_in self.old))) (stock_in self.new)) }
+        ensures unchanged { OnErr result (Same (stock_in self.old) (stock_in self.new)) }
+    {
+        let copy = key.twin(alloc)?;
+        let number = self.parts.admit(key.twin(alloc)?, class)?;
+        let chunk = self.parts.put_within(class, blob.bytes());
+        let admitted = Item {
+            number,
+            digest: blob.digest(),
+            class,
+            chunk,
+        };
+        self.parts.place(copy, admitted);
+        Ok(())
     }
 
     /// Stores a key's bytes in a chunk and under a number of their own.
