@@ -28,3 +28,5 @@ pub mod Rows
 pub mod Parted
 pub mod Passing
 pub mod Repeating
+pub mod Filling
+pub mod Missing

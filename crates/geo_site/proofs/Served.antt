@@ -1,5 +1,5 @@
 -- Values that are served are what was written.
-use Rattle.std.proofs.Common.{◌≡◌, ℕ, Bool, true, false, cond, true≢false, ◌==◌, ◌&&◌, List, [], ◌∷◌, ◌++◌, length, Option, None, Some, refl, sym, ap, ◌∙◌, subst, inl, inr}
+use Rattle.std.proofs.Common.{◌≡◌, ℕ, Bool, true, false, cond, true≢false, ◌==◌, ◌&&◌, List, [], ◌∷◌, ◌++◌, length, Option, None, Some, refl, sym, ap, ◌∙◌, subst, ◌⊎◌, inl, inr}
 use Rattle.std.specs.List.{list_any}
 use Rattle.std.specs.Str.{bytes_eq}
 use Rattle.std.specs.Cmp.Lexicographic.{same_text}
@@ -23,12 +23,12 @@ use Rattle.geo_grammar.specs.declared.stats.Stats.{Stats}
 use Rattle.geo_memcache.specs.Entries.{Entry, is_live, expiry_at}
 use Rattle.geo_memcache.specs.Decisions.{stores, deletes, touches, counts}
 use Rattle.geo_site.specs.declared.event.Event.{Event}
-use Rattle.geo_site.specs.declared.event.Event.TheVariants.{Command, Evict, Send, Take, Remove, Tick, Reap}
+use Rattle.geo_site.specs.declared.event.Event.TheVariants.{Command, Evict, Send, Take, Remove, Tick, Reap, Fill}
 use Rattle.geo_site.specs.declared.event.Trace.{Trace}
-use Rattle.geo_site.specs.declared.event.Trace.TheVariants.{Replied, Evicted, Sent, SendRefused, Taken, TakeRefused, Removed, Ticked, Reaped, ReapRefused}
+use Rattle.geo_site.specs.declared.event.Trace.TheVariants.{Replied, Evicted, Sent, SendRefused, Taken, TakeRefused, Removed, Ticked, Reaped, ReapRefused, Filled, FillRefused}
 use Rattle.geo_site.specs.Entries.{names, entry_in, renewed, found_at, found_of, found_after, touched_after, is_stuck, unique_if, cas_of, Basis, replied, issued, is_crowded, lacks, owed}
 use Rattle.geo_site.specs.Schedule.{Known, visible, basis, flushed, RepliesTo, RepliesBy, happens, known, Lawful, EachLawful}
-use Rattle.geo_site.specs.Served.{Written, NoCollision, ServedBy, EachServed, values_in, ReplyServes, TraceServes, AllServe}
+use Rattle.geo_site.specs.Served.{Written, Offered, Apart, NoCollision, ServedBy, EachServed, values_in, ReplyServes, TraceServes, AllServe}
 use Rattle.geo_site.proofs.Registers.{found}
 use Rattle.geo_site.proofs.Records.{B, above_is}
 use Rattle.geo_site.proofs.Verdicts.{stores_plain, deletes_plain, touches_plain, counts_plain}
@@ -90,14 +90,18 @@ version_named ops q v h =
     let b = body_wrote q r.0.stamp v.stamp r.0.act v.digest v.flags v.length r.2 in
     record { op = r.0; among = r.1; stamp = b.0; wrote = b.1 }
 
-module _ (w : Known) (s : ℕ) (sound : Sound w) (apart : NoCollision w) where
+-- bytes that a site was offered count as written
+abbrev Told : (List ℕ → Type 0) → Known → List ℕ → Type 0
+Told P w bytes = Written w bytes ⊎ P bytes
+
+module _ {P : List ℕ → Type 0} (w : Known) (s : ℕ) (sound : Sound P w) (apart : Apart (Told P w)) where
   serve_entry : (numbers : Bool) (q bytes : List ℕ) (v : Version) → w.held s q ≡ Some bytes → version_of (w.at s) q ≡ Some v → ServedBy w (w.at s) (record { key = q; flags = v.flags; unique = unique_if numbers (cas_of v.stamp); bytes = bytes })
   serve_entry numbers q bytes v held version =
       let n = version_named (w.at s) q v version in
       let named : names (Some v) bytes ≡ true = subst (λ o. names o bytes ≡ true) version (sound.named s q bytes held) in
       let digest : v.digest ≡ sha256 bytes = same_text v.digest (sha256 bytes) (sym (both_true (bytes_eq v.digest (sha256 bytes)) (v.length == length bytes) named).0) in
-      let one : Written w n.wrote.bytes = record { site = s; writing = record { op = n.op; among = n.among; key = q; flags = v.flags; expiry = n.wrote.expiry; is = n.wrote.is } } in
-      let two : Written w bytes = record { site = s; writing = sound.written s q bytes held } in
+      let one : Told P w n.wrote.bytes = inl (record { site = s; writing = record { op = n.op; among = n.among; key = q; flags = v.flags; expiry = n.wrote.expiry; is = n.wrote.is } }) in
+      let two : Told P w bytes = elim (sound.written s q bytes held) [ inl x ↦ inl (record { site = s; writing = x }) | inr x ↦ inr x ] in
       let same : n.wrote.bytes ≡ bytes = apart n.wrote.bytes bytes one two (sym n.wrote.same ∙ digest) in
       record {
         version = v;
@@ -187,16 +191,20 @@ module _ (w : Known) (s : ℕ) (sound : Sound w) (apart : NoCollision w) where
     | inr e ↦ subst (λ r. ReplyServes w s r) (sym e.0) tt
   ]
 
-serve_by : (stuck : Bool) (w : Known) (s now : ℕ) (request : Request) (reply : Reply) → Sound w → NoCollision w → RepliesBy stuck w s now request reply → ReplyServes w s reply
+serve_by : {P : List ℕ → Type 0} → (stuck : Bool) (w : Known) (s now : ℕ) (request : Request) (reply : Reply) → Sound P w → Apart (Told P w) → RepliesBy stuck w s now request reply → ReplyServes w s reply
 serve_by true w s now request reply sound apart h = subst (λ r. ReplyServes w s r) (sym h) tt
 serve_by false w s now request reply sound apart h = serve_reply w s sound apart now request reply h
 
 written_replied : (w : Known) (s now : ℕ) (request : Request) (reply : Reply) (victim : Option (List ℕ)) (bytes : List ℕ) → Written (flushed w s now) bytes → Written (happens w (Command s now request) (Replied reply victim)) bytes
 written_replied w s now request reply victim bytes h = record { site = h.site; writing = record { op = h.writing.op; among = grown_replied w s now request reply victim h.site h.writing.op h.writing.among; key = h.writing.key; flags = h.writing.flags; expiry = h.writing.expiry; is = h.writing.is } }
 
+told_replied : (P : List ℕ → Type 0) (w : Known) (s now : ℕ) (request : Request) (reply : Reply) (victim : Option (List ℕ)) (bytes : List ℕ) → Told P (flushed w s now) bytes → Told P (happens w (Command s now request) (Replied reply victim)) bytes
+told_replied P w s now request reply victim bytes (inl h) = inl (written_replied w s now request reply victim bytes h)
+told_replied P w s now request reply victim bytes (inr h) = inr h
+
 -- what is known after the event has no collision
-serve_trace : (w : Known) (e : Event) (t : Trace) → Sound w → NoCollision (happens w e t) → Lawful w e t → TraceServes w e t
-serve_trace w (Command s now request) (Replied reply victim) sound apart h = serve_by (is_stuck (w.waiting s) (latest (w.at s)) now) (flushed w s now) s now request reply (sound_flushed w s now sound) (λ a b x y. apart a b (written_replied w s now request reply victim a x) (written_replied w s now request reply victim b y)) h.0
+serve_trace : {P : List ℕ → Type 0} → (w : Known) (e : Event) (t : Trace) → Sound P w → Apart (Told P (happens w e t)) → Lawful w e t → TraceServes w e t
+serve_trace {P = P} w (Command s now request) (Replied reply victim) sound apart h = serve_by (is_stuck (w.waiting s) (latest (w.at s)) now) (flushed w s now) s now request reply (sound_flushed w s now sound) (λ a b x y. apart a b (told_replied P w s now request reply victim a x) (told_replied P w s now request reply victim b y)) h.0
 serve_trace w (Command s now request) (Evicted done) sound apart h = tt
 serve_trace w (Command s now request) Sent sound apart h = tt
 serve_trace w (Command s now request) (SendRefused why) sound apart h = tt
@@ -206,6 +214,8 @@ serve_trace w (Command s now request) (Removed horizon count) sound apart h = tt
 serve_trace w (Command s now request) (Ticked done) sound apart h = tt
 serve_trace w (Command s now request) (Reaped done) sound apart h = tt
 serve_trace w (Command s now request) (ReapRefused why) sound apart h = tt
+serve_trace w (Command s now request) (Filled filled) sound apart h = tt
+serve_trace w (Command s now request) FillRefused sound apart h = tt
 serve_trace w (Evict s key) (Replied reply victim) sound apart h = absurd h
 serve_trace w (Evict s key) (Evicted done) sound apart h = tt
 serve_trace w (Evict s key) Sent sound apart h = tt
@@ -216,6 +226,8 @@ serve_trace w (Evict s key) (Removed horizon count) sound apart h = tt
 serve_trace w (Evict s key) (Ticked done) sound apart h = tt
 serve_trace w (Evict s key) (Reaped done) sound apart h = tt
 serve_trace w (Evict s key) (ReapRefused why) sound apart h = tt
+serve_trace w (Evict s key) (Filled filled) sound apart h = tt
+serve_trace w (Evict s key) FillRefused sound apart h = tt
 serve_trace w (Send s to) (Replied reply victim) sound apart h = absurd h
 serve_trace w (Send s to) (Evicted done) sound apart h = tt
 serve_trace w (Send s to) Sent sound apart h = tt
@@ -226,6 +238,8 @@ serve_trace w (Send s to) (Removed horizon count) sound apart h = tt
 serve_trace w (Send s to) (Ticked done) sound apart h = tt
 serve_trace w (Send s to) (Reaped done) sound apart h = tt
 serve_trace w (Send s to) (ReapRefused why) sound apart h = tt
+serve_trace w (Send s to) (Filled filled) sound apart h = tt
+serve_trace w (Send s to) FillRefused sound apart h = tt
 serve_trace w (Take s p) (Replied reply victim) sound apart h = absurd h
 serve_trace w (Take s p) (Evicted done) sound apart h = tt
 serve_trace w (Take s p) Sent sound apart h = tt
@@ -236,6 +250,8 @@ serve_trace w (Take s p) (Removed horizon count) sound apart h = tt
 serve_trace w (Take s p) (Ticked done) sound apart h = tt
 serve_trace w (Take s p) (Reaped done) sound apart h = tt
 serve_trace w (Take s p) (ReapRefused why) sound apart h = tt
+serve_trace w (Take s p) (Filled filled) sound apart h = tt
+serve_trace w (Take s p) FillRefused sound apart h = tt
 serve_trace w (Remove s) (Replied reply victim) sound apart h = absurd h
 serve_trace w (Remove s) (Evicted done) sound apart h = tt
 serve_trace w (Remove s) Sent sound apart h = tt
@@ -246,6 +262,8 @@ serve_trace w (Remove s) (Removed horizon count) sound apart h = tt
 serve_trace w (Remove s) (Ticked done) sound apart h = tt
 serve_trace w (Remove s) (Reaped done) sound apart h = tt
 serve_trace w (Remove s) (ReapRefused why) sound apart h = tt
+serve_trace w (Remove s) (Filled filled) sound apart h = tt
+serve_trace w (Remove s) FillRefused sound apart h = tt
 serve_trace w (Tick s now) (Replied reply victim) sound apart h = absurd h
 serve_trace w (Tick s now) (Evicted done) sound apart h = tt
 serve_trace w (Tick s now) Sent sound apart h = tt
@@ -256,6 +274,8 @@ serve_trace w (Tick s now) (Removed horizon count) sound apart h = tt
 serve_trace w (Tick s now) (Ticked done) sound apart h = tt
 serve_trace w (Tick s now) (Reaped done) sound apart h = tt
 serve_trace w (Tick s now) (ReapRefused why) sound apart h = tt
+serve_trace w (Tick s now) (Filled filled) sound apart h = tt
+serve_trace w (Tick s now) FillRefused sound apart h = tt
 serve_trace w (Reap s now key) (Replied reply victim) sound apart h = absurd h
 serve_trace w (Reap s now key) (Evicted done) sound apart h = tt
 serve_trace w (Reap s now key) Sent sound apart h = tt
@@ -266,6 +286,20 @@ serve_trace w (Reap s now key) (Removed horizon count) sound apart h = tt
 serve_trace w (Reap s now key) (Ticked done) sound apart h = tt
 serve_trace w (Reap s now key) (Reaped done) sound apart h = tt
 serve_trace w (Reap s now key) (ReapRefused why) sound apart h = tt
+serve_trace w (Reap s now key) (Filled filled) sound apart h = tt
+serve_trace w (Reap s now key) FillRefused sound apart h = tt
+serve_trace w (Fill s key bytes) (Replied reply victim) sound apart h = absurd h
+serve_trace w (Fill s key bytes) (Evicted done) sound apart h = tt
+serve_trace w (Fill s key bytes) Sent sound apart h = tt
+serve_trace w (Fill s key bytes) (SendRefused why) sound apart h = tt
+serve_trace w (Fill s key bytes) Taken sound apart h = tt
+serve_trace w (Fill s key bytes) (TakeRefused why) sound apart h = tt
+serve_trace w (Fill s key bytes) (Removed horizon count) sound apart h = tt
+serve_trace w (Fill s key bytes) (Ticked done) sound apart h = tt
+serve_trace w (Fill s key bytes) (Reaped done) sound apart h = tt
+serve_trace w (Fill s key bytes) (ReapRefused why) sound apart h = tt
+serve_trace w (Fill s key bytes) (Filled filled) sound apart h = tt
+serve_trace w (Fill s key bytes) FillRefused sound apart h = tt
 
 grown_all : (w : Known) (es : List Event) (ts : List Trace) (s : ℕ) (op : Operation) → Among (w.at s) op → Among ((known w es ts).at s) op
 grown_all w [] ts s op a = a
@@ -275,14 +309,21 @@ grown_all w (e ∷ es) (t ∷ ts) s op a = grown_all (happens w e t) es ts s op 
 written_all : (w : Known) (es : List Event) (ts : List Trace) (bytes : List ℕ) → Written w bytes → Written (known w es ts) bytes
 written_all w es ts bytes h = record { site = h.site; writing = record { op = h.writing.op; among = grown_all w es ts h.site h.writing.op h.writing.among; key = h.writing.key; flags = h.writing.flags; expiry = h.writing.expiry; is = h.writing.is } }
 
--- lawful replies serve what was written
-pub all_serve : (w : Known) (es : List Event) (ts : List Trace) → Sound w → EachLawful w es ts → NoCollision (known w es ts) → AllServe w es ts
-all_serve w [] ts sound lawful apart = tt
-all_serve w (e ∷ es) [] sound lawful apart = tt
-all_serve w (e ∷ es) (t ∷ ts) sound lawful apart = (
-  serve_trace w e t sound (λ a b x y. apart a b (written_all (happens w e t) es ts a x) (written_all (happens w e t) es ts b y)) lawful.0,
-  all_serve (happens w e t) es ts (sound_happens w e t sound) lawful.1 apart,
+told_all : (P : List ℕ → Type 0) (w : Known) (es : List Event) (ts : List Trace) (bytes : List ℕ) → Told P w bytes → Told P (known w es ts) bytes
+told_all P w es ts bytes (inl h) = inl (written_all w es ts bytes h)
+told_all P w es ts bytes (inr h) = inr h
+
+serve_all : {P : List ℕ → Type 0} → (w : Known) (es : List Event) (ts : List Trace) → ((bytes : List ℕ) → Offered es bytes → P bytes) → Sound P w → EachLawful w es ts → Apart (Told P (known w es ts)) → AllServe w es ts
+serve_all w [] ts offered sound lawful apart = tt
+serve_all w (e ∷ es) [] offered sound lawful apart = tt
+serve_all {P = P} w (e ∷ es) (t ∷ ts) offered sound lawful apart = (
+  serve_trace w e t sound (λ a b x y. apart a b (told_all P (happens w e t) es ts a x) (told_all P (happens w e t) es ts b y)) lawful.0,
+  serve_all (happens w e t) es ts (λ bytes o. offered bytes (inr o)) (sound_happens w e t (λ bytes o. offered bytes (inl o)) lawful.0 sound) lawful.1 apart,
 )
+
+-- lawful replies serve what was written
+pub all_serve : (w : Known) (es : List Event) (ts : List Trace) → Sound (Offered es) w → EachLawful w es ts → NoCollision (known w es ts) es → AllServe w es ts
+all_serve w es ts sound lawful apart = serve_all w es ts (λ bytes o. o) sound lawful apart
 
 -- one event more
 pub lawful_more : (w : Known) (es : List Event) (ts : List Trace) (e : Event) (t : Trace) → EachLawful w es ts → Lawful (known w es ts) e t → EachLawful w (es ++ e ∷ []) (ts ++ t ∷ [])

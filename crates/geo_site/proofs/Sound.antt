@@ -8,26 +8,32 @@ use Rattle.geo_records.specs.Operations.{Operation, Act, Among, version_of, late
 use Rattle.geo_records.specs.Operations.Act.{Write, Delete, Touch, Flush}
 use Rattle.geo_records.specs.declared.version.Version.{Version}
 use Rattle.geo_site.specs.declared.event.Event.{Event}
-use Rattle.geo_site.specs.declared.event.Event.TheVariants.{Command, Evict, Send, Take, Remove, Tick, Reap}
+use Rattle.geo_site.specs.declared.event.Event.TheVariants.{Command, Evict, Send, Take, Remove, Tick, Reap, Fill}
 use Rattle.geo_site.specs.declared.event.Trace.{Trace}
-use Rattle.geo_site.specs.declared.event.Trace.TheVariants.{Replied, Evicted, Sent, SendRefused, Taken, TakeRefused, Removed, Ticked, Reaped, ReapRefused}
+use Rattle.geo_site.specs.declared.event.Trace.TheVariants.{Replied, Evicted, Sent, SendRefused, Taken, TakeRefused, Removed, Ticked, Reaped, ReapRefused, Filled, FillRefused}
+use Rattle.geo_site.specs.declared.fill.Filled.{Filled as FilledAs}
+use Rattle.geo_site.specs.declared.fill.Filled.TheVariants.{NotNamed, Full, Done}
+use Rattle.geo_site.specs.declared.fill.Filled.TheVariants as filled
 use Rattle.geo_site.specs.declared.setup.Limits.{Limits}
 use Rattle.geo_grammar.specs.declared.request.Request.{Request}
 use Rattle.geo_grammar.specs.declared.reply.Reply.{Reply}
 use Rattle.geo_site.specs.Entries.{Held, Counts, counted, evicted_on, names, named_by, waits_after, due_acts, waits_on, is_done}
 use Rattle.geo_site.specs.Machine.{act_held, is_victim, without}
-use Rattle.geo_site.specs.Schedule.{Known, nothing_known, still_held, settles, new_operation, issues, learns, carried, issues_on, counts_keys, lets_go, evicts, carries_out, happens, waits, flushed, visible, reaps_on}
-use Rattle.geo_site.specs.Served.{Writing}
+use Rattle.geo_site.specs.Schedule.{Known, nothing_known, still_held, settles, new_operation, issues, learns, carried, issues_on, counts_keys, lets_go, evicts, carries_out, happens, waits, flushed, visible, reaps_on, held_with, fills, FilledIn, Lawful}
+use Rattle.geo_site.specs.Fills.{is_filled}
+use Rattle.geo_site.specs.Served.{Writing, Offers}
+use Rattle.geo_values.proofs.Linked.{same_keys}
 use Rattle.geo_site.proofs.Steps.{among_append, at_most_latest}
 
-pub record Sound (w : Known) : Type 0 where
+-- `offered` are bytes that some site was offered
+pub record Sound (offered : List ℕ → Type 0) (w : Known) : Type 0 where
   -- each operation is known to its issuer
   pub home : (t : ℕ) (op : Operation) → Among (w.at t) op → Among (w.at op.stamp.site) op
   pub home_sent : (p : ℕ) (op : Operation) → Among (carried w p) op → Among (w.at op.stamp.site) op
   -- a site knows each stamp once
   pub once : (t : ℕ) (a b : Operation) → Among (w.at t) a → Among (w.at t) b → a.stamp ≡ b.stamp → a ≡ b
-  -- what is held was written, and is named
-  pub written : (t : ℕ) (q bytes : List ℕ) → w.held t q ≡ Some bytes → Writing (w.at t) bytes
+  -- what is held was written or offered, and is named
+  pub written : (t : ℕ) (q bytes : List ℕ) → w.held t q ≡ Some bytes → Writing (w.at t) bytes ⊎ offered bytes
   pub named : (t : ℕ) (q bytes : List ℕ) → w.held t q ≡ Some bytes → names (version_of (w.at t) q) bytes ≡ true
 
 pub some_same : {A : Type 0} {x y : A} → Some x ≡ Some y → x ≡ y
@@ -50,6 +56,10 @@ writing_left ks ls bytes h = record { op = h.op; among = among_left ks ls h.op h
 
 writing_right : (ks ls : List Operation) (bytes : List ℕ) → Writing ls bytes → Writing (ks ++ ls) bytes
 writing_right ks ls bytes h = record { op = h.op; among = among_right ks ls h.op h.among; key = h.key; flags = h.flags; expiry = h.expiry; is = h.is }
+
+told_left : (P : List ℕ → Type 0) (ks ls : List Operation) (bytes : List ℕ) → Writing ks bytes ⊎ P bytes → Writing (ks ++ ls) bytes ⊎ P bytes
+told_left P ks ls bytes (inl h) = inl (writing_left ks ls bytes h)
+told_left P ks ls bytes (inr h) = inr h
 
 -- what still is held is named, and was held
 pub named_some : (v : Option Version) (o : Option (List ℕ)) (bytes : List ℕ) → named_by v o ≡ Some bytes → (o ≡ Some bytes) × (names v bytes ≡ true)
@@ -83,12 +93,12 @@ module _ (w : Known) (s : ℕ) (new : List Operation) (h : Held) where
   gained : (op : Operation) → Among new op → Among ((settles w s (w.at s ++ new) h).at s) op
   gained op a = subst (λ ops. Among ops op) (sym (here w s (w.at s ++ new) h)) (among_right (w.at s) new op a)
 
-  sound_settles : Sound w
+  sound_settles : {P : List ℕ → Type 0} → Sound P w
       → ((op : Operation) → Among new op → (op.stamp.site ≡ s) ⊎ Among (w.at op.stamp.site) op)
       → ((a b : Operation) → Among (w.at s ++ new) a → Among (w.at s ++ new) b → a.stamp ≡ b.stamp → a ≡ b)
-      → ((q bytes : List ℕ) → h q ≡ Some bytes → Writing (w.at s ++ new) bytes)
-      → Sound (settles w s (w.at s ++ new) h)
-  sound_settles sound each once written = record {
+      → ((q bytes : List ℕ) → h q ≡ Some bytes → Writing (w.at s ++ new) bytes ⊎ P bytes)
+      → Sound P (settles w s (w.at s ++ new) h)
+  sound_settles {P = P} sound each once written = record {
     home = λ t op a. elim (cases_eq t s) [
       | inl e ↦ elim (among_append (w.at s) new op (subst (λ ops. Among ops op) (here w s (w.at s ++ new) h) (subst (λ t. Among ((settles w s (w.at s ++ new) h).at t) op) e a))) [
         | inl old ↦ grows op.stamp.site op (sound.home s op old)
@@ -108,8 +118,8 @@ module _ (w : Known) (s : ℕ) (new : List Operation) (h : Held) where
     written = λ t q bytes x. elim (cases_eq t s) [
       | inl same ↦ let at : (settles w s (w.at s ++ new) h).at t ≡ w.at s ++ new = ap (λ t. (settles w s (w.at s ++ new) h).at t) same ∙ here w s (w.at s ++ new) h in
           let held : (settles w s (w.at s ++ new) h).held t ≡ still_held (w.at s ++ new) h = ap (λ t. (settles w s (w.at s ++ new) h).held t) same ∙ held_here w s (w.at s ++ new) h in
-          subst (λ ops. Writing ops bytes) (sym at) (written q bytes (named_some (version_of (w.at s ++ new) q) (h q) bytes (sym (ap (λ (f : Held). f q) held) ∙ x)).0)
-      | inr ne ↦ subst (λ ops. Writing ops bytes) (sym (there w s (w.at s ++ new) h t ne)) (sound.written t q bytes (sym (ap (λ (f : Held). f q) (held_there w s (w.at s ++ new) h t ne)) ∙ x))
+          subst (λ ops. Writing ops bytes ⊎ P bytes) (sym at) (written q bytes (named_some (version_of (w.at s ++ new) q) (h q) bytes (sym (ap (λ (f : Held). f q) held) ∙ x)).0)
+      | inr ne ↦ subst (λ ops. Writing ops bytes ⊎ P bytes) (sym (there w s (w.at s ++ new) h t ne)) (sound.written t q bytes (sym (ap (λ (f : Held). f q) (held_there w s (w.at s ++ new) h t ne)) ∙ x))
     ];
     named = λ t q bytes x. elim (cases_eq t s) [
       | inl same ↦ let at : (settles w s (w.at s ++ new) h).at t ≡ w.at s ++ new = ap (λ t. (settles w s (w.at s ++ new) h).at t) same ∙ here w s (w.at s ++ new) h in
@@ -135,8 +145,8 @@ the_one op o (inl e) = e
 the_one op o (inr h) = absurd h
 
 -- one operation more, whose stamp is later than all that is known
-sound_issue : (w : Known) (s : ℕ) (act : Act) → Sound w → Sound (settles w s (w.at s ++ new_operation w s act ∷ []) (act_held act (w.held s)))
-sound_issue w s act sound =
+sound_issue : {P : List ℕ → Type 0} → (w : Known) (s : ℕ) (act : Act) → Sound P w → Sound P (settles w s (w.at s ++ new_operation w s act ∷ []) (act_held act (w.held s)))
+sound_issue {P = P} w s act sound =
     let new = new_operation w s act in
     sound_settles w s (new ∷ []) (act_held act (w.held s)) sound
     (λ op a. inl (sym (ap (λ (o : Operation). o.stamp.site) (the_one new op a))))
@@ -151,8 +161,8 @@ sound_issue w s act sound =
       ]
     ])
     (λ q bytes x. elim (one_written act (w.held s) q bytes x) [
-      | inl y ↦ writing_left (w.at s) (new ∷ []) bytes (sound.written s q bytes y)
-      | inr y ↦ writing_right (w.at s) (new ∷ []) bytes (record { op = new; among = inl refl; key = y.0; flags = y.1; expiry = y.2; is = y.3 })
+      | inl y ↦ told_left P (w.at s) (new ∷ []) bytes (sound.written s q bytes y)
+      | inr y ↦ inl (writing_right (w.at s) (new ∷ []) bytes (record { op = new; among = inl refl; key = y.0; flags = y.1; expiry = y.2; is = y.3 }))
     ])
   where
     apart : (a b : Operation) → Among (w.at s) a → Among (new_operation w s act ∷ []) b → a.stamp ≡ b.stamp → ⊥
@@ -162,16 +172,16 @@ sound_issue w s act sound =
         let t = ap (λ (x : Moment). x.time) e in
         omega (arith, h, r, t)
 
-pub sound_issues : (w : Known) (s : ℕ) (acts : List Act) → Sound w → Sound (issues w s acts)
+pub sound_issues : {P : List ℕ → Type 0} → (w : Known) (s : ℕ) (acts : List Act) → Sound P w → Sound P (issues w s acts)
 sound_issues w s [] sound = sound
 sound_issues w s (act ∷ acts) sound = sound_issues (settles w s (w.at s ++ new_operation w s act ∷ []) (act_held act (w.held s))) s acts (sound_issue w s act sound)
 
-pub sound_takes : (w : Known) (s p : ℕ) → Sound w → Sound (learns w s (carried w p))
-sound_takes w s p sound =
+pub sound_takes : {P : List ℕ → Type 0} → (w : Known) (s p : ℕ) → Sound P w → Sound P (learns w s (carried w p))
+sound_takes {P = P} w s p sound =
     sound_settles w s (carried w p) (w.held s) sound
     (λ op a. inr (sound.home_sent p op a))
     (λ a b x y e. sound.once a.stamp.site a b (at_home a x) (subst (λ (x : Moment). Among (w.at x.site) b) (sym e) (at_home b y)) e)
-    (λ q bytes x. writing_left (w.at s) (carried w p) bytes (sound.written s q bytes x))
+    (λ q bytes x. told_left P (w.at s) (carried w p) bytes (sound.written s q bytes x))
   where
     at_home : (op : Operation) → Among (w.at s ++ carried w p) op → Among (w.at op.stamp.site) op
     at_home op a = elim (among_append (w.at s) (carried w p) op a) [ inl x ↦ sound.home s op x | inr x ↦ sound.home_sent p op x ]
@@ -183,7 +193,7 @@ sent_more [] x (suc p) op h = inl h
 sent_more (y ∷ xs) x zero op h = inl h
 sent_more (y ∷ xs) x (suc p) op h = sent_more xs x p op h
 
-pub sound_sends : (w : Known) (s to : ℕ) → Sound w → Sound (record { at = w.at; held = w.held; counts = w.counts; waiting = w.waiting; limits = w.limits; sites = w.sites; sent = w.sent ++ (to, w.at s) ∷ [] })
+pub sound_sends : {P : List ℕ → Type 0} → (w : Known) (s to : ℕ) → Sound P w → Sound P (record { at = w.at; held = w.held; counts = w.counts; waiting = w.waiting; limits = w.limits; sites = w.sites; sent = w.sent ++ (to, w.at s) ∷ [] })
 sound_sends w s to sound = record {
   home = sound.home;
   home_sent = λ p op a. elim (sent_more w.sent (to, w.at s) p op a) [ inl x ↦ sound.home_sent p op x | inr x ↦ sound.home s op x ];
@@ -193,7 +203,7 @@ sound_sends w s to sound = record {
 }
 
 -- what is counted is no matter
-sound_counts : (w : Known) (s : ℕ) (counts : Counts) → Sound w → Sound (counts_keys w s counts)
+sound_counts : {P : List ℕ → Type 0} → (w : Known) (s : ℕ) (counts : Counts) → Sound P w → Sound P (counts_keys w s counts)
 sound_counts w s counts sound = record { home = sound.home; home_sent = sound.home_sent; once = sound.once; written = sound.written; named = sound.named }
 
 -- what is held without a victim was held before
@@ -204,6 +214,17 @@ without_some victim h q bytes x = by (is_victim victim q) x
     by true x = absurd (some_none (sym x))
     by false x = x
 
+-- what is held where bytes may have come was held before, or is those
+pub fills_some : (w : Known) (s : ℕ) (key bytes : List ℕ) (t : ℕ) (q b : List ℕ) → (fills w s key bytes).held t q ≡ Some b → (w.held t q ≡ Some b) ⊎ ((t ≡ s) × (q ≡ key) × (bytes ≡ b))
+fills_some w s key bytes t q b x = elim (eqb_tells t s) [
+  | inl p ↦ by p.1 (same_key q key) refl (sym (ap (λ b. (cond b (held_with key bytes (w.held s)) (w.held t)) q) p.0) ∙ x)
+  | inr p ↦ inl (sym (ap (λ b. (cond b (held_with key bytes (w.held s)) (w.held t)) q) p.0) ∙ x)
+]
+  where
+    by : t ≡ s → (m : Bool) → same_key q key ≡ m → cond m (Some bytes) (w.held s q) ≡ Some b → (w.held t q ≡ Some b) ⊎ ((t ≡ s) × (q ≡ key) × (bytes ≡ b))
+    by here true e x = inr (here, same_keys q key e, some_same x)
+    by here false e x = inl (subst (λ t. w.held t q ≡ Some b) (sym here) x)
+
 -- what is held where a victim may have gone was held before
 pub left_some : (w : Known) (s : ℕ) (victim : Option (List ℕ)) (t : ℕ) (q bytes : List ℕ) → (lets_go w s victim).held t q ≡ Some bytes → w.held t q ≡ Some bytes
 left_some w s victim t q bytes x = elim (eqb_tells t s) [
@@ -211,7 +232,7 @@ left_some w s victim t q bytes x = elim (eqb_tells t s) [
   | inr p ↦ sym (ap (λ b. (cond b (without victim (w.held s)) (w.held t)) q) p.0) ∙ x
 ]
 
-pub sound_lets_go : (w : Known) (s : ℕ) (victim : Option (List ℕ)) → Sound w → Sound (lets_go w s victim)
+pub sound_lets_go : {P : List ℕ → Type 0} → (w : Known) (s : ℕ) (victim : Option (List ℕ)) → Sound P w → Sound P (lets_go w s victim)
 sound_lets_go w s victim sound = record {
   home = sound.home;
   home_sent = sound.home_sent;
@@ -220,100 +241,148 @@ sound_lets_go w s victim sound = record {
   named = λ t q bytes x. sound.named t q bytes (left_some w s victim t q bytes x);
 }
 
-sound_evicts : (w : Known) (s : ℕ) (key : List ℕ) → Sound w → Sound (evicts w s key)
+sound_evicts : {P : List ℕ → Type 0} → (w : Known) (s : ℕ) (key : List ℕ) → Sound P w → Sound P (evicts w s key)
 sound_evicts w s key sound = sound_counts (lets_go w s (Some key)) s (evicted_on (Some key) (w.counts s)) (sound_lets_go w s (Some key) sound)
 
-sound_done : (t : Bool) (w v : Known) → Sound w → Sound v → Sound (cond t v w)
+sound_done : {P : List ℕ → Type 0} → (t : Bool) (w v : Known) → Sound P w → Sound P v → Sound P (cond t v w)
 sound_done true w v a b = b
 sound_done false w v a b = a
 
 -- no more is a flush that waits
-sound_waits : (w : Known) (s : ℕ) (waiting : Option ℕ) → Sound w → Sound (waits w s waiting)
+sound_waits : {P : List ℕ → Type 0} → (w : Known) (s : ℕ) (waiting : Option ℕ) → Sound P w → Sound P (waits w s waiting)
 sound_waits w s waiting sound = record { home = sound.home; home_sent = sound.home_sent; once = sound.once; written = sound.written; named = sound.named }
 
-pub sound_flushed : (w : Known) (s now : ℕ) → Sound w → Sound (flushed w s now)
+pub sound_flushed : {P : List ℕ → Type 0} → (w : Known) (s now : ℕ) → Sound P w → Sound P (flushed w s now)
 sound_flushed w s now sound = let acts = due_acts (w.waiting s) (latest (w.at s)) now in sound_waits (issues w s acts) s (waits_on (w.waiting s) (latest (w.at s)) now) (sound_issues w s acts sound)
 
-sound_carries : (w : Known) (s now : ℕ) (request : Request) (victim : Option (List ℕ)) → Sound w → Sound (carries_out w s now request victim)
+sound_carries : {P : List ℕ → Type 0} → (w : Known) (s now : ℕ) (request : Request) (victim : Option (List ℕ)) → Sound P w → Sound P (carries_out w s now request victim)
 sound_carries w s now request victim sound =
     let acts = issues_on w s now request in
     let left = lets_go w s victim in
     let counts = evicted_on victim (counted (visible w s now) request (w.counts s)) in
     sound_waits (counts_keys (issues left s acts) s counts) s (waits_after now request (w.waiting s)) (sound_counts (issues left s acts) s counts (sound_issues left s acts (sound_lets_go w s victim sound)))
 
-pub sound_happens : (w : Known) (e : Event) (t : Trace) → Sound w → Sound (happens w e t)
-sound_happens w (Command s now request) (Replied reply victim) sound = let v = flushed w s now in let ok = sound_flushed w s now sound in sound_done (is_done reply) v (carries_out v s now request victim) ok (sound_carries v s now request victim ok)
-sound_happens w (Command s now request) (Evicted done) sound = sound
-sound_happens w (Command s now request) Sent sound = sound
-sound_happens w (Command s now request) (SendRefused why) sound = sound
-sound_happens w (Command s now request) Taken sound = sound
-sound_happens w (Command s now request) (TakeRefused why) sound = sound
-sound_happens w (Command s now request) (Removed horizon count) sound = sound
-sound_happens w (Command s now request) (Ticked done) sound = sound
-sound_happens w (Command s now request) (Reaped done) sound = sound
-sound_happens w (Command s now request) (ReapRefused why) sound = sound
-sound_happens w (Evict s key) (Replied reply victim) sound = sound
-sound_happens w (Evict s key) (Evicted done) sound = sound_done done w (evicts w s key) sound (sound_evicts w s key sound)
-sound_happens w (Evict s key) Sent sound = sound
-sound_happens w (Evict s key) (SendRefused why) sound = sound
-sound_happens w (Evict s key) Taken sound = sound
-sound_happens w (Evict s key) (TakeRefused why) sound = sound
-sound_happens w (Evict s key) (Removed horizon count) sound = sound
-sound_happens w (Evict s key) (Ticked done) sound = sound
-sound_happens w (Evict s key) (Reaped done) sound = sound
-sound_happens w (Evict s key) (ReapRefused why) sound = sound
-sound_happens w (Send s to) (Replied reply victim) sound = sound
-sound_happens w (Send s to) (Evicted done) sound = sound
-sound_happens w (Send s to) Sent sound = sound_sends w s to sound
-sound_happens w (Send s to) (SendRefused why) sound = sound
-sound_happens w (Send s to) Taken sound = sound
-sound_happens w (Send s to) (TakeRefused why) sound = sound
-sound_happens w (Send s to) (Removed horizon count) sound = sound
-sound_happens w (Send s to) (Ticked done) sound = sound
-sound_happens w (Send s to) (Reaped done) sound = sound
-sound_happens w (Send s to) (ReapRefused why) sound = sound
-sound_happens w (Take s p) (Replied reply victim) sound = sound
-sound_happens w (Take s p) (Evicted done) sound = sound
-sound_happens w (Take s p) Sent sound = sound
-sound_happens w (Take s p) (SendRefused why) sound = sound
-sound_happens w (Take s p) Taken sound = sound_takes w s p sound
-sound_happens w (Take s p) (TakeRefused why) sound = sound
-sound_happens w (Take s p) (Removed horizon count) sound = sound
-sound_happens w (Take s p) (Ticked done) sound = sound
-sound_happens w (Take s p) (Reaped done) sound = sound
-sound_happens w (Take s p) (ReapRefused why) sound = sound
-sound_happens w (Remove s) (Replied reply victim) sound = sound
-sound_happens w (Remove s) (Evicted done) sound = sound
-sound_happens w (Remove s) Sent sound = sound
-sound_happens w (Remove s) (SendRefused why) sound = sound
-sound_happens w (Remove s) Taken sound = sound
-sound_happens w (Remove s) (TakeRefused why) sound = sound
-sound_happens w (Remove s) (Removed horizon count) sound = sound
-sound_happens w (Remove s) (Ticked done) sound = sound
-sound_happens w (Remove s) (Reaped done) sound = sound
-sound_happens w (Remove s) (ReapRefused why) sound = sound
-sound_happens w (Tick s now) (Replied reply victim) sound = sound
-sound_happens w (Tick s now) (Evicted done) sound = sound
-sound_happens w (Tick s now) Sent sound = sound
-sound_happens w (Tick s now) (SendRefused why) sound = sound
-sound_happens w (Tick s now) Taken sound = sound
-sound_happens w (Tick s now) (TakeRefused why) sound = sound
-sound_happens w (Tick s now) (Removed horizon count) sound = sound
-sound_happens w (Tick s now) (Ticked done) sound = sound_flushed w s now sound
-sound_happens w (Tick s now) (Reaped done) sound = sound
-sound_happens w (Tick s now) (ReapRefused why) sound = sound
-sound_happens w (Reap s now key) (Replied reply victim) sound = sound
-sound_happens w (Reap s now key) (Evicted done) sound = sound
-sound_happens w (Reap s now key) Sent sound = sound
-sound_happens w (Reap s now key) (SendRefused why) sound = sound
-sound_happens w (Reap s now key) Taken sound = sound
-sound_happens w (Reap s now key) (TakeRefused why) sound = sound
-sound_happens w (Reap s now key) (Removed horizon count) sound = sound
-sound_happens w (Reap s now key) (Ticked done) sound = sound
-sound_happens w (Reap s now key) (Reaped done) sound = let v = flushed w s now in sound_issues v s (reaps_on v s now key) (sound_flushed w s now sound)
-sound_happens w (Reap s now key) (ReapRefused why) sound = sound_flushed w s now sound
+-- bytes that were offered and are named
+sound_fills : {P : List ℕ → Type 0} → (w : Known) (s : ℕ) (key bytes : List ℕ) → P bytes → names (version_of (w.at s) key) bytes ≡ true → Sound P w → Sound P (fills w s key bytes)
+sound_fills {P = P} w s key bytes offered named sound = record {
+  home = sound.home;
+  home_sent = sound.home_sent;
+  once = sound.once;
+  written = λ t q b x. elim (fills_some w s key bytes t q b x) [
+    | inl was ↦ sound.written t q b was
+    | inr new ↦ inr (subst P new.2 offered)
+  ];
+  named = λ t q b x. elim (fills_some w s key bytes t q b x) [
+    | inl was ↦ sound.named t q b was
+    | inr new ↦ subst (λ t. names (version_of (w.at t) q) b ≡ true) (sym new.0) (subst (λ k. names (version_of (w.at s) k) b ≡ true) (sym new.1) (subst (λ b. names (version_of (w.at s) key) b ≡ true) new.2 named))
+  ];
+}
 
-pub sound_nothing : (sites : ℕ) (limits : ℕ → Limits) → Sound (nothing_known sites limits)
+sound_filled : {P : List ℕ → Type 0} → (filled : FilledAs) (w : Known) (s : ℕ) (key bytes : List ℕ) → P bytes → FilledIn w s key bytes filled → Sound P w → Sound P (cond (is_filled filled) (fills w s key bytes) w)
+sound_filled NotNamed w s key bytes offered lawful sound = sound
+sound_filled filled.Held w s key bytes offered lawful sound = sound
+sound_filled Full w s key bytes offered lawful sound = sound
+sound_filled Done w s key bytes offered lawful sound = sound_fills w s key bytes offered lawful.0 sound
+
+pub sound_happens : {P : List ℕ → Type 0} → (w : Known) (e : Event) (t : Trace) → ((bytes : List ℕ) → Offers e bytes → P bytes) → Lawful w e t → Sound P w → Sound P (happens w e t)
+sound_happens w (Command s now request) (Replied reply victim) offers lawful sound = let v = flushed w s now in let ok = sound_flushed w s now sound in sound_done (is_done reply) v (carries_out v s now request victim) ok (sound_carries v s now request victim ok)
+sound_happens w (Command s now request) (Evicted done) offers lawful sound = sound
+sound_happens w (Command s now request) Sent offers lawful sound = sound
+sound_happens w (Command s now request) (SendRefused why) offers lawful sound = sound
+sound_happens w (Command s now request) Taken offers lawful sound = sound
+sound_happens w (Command s now request) (TakeRefused why) offers lawful sound = sound
+sound_happens w (Command s now request) (Removed horizon count) offers lawful sound = sound
+sound_happens w (Command s now request) (Ticked done) offers lawful sound = sound
+sound_happens w (Command s now request) (Reaped done) offers lawful sound = sound
+sound_happens w (Command s now request) (ReapRefused why) offers lawful sound = sound
+sound_happens w (Command s now request) (Filled filled) offers lawful sound = sound
+sound_happens w (Command s now request) FillRefused offers lawful sound = sound
+sound_happens w (Evict s key) (Replied reply victim) offers lawful sound = sound
+sound_happens w (Evict s key) (Evicted done) offers lawful sound = sound_done done w (evicts w s key) sound (sound_evicts w s key sound)
+sound_happens w (Evict s key) Sent offers lawful sound = sound
+sound_happens w (Evict s key) (SendRefused why) offers lawful sound = sound
+sound_happens w (Evict s key) Taken offers lawful sound = sound
+sound_happens w (Evict s key) (TakeRefused why) offers lawful sound = sound
+sound_happens w (Evict s key) (Removed horizon count) offers lawful sound = sound
+sound_happens w (Evict s key) (Ticked done) offers lawful sound = sound
+sound_happens w (Evict s key) (Reaped done) offers lawful sound = sound
+sound_happens w (Evict s key) (ReapRefused why) offers lawful sound = sound
+sound_happens w (Evict s key) (Filled filled) offers lawful sound = sound
+sound_happens w (Evict s key) FillRefused offers lawful sound = sound
+sound_happens w (Send s to) (Replied reply victim) offers lawful sound = sound
+sound_happens w (Send s to) (Evicted done) offers lawful sound = sound
+sound_happens w (Send s to) Sent offers lawful sound = sound_sends w s to sound
+sound_happens w (Send s to) (SendRefused why) offers lawful sound = sound
+sound_happens w (Send s to) Taken offers lawful sound = sound
+sound_happens w (Send s to) (TakeRefused why) offers lawful sound = sound
+sound_happens w (Send s to) (Removed horizon count) offers lawful sound = sound
+sound_happens w (Send s to) (Ticked done) offers lawful sound = sound
+sound_happens w (Send s to) (Reaped done) offers lawful sound = sound
+sound_happens w (Send s to) (ReapRefused why) offers lawful sound = sound
+sound_happens w (Send s to) (Filled filled) offers lawful sound = sound
+sound_happens w (Send s to) FillRefused offers lawful sound = sound
+sound_happens w (Take s p) (Replied reply victim) offers lawful sound = sound
+sound_happens w (Take s p) (Evicted done) offers lawful sound = sound
+sound_happens w (Take s p) Sent offers lawful sound = sound
+sound_happens w (Take s p) (SendRefused why) offers lawful sound = sound
+sound_happens w (Take s p) Taken offers lawful sound = sound_takes w s p sound
+sound_happens w (Take s p) (TakeRefused why) offers lawful sound = sound
+sound_happens w (Take s p) (Removed horizon count) offers lawful sound = sound
+sound_happens w (Take s p) (Ticked done) offers lawful sound = sound
+sound_happens w (Take s p) (Reaped done) offers lawful sound = sound
+sound_happens w (Take s p) (ReapRefused why) offers lawful sound = sound
+sound_happens w (Take s p) (Filled filled) offers lawful sound = sound
+sound_happens w (Take s p) FillRefused offers lawful sound = sound
+sound_happens w (Remove s) (Replied reply victim) offers lawful sound = sound
+sound_happens w (Remove s) (Evicted done) offers lawful sound = sound
+sound_happens w (Remove s) Sent offers lawful sound = sound
+sound_happens w (Remove s) (SendRefused why) offers lawful sound = sound
+sound_happens w (Remove s) Taken offers lawful sound = sound
+sound_happens w (Remove s) (TakeRefused why) offers lawful sound = sound
+sound_happens w (Remove s) (Removed horizon count) offers lawful sound = sound
+sound_happens w (Remove s) (Ticked done) offers lawful sound = sound
+sound_happens w (Remove s) (Reaped done) offers lawful sound = sound
+sound_happens w (Remove s) (ReapRefused why) offers lawful sound = sound
+sound_happens w (Remove s) (Filled filled) offers lawful sound = sound
+sound_happens w (Remove s) FillRefused offers lawful sound = sound
+sound_happens w (Tick s now) (Replied reply victim) offers lawful sound = sound
+sound_happens w (Tick s now) (Evicted done) offers lawful sound = sound
+sound_happens w (Tick s now) Sent offers lawful sound = sound
+sound_happens w (Tick s now) (SendRefused why) offers lawful sound = sound
+sound_happens w (Tick s now) Taken offers lawful sound = sound
+sound_happens w (Tick s now) (TakeRefused why) offers lawful sound = sound
+sound_happens w (Tick s now) (Removed horizon count) offers lawful sound = sound
+sound_happens w (Tick s now) (Ticked done) offers lawful sound = sound_flushed w s now sound
+sound_happens w (Tick s now) (Reaped done) offers lawful sound = sound
+sound_happens w (Tick s now) (ReapRefused why) offers lawful sound = sound
+sound_happens w (Tick s now) (Filled filled) offers lawful sound = sound
+sound_happens w (Tick s now) FillRefused offers lawful sound = sound
+sound_happens w (Reap s now key) (Replied reply victim) offers lawful sound = sound
+sound_happens w (Reap s now key) (Evicted done) offers lawful sound = sound
+sound_happens w (Reap s now key) Sent offers lawful sound = sound
+sound_happens w (Reap s now key) (SendRefused why) offers lawful sound = sound
+sound_happens w (Reap s now key) Taken offers lawful sound = sound
+sound_happens w (Reap s now key) (TakeRefused why) offers lawful sound = sound
+sound_happens w (Reap s now key) (Removed horizon count) offers lawful sound = sound
+sound_happens w (Reap s now key) (Ticked done) offers lawful sound = sound
+sound_happens w (Reap s now key) (Reaped done) offers lawful sound = let v = flushed w s now in sound_issues v s (reaps_on v s now key) (sound_flushed w s now sound)
+sound_happens w (Reap s now key) (ReapRefused why) offers lawful sound = sound_flushed w s now sound
+sound_happens w (Reap s now key) (Filled filled) offers lawful sound = sound
+sound_happens w (Reap s now key) FillRefused offers lawful sound = sound
+sound_happens w (Fill s key bytes) (Replied reply victim) offers lawful sound = sound
+sound_happens w (Fill s key bytes) (Evicted done) offers lawful sound = sound
+sound_happens w (Fill s key bytes) Sent offers lawful sound = sound
+sound_happens w (Fill s key bytes) (SendRefused why) offers lawful sound = sound
+sound_happens w (Fill s key bytes) Taken offers lawful sound = sound
+sound_happens w (Fill s key bytes) (TakeRefused why) offers lawful sound = sound
+sound_happens w (Fill s key bytes) (Removed horizon count) offers lawful sound = sound
+sound_happens w (Fill s key bytes) (Ticked done) offers lawful sound = sound
+sound_happens w (Fill s key bytes) (Reaped done) offers lawful sound = sound
+sound_happens w (Fill s key bytes) (ReapRefused why) offers lawful sound = sound
+sound_happens w (Fill s key bytes) (Filled filled) offers lawful sound = sound_filled filled w s key bytes (offers bytes refl) lawful sound
+sound_happens w (Fill s key bytes) FillRefused offers lawful sound = sound
+
+pub sound_nothing : {P : List ℕ → Type 0} → (sites : ℕ) (limits : ℕ → Limits) → Sound P (nothing_known sites limits)
 sound_nothing sites limits = record {
   home = λ t op a. absurd a;
   home_sent = λ p op a. absurd (none p op a);
@@ -352,6 +421,8 @@ grown w (Command s now request) (Removed horizon count) t op a = a
 grown w (Command s now request) (Ticked done) t op a = a
 grown w (Command s now request) (Reaped done) t op a = a
 grown w (Command s now request) (ReapRefused why) t op a = a
+grown w (Command s now request) (Filled filled) t op a = a
+grown w (Command s now request) FillRefused t op a = a
 grown w (Evict s key) (Replied reply victim) t op a = a
 grown w (Evict s key) (Evicted done) t op a = grown_done done w (evicts w s key) t op a a
 grown w (Evict s key) Sent t op a = a
@@ -362,6 +433,8 @@ grown w (Evict s key) (Removed horizon count) t op a = a
 grown w (Evict s key) (Ticked done) t op a = a
 grown w (Evict s key) (Reaped done) t op a = a
 grown w (Evict s key) (ReapRefused why) t op a = a
+grown w (Evict s key) (Filled filled) t op a = a
+grown w (Evict s key) FillRefused t op a = a
 grown w (Send s to) (Replied reply victim) t op a = a
 grown w (Send s to) (Evicted done) t op a = a
 grown w (Send s to) Sent t op a = a
@@ -372,6 +445,8 @@ grown w (Send s to) (Removed horizon count) t op a = a
 grown w (Send s to) (Ticked done) t op a = a
 grown w (Send s to) (Reaped done) t op a = a
 grown w (Send s to) (ReapRefused why) t op a = a
+grown w (Send s to) (Filled filled) t op a = a
+grown w (Send s to) FillRefused t op a = a
 grown w (Take s p) (Replied reply victim) t op a = a
 grown w (Take s p) (Evicted done) t op a = a
 grown w (Take s p) Sent t op a = a
@@ -382,6 +457,8 @@ grown w (Take s p) (Removed horizon count) t op a = a
 grown w (Take s p) (Ticked done) t op a = a
 grown w (Take s p) (Reaped done) t op a = a
 grown w (Take s p) (ReapRefused why) t op a = a
+grown w (Take s p) (Filled filled) t op a = a
+grown w (Take s p) FillRefused t op a = a
 grown w (Remove s) (Replied reply victim) t op a = a
 grown w (Remove s) (Evicted done) t op a = a
 grown w (Remove s) Sent t op a = a
@@ -392,6 +469,8 @@ grown w (Remove s) (Removed horizon count) t op a = a
 grown w (Remove s) (Ticked done) t op a = a
 grown w (Remove s) (Reaped done) t op a = a
 grown w (Remove s) (ReapRefused why) t op a = a
+grown w (Remove s) (Filled filled) t op a = a
+grown w (Remove s) FillRefused t op a = a
 grown w (Tick s now) (Replied reply victim) t op a = a
 grown w (Tick s now) (Evicted done) t op a = a
 grown w (Tick s now) Sent t op a = a
@@ -402,6 +481,8 @@ grown w (Tick s now) (Removed horizon count) t op a = a
 grown w (Tick s now) (Ticked done) t op a = grown_flushed w s now t op a
 grown w (Tick s now) (Reaped done) t op a = a
 grown w (Tick s now) (ReapRefused why) t op a = a
+grown w (Tick s now) (Filled filled) t op a = a
+grown w (Tick s now) FillRefused t op a = a
 grown w (Reap s now key) (Replied reply victim) t op a = a
 grown w (Reap s now key) (Evicted done) t op a = a
 grown w (Reap s now key) Sent t op a = a
@@ -412,3 +493,17 @@ grown w (Reap s now key) (Removed horizon count) t op a = a
 grown w (Reap s now key) (Ticked done) t op a = a
 grown w (Reap s now key) (Reaped done) t op a = let v = flushed w s now in grown_issues v s (reaps_on v s now key) t op (grown_flushed w s now t op a)
 grown w (Reap s now key) (ReapRefused why) t op a = grown_flushed w s now t op a
+grown w (Reap s now key) (Filled filled) t op a = a
+grown w (Reap s now key) FillRefused t op a = a
+grown w (Fill s key bytes) (Replied reply victim) t op a = a
+grown w (Fill s key bytes) (Evicted done) t op a = a
+grown w (Fill s key bytes) Sent t op a = a
+grown w (Fill s key bytes) (SendRefused why) t op a = a
+grown w (Fill s key bytes) Taken t op a = a
+grown w (Fill s key bytes) (TakeRefused why) t op a = a
+grown w (Fill s key bytes) (Removed horizon count) t op a = a
+grown w (Fill s key bytes) (Ticked done) t op a = a
+grown w (Fill s key bytes) (Reaped done) t op a = a
+grown w (Fill s key bytes) (ReapRefused why) t op a = a
+grown w (Fill s key bytes) (Filled filled) t op a = grown_done (is_filled filled) w (fills w s key bytes) t op a a
+grown w (Fill s key bytes) FillRefused t op a = a

@@ -4,6 +4,7 @@ pub mod Schedule
 pub mod Served
 pub mod Agreement
 pub mod Sites
+pub mod Fills
 pub mod Changes
 pub mod Noting
 pub mod Passing

@@ -7,9 +7,11 @@ use Rattle.geo_grammar.specs.declared.request.Request.{Request}
 use Rattle.geo_grammar.specs.declared.reply.Reply.{Reply}
 use Rattle.geo_grammar.specs.declared.reply.Reply.TheVariants.{ClockEnded}
 use Rattle.geo_site.specs.declared.event.Event.{Event}
-use Rattle.geo_site.specs.declared.event.Event.TheVariants.{Command, Evict, Send, Take, Remove, Tick, Reap}
+use Rattle.geo_site.specs.declared.event.Event.TheVariants.{Command, Evict, Send, Take, Remove, Tick, Reap, Fill}
 use Rattle.geo_site.specs.declared.event.Trace.{Trace}
-use Rattle.geo_site.specs.declared.event.Trace.TheVariants.{Replied, Evicted, Sent, SendRefused, Taken, TakeRefused, Removed, Ticked, Reaped, ReapRefused}
+use Rattle.geo_site.specs.declared.event.Trace.TheVariants.{Replied, Evicted, Sent, SendRefused, Taken, TakeRefused, Removed, Ticked, Reaped, ReapRefused, Filled, FillRefused}
+use Rattle.geo_site.specs.declared.fill.Filled.{Filled as FilledAs}
+use Rattle.geo_site.specs.declared.fill.Filled.TheVariants.{Done}
 use Rattle.geo_site.specs.declared.setup.Limits.{Limits}
 use Rattle.geo_site.specs.declared.refusal.SendError.{SendError}
 use Rattle.geo_site.specs.declared.refusal.TakeError.{TakeError}
@@ -17,10 +19,11 @@ use Rattle.geo_site.specs.declared.refusal.ReapError.{ReapError}
 use Rattle.geo_site.specs.declared.refusal.ReapError.TheVariants as reap
 use Rattle.geo_site.specs.declared.refusal.SendError.TheVariants as send
 use Rattle.geo_site.specs.declared.refusal.TakeError.TheVariants as take
-use Rattle.geo_site.specs.Entries.{Held, Visible, Basis, Counts, none_counted, counted, evicted_on, entry_in, named_by, issued, waits_after, flushes_due, is_stuck, due_acts, waits_on, is_reapable, reap_acts, lacks, Answers, is_done}
+use Rattle.geo_site.specs.Entries.{Held, Visible, Basis, Counts, none_counted, counted, evicted_on, entry_in, names, named_by, issued, waits_after, flushes_due, is_stuck, due_acts, waits_on, is_reapable, reap_acts, lacks, Answers, is_done}
 use Rattle.geo_records.specs.Keys.{same_key}
 use Rattle.geo_records.specs.Operations.Act.{Write, Delete, Touch, Flush}
 use Rattle.geo_site.specs.Agreement.{Holds}
+use Rattle.geo_site.specs.Fills.{is_filled, FillsAs}
 use Rattle.geo_site.specs.Machine.{act_held, without, class_for, next_operation, IsRecordCount, IsHeldCount}
 
 -- what each site knows and holds, how many keys it found, did not find and evicted, the moment of the flush that waits there, what it
@@ -126,6 +129,22 @@ lets_go w site victim = record {
 abbrev pub evicts : Known → ℕ → List ℕ → Known
 evicts w site key = counts_keys (lets_go w site (Some key)) site (evicted_on (Some key) (w.counts site))
 
+-- of what is held, these bytes are held of the key
+abbrev pub held_with : List ℕ → List ℕ → Held → Held
+held_with key bytes held q = cond (same_key q key) (Some bytes) (held q)
+
+-- a site holds bytes that were offered
+abbrev pub fills : Known → ℕ → List ℕ → List ℕ → Known
+fills w site key bytes = record {
+  at = w.at;
+  held = λ t. if t == site then held_with key bytes (w.held site) else w.held t;
+  counts = w.counts;
+  waiting = w.waiting;
+  limits = w.limits;
+  sites = w.sites;
+  sent = w.sent;
+}
+
 -- a victim is another key than the one that is written, and a value of the same class is held of it
 abbrev pub IsVictim : Held → Act → List ℕ → Type 0
 IsVictim held (Write key bytes flags expiry) victim = (same_key victim key ≡ false) × (old : List ℕ) × (held victim ≡ Some old)
@@ -225,6 +244,7 @@ happens w (Take site parcel) Taken = learns w site (carried w parcel)
 happens w (Tick site now) (Ticked done) = flushed w site now
 happens w (Reap site now key) (Reaped done) = let v = flushed w site now in issues v site (reaps_on v site now key)
 happens w (Reap site now key) (ReapRefused why) = flushed w site now
+happens w (Fill site key bytes) (Filled filled) = cond (is_filled filled) (fills w site key bytes) w
 happens w event trace = w
 
 -- what is known after a schedule with its trace
@@ -254,6 +274,11 @@ abbrev pub ReapRefusedFor : Known → ℕ → ℕ → List ℕ → ReapError →
 ReapRefusedFor w site now key reap.ClockEnded = lacks (latest (w.at site)) (reaps_on w site now key) ≡ true
 ReapRefusedFor w site now key reap.Memory = ⊥
 
+-- what comes of a fill: bytes of the version's SHA-256 and length are held where none were, unless their class is full, of which
+-- nothing is known here
+abbrev pub FilledIn : Known → ℕ → List ℕ → List ℕ → FilledAs → Type 0
+FilledIn w site key bytes filled = FillsAs (names (version_of (w.at site) key) bytes) (is_some (w.held site key)) filled
+
 -- the trace is one that the event can have
 abbrev pub Lawful : Known → Event → Trace → Type 0
 Lawful w (Command site now request) (Replied reply victim) = let v = flushed w site now in
@@ -268,6 +293,8 @@ Lawful w (Remove site) (Removed horizon count) = Stable w horizon
 Lawful w (Tick site now) (Ticked done) = done ≡ flushes_due (w.waiting site) (latest (w.at site)) now
 Lawful w (Reap site now key) (Reaped done) = ReapsIn (flushed w site now) site now key done
 Lawful w (Reap site now key) (ReapRefused why) = ReapRefusedFor (flushed w site now) site now key why
+Lawful w (Fill site key bytes) (Filled filled) = FilledIn w site key bytes filled
+Lawful w (Fill site key bytes) FillRefused = FilledIn w site key bytes Done
 Lawful w event trace = ⊥
 
 -- each of them is

@@ -1,5 +1,5 @@
 -- Values that are served: each is what the operation wrote that the version names, unless two values have one SHA-256.
-use Rattle.std.specs.Prelude.{◌≡◌, ℕ, List, [], ◌∷◌, Some}
+use Rattle.std.specs.Prelude.{◌≡◌, ◌⊎◌, ℕ, List, [], ◌∷◌, Some}
 use Rattle.sha2.specs.Sha256.{sha256}
 use Rattle.geo_records.specs.Operations.{Operation, Among, version_of}
 use Rattle.geo_records.specs.Operations.Act.{Write}
@@ -8,7 +8,7 @@ use Rattle.geo_grammar.specs.declared.reply.Reply.{Reply}
 use Rattle.geo_grammar.specs.declared.reply.Reply.TheVariants.{Values}
 use Rattle.geo_grammar.specs.declared.reply.Found.{Found}
 use Rattle.geo_site.specs.declared.event.Event.{Event}
-use Rattle.geo_site.specs.declared.event.Event.TheVariants.{Command}
+use Rattle.geo_site.specs.declared.event.Event.TheVariants.{Command, Fill}
 use Rattle.geo_site.specs.declared.event.Trace.{Trace}
 use Rattle.geo_site.specs.declared.event.Trace.TheVariants.{Replied}
 use Rattle.geo_site.specs.Schedule.{Known, flushed, happens}
@@ -26,9 +26,21 @@ pub record Written (w : Known) (bytes : List ℕ) : Type 0 where
   pub site : ℕ
   pub writing : Writing (w.at site) bytes
 
--- no two different values that were written have one digest
-abbrev pub NoCollision : Known → Type 0
-NoCollision w = (a b : List ℕ) → Written w a → Written w b → sha256 a ≡ sha256 b → a ≡ b
+-- an event offers the bytes to a site
+abbrev pub Offers : Event → List ℕ → Type 0
+Offers (Fill site key offered) bytes = offered ≡ bytes
+Offers event bytes = ⊥
+
+abbrev pub Offered : List Event → List ℕ → Type 0
+Offered [] bytes = ⊥
+Offered (event ∷ events) bytes = Offers event bytes ⊎ Offered events bytes
+
+-- no two different values that were written, or offered in these events, have one digest
+abbrev pub Apart : (List ℕ → Type 0) → Type 0
+Apart P = (a b : List ℕ) → P a → P b → sha256 a ≡ sha256 b → a ≡ b
+
+abbrev pub NoCollision : Known → List Event → Type 0
+NoCollision w events = Apart (λ bytes. Written w bytes ⊎ Offered events bytes)
 
 -- the entry is what the write wrote whose stamp the site's version of the key has, and no other operation has that stamp
 pub record ServedBy (w : Known) (ops : List Operation) (entry : Found) : Type 0 where

@@ -1,6 +1,7 @@
 //! What can happen at a site, and what came of it.
+use crate::fill::Filled;
 use crate::refusal::{ReapError, SendError, TakeError};
-use geo_grammar::{Reply, Request};
+use geo_grammar::{Reply, Request, ValueBytes};
 use geo_versions::Key;
 
 /// The greatest moment, in seconds.
@@ -45,6 +46,12 @@ pub enum Event {
         now: u64,
         key: Key,
     },
+    /// The site is offered bytes of a key, any at all, and holds them where its version names them and it has none.
+    Fill {
+        site: u8,
+        key: Key,
+        bytes: ValueBytes,
+    },
 }
 
 /// What came of an event.
@@ -70,4 +77,8 @@ pub enum Trace {
     Reaped(bool),
     /// The key was not deleted.
     ReapRefused(ReapError),
+    /// What came of bytes that were offered.
+    Filled(Filled),
+    /// Bytes that were offered would be held, and memory was wanted for that.
+    FillRefused,
 }
