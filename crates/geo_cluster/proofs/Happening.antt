@@ -17,12 +17,13 @@ use Rattle.geo_world.specs.Running.{HasAllRun}
 use Rattle.geo_world.proofs.Running.{HasRun, run_more, all_run}
 use Rattle.geo_world.specs.Doing.{DoesAlone, EachAlone, RunsAlone}
 use Rattle.geo_world.proofs.Alone.{each_more}
-use Rattle.geo_cluster.specs.Progress.{Progress, Runs, known_in, parcels_in, can_come}
+use Rattle.geo_cluster.specs.Progress.{Progress, Runs, known_in, parcels_in, can_come, followed}
+use Rattle.geo_cluster.specs.Prints.{trace_text}
 use Rattle.geo_cluster.specs.Reads.{said_by}
 use Rattle.geo_cluster.specs.declared.script.line.ScriptLine.{ScriptLine}
 use Rattle.geo_cluster.specs.Sayings.{Said}
 use Rattle.geo_cluster.specs.Effects.{can_carry, SaidDoes, Happens}
-use Rattle.geo_cluster.specs.Standing.{Stands, Steps, EventDoes, CarriesOut, LineDoes}
+use Rattle.geo_cluster.specs.Standing.{Stands, Steps, EventDoes, PrintsEvent, CarriesOut, LineDoes}
 use Rattle.geo_cluster.specs.Wants.{grows, WantsFor, ComesFor}
 use Rattle.geo_cluster.specs.declared.script.cluster.Cluster.{Cluster}
 
@@ -98,6 +99,22 @@ steps_on old new event trace moment connections many does tabled alone p st = (
     };
   },
 )
+
+-- what came of a step is printed
+pub prints_step : (old new : Cluster) (event : Event) (outcome : Option Trace) (trace : Trace) (parcels : ℕ) (text : List ℕ) → outcome ≡ Some trace → Steps old event outcome new
+    → parcels ≡ length old.world.parcels.items → trace_text parcels trace ≡ Some text → (p : Progress) → Stands p old → PrintsEvent p event text new
+prints_step old new event outcome trace parcels text is steps many prints p st =
+    let s = subst (λ (o : Option Trace). Steps old event o new) is steps p st in
+    record {
+      progress = followed p event trace;
+      comes = s.0;
+      happens = record {
+        trace = trace;
+        prints = ap (λ n. trace_text n trace) (st.run.agrees.as_many ∙ sym many) ∙ prints;
+        rest = refl;
+      };
+      stands = s.2;
+    }
 
 -- a line that is an event
 pub record IsEventLine (p : Progress) (line : Said) (event : Event) : Type 0 where

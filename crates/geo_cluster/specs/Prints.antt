@@ -4,7 +4,9 @@ use Rattle.std.specs.List.{flat_map}
 use Rattle.geo_stamp.specs.Stamps.{Moment}
 use Rattle.geo_records.specs.declared.version.Version.{Version}
 use Rattle.geo_site.specs.declared.event.Trace.{Trace}
-use Rattle.geo_site.specs.declared.event.Trace.TheVariants.{Replied, Evicted, Sent, SendRefused, Taken, TakeRefused, Removed, Ticked, Reaped, ReapRefused}
+use Rattle.geo_site.specs.declared.event.Trace.TheVariants.{Replied, Evicted, Sent, SendRefused, Taken, TakeRefused, Removed, Ticked, Reaped, ReapRefused, Filled as FilledAs, FillRefused}
+use Rattle.geo_site.specs.declared.fill.Filled.{Filled}
+use Rattle.geo_site.specs.declared.fill.Filled.TheVariants.{NotNamed, Held, Full, Done}
 use Rattle.geo_site.specs.declared.refusal.TakeError.{TakeError}
 use Rattle.geo_site.specs.declared.refusal.TakeError.TheVariants.{NotForMe, UnknownSite, Gap, Memory}
 use Rattle.geo_site.specs.declared.refusal.ReapError.TheVariants as reap
@@ -28,8 +30,15 @@ refused_text UnknownSite = Some (number_text (codes "refused ") 2)
 refused_text Gap = Some (number_text (codes "refused ") 3)
 refused_text Memory = None
 
--- what a line prints of its event, by what came of it, where so many parcels were sent before: a send for which memory was wanted, and
--- a reply, which stands among others on its client's line, print none
+-- what came of bytes that were offered
+abbrev pub filled_text : Filled → List ℕ
+filled_text NotNamed = codes "unnamed\n"
+filled_text Held = codes "held\n"
+filled_text Full = codes "full\n"
+filled_text Done = codes "filled\n"
+
+-- what a line prints of its event, by what came of it, where so many parcels were sent before: a send or a fill for which memory was
+-- wanted, and a reply, which stands among others on its client's line, print none
 abbrev pub trace_text : ℕ → Trace → Option (List ℕ)
 trace_text parcels (Replied reply victim) = None
 trace_text parcels (Evicted done) = Some (done_text (codes "evicted\n") done)
@@ -42,6 +51,8 @@ trace_text parcels (Ticked done) = Some (done_text (codes "flushed\n") done)
 trace_text parcels (Reaped done) = Some (done_text (codes "reaped\n") done)
 trace_text parcels (ReapRefused reap.ClockEnded) = Some (codes "clock ended\n")
 trace_text parcels (ReapRefused reap.Memory) = None
+trace_text parcels (FilledAs filled) = Some (filled_text filled)
+trace_text parcels FillRefused = None
 
 -- a stamp by its time and its site
 abbrev pub stamp_text : Moment → List ℕ

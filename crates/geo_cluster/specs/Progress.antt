@@ -47,12 +47,12 @@ followed p event trace = record {
 }
 
 -- the traces are those of a run: each event is there when it comes, each trace is one that its event can have, and tells what its site
--- keeps; values in replies are what was written, unless two that were written have one SHA-256; and the sites that the setups open, each
+-- keeps; values in replies are what was written, unless two that were written or offered have one SHA-256; and the sites that the setups open, each
 -- with the pages that it is told, did all this one event after the other
 pub record Runs (setups : List Setup) (events : List Event) (traces : List Trace) : Type 0 where
   pub there : EachThere (length setups) (start setups) events traces
   pub lawful : EachLawful (start setups) events traces
   pub tallies : EachTallies (start setups) (empty_tables (length setups)) events traces
-  pub serves : NoCollision (known (start setups) events traces) → AllServe (start setups) events traces
+  pub serves : NoCollision (known (start setups) events traces) events → AllServe (start setups) events traces
   pub sites : List Site
   pub alone : RunsAlone setups events traces sites

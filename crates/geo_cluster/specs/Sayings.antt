@@ -19,6 +19,7 @@ pub data Said : Type 0 where
   SaysRemove : (site : ℕ) → Said
   SaysReap : (site : ℕ) (key : List ℕ) → Said
   SaysEvict : (site : ℕ) (key : List ℕ) → Said
+  SaysFill : (site : ℕ) (key bytes : List ℕ) → Said
   SaysVersions : (site : ℕ) → Said
 
 -- what stands before the first space, and what stands behind it
@@ -118,6 +119,20 @@ said_to_reap args = option_map (λ (p : SiteKey). SaysReap p.0 p.1) (site_key_of
 abbrev pub said_to_evict : List ℕ → Option Said
 said_to_evict args = option_map (λ (p : SiteKey). SaysEvict p.0 p.1) (site_key_of args)
 
+-- a key, and a text behind it, which is the rest of the line
+abbrev pub KeyText : Type 0
+KeyText = List ℕ × List ℕ
+
+abbrev pub key_text_of : List ℕ × List ℕ → Option KeyText
+key_text_of args = option_and_then (λ k. option_map (λ t. (k, t)) (unescaped args.1)) (key_of args.0)
+
+abbrev pub fill_said : List ℕ × List ℕ → Option Said
+fill_said args = option_and_then (λ s. option_map (λ (p : KeyText). SaysFill s p.0 p.1) (option_and_then key_text_of (split_of args.1)))
+    (site_of args.0)
+
+abbrev pub said_to_fill : List ℕ → Option Said
+said_to_fill args = option_and_then fill_said (split_of args)
+
 abbrev pub said_by_name : List ℕ → List ℕ → Option Said
 said_by_name name args =
     if bytes_eq name (codes "client") then option_and_then client_said (split_of args)
@@ -130,7 +145,8 @@ said_by_name name args =
     else (if bytes_eq name (codes "versions") then option_map (λ s. SaysVersions s) (site_of args)
     else (if bytes_eq name (codes "at") then option_map (λ n. SaysAt n) (moment_of args)
     else (if bytes_eq name (codes "sites") then sites_said args
-    else None)))))))))
+    else (if bytes_eq name (codes "fill") then said_to_fill args
+    else None))))))))))
 
 -- what a line says, if it says something
 abbrev pub said : List ℕ → Option Said

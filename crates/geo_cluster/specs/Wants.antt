@@ -1,7 +1,7 @@
 -- Which lines memory may be wanted for.
 use Rattle.std.specs.Prelude.{◌≡◌, ℕ, ◌<◌, ◌||◌, Bool, true, false, List, ◌∷◌, length, Option, MatchOption, None, Some, codes, ◌⊎◌}
 use Rattle.std.specs.Str.{bytes_eq}
-use Rattle.geo_cluster.specs.Sayings.{Said, SaysSites, SaysAt, SaysClient, SaysSend, SaysTake, SaysTick, SaysRemove, SaysReap, SaysEvict, SaysVersions, said, skips, split_of}
+use Rattle.geo_cluster.specs.Sayings.{Said, SaysSites, SaysAt, SaysClient, SaysSend, SaysTake, SaysTick, SaysRemove, SaysReap, SaysEvict, SaysFill, SaysVersions, said, skips, split_of}
 use Rattle.geo_site.specs.declared.event.Event.{Event}
 use Rattle.geo_cluster.specs.Progress.{Progress, can_come}
 use Rattle.geo_cluster.specs.Effects.{can_carry}
@@ -19,6 +19,7 @@ grows (SaysTick s) = true
 grows (SaysRemove s) = true
 grows (SaysReap s key) = true
 grows (SaysEvict s key) = true
+grows (SaysFill s key bytes) = true
 grows (SaysVersions s) = true
 
 -- a line for which memory may be wanted: one that can be carried out, and for which something grows
@@ -42,7 +43,8 @@ ComesFor old event = (p : Progress) → Stands p old → can_come p event ≡ tr
 
 -- the name of a line that has a text or a key
 abbrev pub is_text_name : List ℕ → Bool
-is_text_name name = bytes_eq name (codes "client") || (bytes_eq name (codes "reap") || bytes_eq name (codes "evict"))
+is_text_name name =
+    bytes_eq name (codes "client") || (bytes_eq name (codes "reap") || (bytes_eq name (codes "evict") || bytes_eq name (codes "fill")))
 
 abbrev pub has_text_in : Option (List ℕ × List ℕ) → Bool
 has_text_in None = false

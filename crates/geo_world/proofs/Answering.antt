@@ -1,8 +1,11 @@
--- What a site does at a command, a tick and a reap: first a flush that is due, and then the rest; and at an eviction.
+-- What a site does at a command, a tick and a reap: first a flush that is due, and then the rest; and at an eviction and a fill.
 use Rattle.std.proofs.Common.{◌≡◌, ◌≢◌, ◌⊎◌, ℕ, zero, suc, ◌+◌, ◌≤◌, Bool, true, false, cond, nat_le, List, [], ◌∷◌, length, Option, None, Some, Ok, Err, refl, sym, ap, ◌∙◌, subst, subst₂, arith, slice_get, slice_set, inl, inr, true≢false}
 use Rattle.std.proofs.lemmas.List.{length-set}
 use Rattle.std.specs.Prelude.{is_some}
+use Rattle.std.specs.declared.alloc.AllocError.{AllocError}
+use Rattle.geo_values.specs.Stock.{is_full}
 use Rattle.geo_versions.specs.Maps.{has_register}
+use Rattle.geo_records.specs.declared.version.Version.{Version}
 use Rattle.geo_records.specs.Operations.{Act, latest, version_in, version_of}
 use Rattle.geo_records.specs.Operations.Act.{Delete}
 use Rattle.geo_delta.specs.declared.parcel.Parcel.{Parcel}
@@ -10,14 +13,18 @@ use Rattle.geo_grammar.specs.declared.request.Request.{Request}
 use Rattle.geo_grammar.specs.declared.reply.Reply.{Reply}
 use Rattle.geo_grammar.specs.declared.reply.Reply.TheVariants.{OutOfMemory}
 use Rattle.geo_site.specs.declared.site.Site.{Site}
-use Rattle.geo_site.specs.declared.event.Event.TheVariants.{Command, Evict, Remove, Tick, Reap}
-use Rattle.geo_site.specs.declared.event.Trace.TheVariants.{Replied, Evicted, Removed, Ticked, Reaped, ReapRefused}
+use Rattle.geo_site.specs.declared.event.Event.TheVariants.{Command, Evict, Remove, Tick, Reap, Fill}
+use Rattle.geo_site.specs.declared.event.Trace.TheVariants.{Replied, Evicted, Removed, Ticked, Reaped, ReapRefused, Filled as FilledAs, FillRefused}
 use Rattle.geo_site.specs.declared.refusal.ReapError.{ReapError}
 use Rattle.geo_site.specs.declared.refusal.ReapError.TheVariants.{ClockEnded, Memory}
-use Rattle.geo_site.specs.Entries.{Basis, Counts, Visible, entry_in, issued, accesses, counted, evicted_on, waits_after, flushes_due, is_stuck, is_reapable, reap_acts, lacks, Answers, is_done}
-use Rattle.geo_site.specs.Machine.{Same, removed, visible_in, IsRecordCount, IsHeldCount}
+use Rattle.geo_site.specs.Entries.{Basis, Counts, Visible, names, entry_in, issued, accesses, counted, evicted_on, waits_after, flushes_due, is_stuck, is_reapable, reap_acts, lacks, Answers, is_done}
+use Rattle.geo_site.specs.declared.fill.Filled.{Filled}
+use Rattle.geo_site.specs.declared.fill.Filled.TheVariants.{Done}
+use Rattle.geo_site.specs.Fills.{FillDoes, FillsAs, filled_in, is_filled, came}
+use Rattle.geo_site.proofs.Filling.{fills_as}
+use Rattle.geo_site.specs.Machine.{Same, class_for, with_stock, removed, visible_in, IsRecordCount, IsHeldCount}
 use Rattle.geo_site.specs.Sites.{state_in, basis_in, counts_in, waiting_in, clock_in, record_count, held_count, issued_in, victim_in, to_reap, reaped_in, Rests, Stays, HasIssued, HasIssuedAfter, FirstVictimFits, FlushDoes, RequestDoes, RequestDoesBy, ActDoes, TickDoes, ReapDoes, ReapResult, EvictDoes, RemoveDoes, heard_in, horizon_in}
-use Rattle.geo_site.specs.Schedule.{Known, Stable, StableAt, issues_on, issues_by, carries_out, evicts, visible, basis, flushed, reaps_on, happens, RepliesTo, RepliesBy, VictimOf, ReapRefusedFor, Lawful}
+use Rattle.geo_site.specs.Schedule.{Known, Stable, StableAt, issues_on, issues_by, carries_out, evicts, visible, basis, flushed, reaps_on, happens, RepliesTo, RepliesBy, VictimOf, ReapRefusedFor, FilledIn, fills, Lawful}
 use Rattle.geo_site.specs.Agreement.{UpTo}
 use Rattle.geo_site.proofs.Steps.{state_version, state_later, state_removes, state_same}
 use Rattle.geo_site.proofs.Records.{holds_more}
@@ -31,7 +38,7 @@ use Rattle.geo_world.specs.Bounds.{vectors, rows}
 use Rattle.std.proofs.lemmas.Bool.{cases_eq}
 use Rattle.geo_world.proofs.Worlds.{some_none}
 use Rattle.geo_site.proofs.Victims.{AreQuiet, one_quiet, request_goes, victim_fits}
-use Rattle.geo_world.proofs.Changing.{reached_stable, agrees_changed, count_same, agrees_still, agrees_acts, agrees_carried, agrees_flushed, agrees_evicted, agrees_missing}
+use Rattle.geo_world.proofs.Changing.{reached_stable, agrees_changed, count_same, agrees_still, agrees_acts, agrees_carried, agrees_flushed, agrees_evicted, agrees_missing, agrees_filled}
 
 -- an element that is written twice
 pub set_twice : {A : Type 0} (xs : List A) (k : ℕ) (x y : A) → slice_set (slice_set xs k x) k y ≡ slice_set xs k y
@@ -234,6 +241,32 @@ module _ (sites : List Site) (parcels : List Parcel) (w : Known) (agrees : Agree
           let st = agrees.each k s old at_number got in
           agrees_evicted sites parcels w agrees k s at_number hi old new got does.stays key done does (evicted_on (Some key) (w.counts s)) (does.counts ∙ ap Counted e ∙ ap (evicted_on (Some key)) st.counts)
       by false e = agrees_missing sites parcels w agrees k s at_number hi old new got does.stays key done does (none_held (w.held s key) (sym (does.told ∙ ap is_some ((agrees.each k s old at_number got).state.same_held key)) ∙ e)) (does.counts ∙ ap Counted e)
+
+-- ---- bytes that are offered
+module _ (sites : List Site) (parcels : List Parcel) (w : Known) (agrees : Agrees sites parcels w) (k s : ℕ) (at_number : s ≡ k + 1) (hi : s ≤ length sites) (old new : Site) (got : slice_get sites k ≡ Some old)
+    (key bytes : List ℕ) where
+  filled_known : (filled : Filled) → filled ≡ filled_in (state_in old) key bytes → FilledIn w s key bytes filled
+  filled_known filled is =
+      let st = agrees.each k s old at_number got in
+      let version : version_in ((state_in old).map key) ≡ version_of (w.at s) key = state_version (length sites) s st.horizon (state_in old) (w.at s) (w.held s) key st.state in
+      subst₂ (λ (v : Option Version) (o : Option (List ℕ)). FillsAs (names v bytes) (is_some o) filled) version (st.state.same_held key)
+      (fills_as (names (version_in ((state_in old).map key)) bytes) (is_some ((state_in old).stock.held key)) (is_full (state_in old).stock (class_for (length bytes))) filled is)
+
+  pub fill_lawful : (filled : Filled) → FillDoes old new key bytes (Ok filled) → Lawful w (Fill s key bytes) (FilledAs filled)
+  fill_lawful filled does = filled_known filled does.does.0
+
+  pub fill_refused_lawful : (refused : AllocError) → FillDoes old new key bytes (Err refused) → Lawful w (Fill s key bytes) FillRefused
+  fill_refused_lawful refused does = filled_known Done (sym does.does.0)
+
+  pub fill_agrees : (filled : Filled) → FillDoes old new key bytes (Ok filled) → Agrees (slice_set sites k new) parcels (happens w (Fill s key bytes) (FilledAs filled))
+  fill_agrees filled does = by (is_filled filled) does.does.1
+    where
+      by : (t : Bool) → Same (with_stock (cond t (came key bytes (state_in old).stock) (state_in old).stock) (state_in old)) (state_in new) → Agrees (slice_set sites k new) parcels (cond t (fills w s key bytes) w)
+      by true same = agrees_filled sites parcels w agrees k s at_number hi old new got does.stays key bytes same does.rests
+      by false same = agrees_still sites parcels w agrees k s at_number hi old new got does.stays same does.rests
+
+  pub fill_refused_agrees : (refused : AllocError) → FillDoes old new key bytes (Err refused) → Agrees (slice_set sites k new) parcels (happens w (Fill s key bytes) FillRefused)
+  fill_refused_agrees refused does = agrees_still sites parcels w agrees k s at_number hi old new got does.stays does.does.1 does.rests
 
 -- ---- a removal
 module _ (sites : List Site) (parcels : List Parcel) (w : Known) (agrees : Agrees sites parcels w) (k s : ℕ) (at_number : s ≡ k + 1) (hi : s ≤ length sites) (old new : Site) (got : slice_get sites k ≡ Some old) where

@@ -10,9 +10,11 @@ use Rattle.geo_delta.specs.declared.parcel.Parcel.{Parcel}
 use Rattle.geo_site.specs.declared.site.Site.{Site}
 use Rattle.geo_site.specs.declared.setup.Limits.{Limits}
 use Rattle.geo_site.specs.Entries.{Held, Counts, flushes_due, due_acts, waits_on}
-use Rattle.geo_site.specs.Machine.{SiteState, Same, issue, issue_all, accessed, act_held, without, victim_by, IsCount}
+use Rattle.geo_site.specs.Machine.{SiteState, Same, with_stock, issue, issue_all, accessed, act_held, without, victim_by, IsCount}
 use Rattle.geo_site.specs.Sites.{state_in, heard_in, counts_in, waiting_in, clock_in, HasIssued, HasIssuedAfter, Stays, Rests, FlushDoes, EvictDoes}
-use Rattle.geo_site.specs.Schedule.{Known, StableAt, still_held, settles, new_operation, issues, counts_keys, lets_go, waits, flushed}
+use Rattle.geo_site.specs.Schedule.{Known, StableAt, still_held, settles, new_operation, issues, counts_keys, lets_go, waits, flushed, held_with, fills}
+use Rattle.geo_site.specs.Fills.{came}
+use Rattle.geo_site.proofs.Filling.{came_held}
 use Rattle.geo_stamp.specs.Stamps.{Moment}
 use Rattle.geo_site.specs.Agreement.{Holds, UpTo, Spans, StateOf}
 use Rattle.geo_site.proofs.Sound.{here, there, held_here, held_there}
@@ -118,6 +120,11 @@ left_here w s victim = put_here w.held s (without victim (w.held s))
 
 pub left_there : (w : Known) (s : ℕ) (victim : Option (List ℕ)) (t : ℕ) → t ≢ s → about (lets_go w s victim) t ≡ about w t
 left_there w s victim t ne = let other = put_there w.held s (without victim (w.held s)) t ne in
+    λ i. record { ops = w.at t; held = other i; counts = w.counts t; waiting = w.waiting t; limits = w.limits t }
+
+-- bytes that come to a site come to no other
+pub filled_there : (w : Known) (s : ℕ) (key bytes : List ℕ) (t : ℕ) → t ≢ s → about (fills w s key bytes) t ≡ about w t
+filled_there w s key bytes t ne = let other = put_there w.held s (held_with key bytes (w.held s)) t ne in
     λ i. record { ops = w.at t; held = other i; counts = w.counts t; waiting = w.waiting t; limits = w.limits t }
 
 -- where none go all is as it was
@@ -302,6 +309,23 @@ module _ (sites : List Site) (parcels : List Parcel) (w : Known) (agrees : Agree
         let st = agrees.each k s old at_number got in
         agrees_left st [] [] None w (subst (λ (h : Held). StateOf (length sites) s st.horizon (state_in new) (w.at s) h) (without_missing (w.held s) key none) (dropped_state st))
         does.left.vector refl (counts ∙ st.counts) (does.waiting ∙ st.waiting) refl (λ t ne. sym (left_there w s None t ne)) refl refl
+
+  -- bytes come, and nothing else changes
+  module _ (key bytes : List ℕ) (same : Same (with_stock (came key bytes (state_in old).stock) (state_in old)) (state_in new)) where
+    filled_state : (st : Stands (length sites) s old (about w s)) → StateOf (length sites) s st.horizon (state_in new) (w.at s) (held_with key bytes (w.held s))
+    filled_state st = record {
+      many = ap length same.vector ∙ st.state.many;
+      tells = subst₂ (λ (v : List ℕ) (f : Option Moment). Spans s v f (w.at s)) (sym same.vector) (sym same.floor) st.state.tells;
+      behind = st.state.behind;
+      holds = λ q. subst (λ (m : Record). Holds (UpTo st.horizon) m (w.at s) q) (sym (same.map q)) (st.state.holds q);
+      same_held = λ q. same.stock.held q ∙ came_held key bytes (state_in old).stock q ∙ ap (λ (o : Option (List ℕ)). cond (same_key q key) (Some bytes) o) (st.state.same_held q);
+    }
+
+    pub agrees_filled : Rests old new → Agrees (slice_set sites k new) parcels (fills w s key bytes)
+    agrees_filled rests =
+        let st = agrees.each k s old at_number got in
+        agrees_left st [] [] None (fills w s key bytes) (subst (λ (h : Held). StateOf (length sites) s st.horizon (state_in new) (w.at s) h) (sym (put_here w.held s (held_with key bytes (w.held s)))) (filled_state st))
+        same.vector refl (rests.0 ∙ st.counts) (rests.1 ∙ st.waiting) refl (λ t ne. filled_there w s key bytes t ne ∙ sym (left_there w s None t ne)) refl refl
 
 -- ---- what a site heard all others know, all know
 pub reached_stable : (sites : List Site) (parcels : List Parcel) (w : Known) → Agrees sites parcels w → (k s : ℕ) → s ≡ k + 1 → s ≤ length sites → (site : Site) → slice_get sites k ≡ Some site

@@ -13,6 +13,9 @@ use Rattle.geo_site.specs.declared.event.Event.TheVariants.{Command, Tick, Reap}
 use Rattle.geo_site.specs.declared.event.Trace.TheVariants.{Replied, Ticked, Reaped, ReapRefused}
 use Rattle.geo_site.specs.declared.refusal.ReapError.{ReapError}
 use Rattle.geo_site.specs.declared.refusal.ReapError.TheVariants.{ClockEnded, Memory}
+use Rattle.std.specs.declared.alloc.AllocError.{AllocError}
+use Rattle.geo_site.specs.declared.fill.Filled.{Filled}
+use Rattle.geo_site.specs.Fills.{FillDoes, after_fill}
 use Rattle.geo_site.specs.Entries.{issued, accesses, due_acts, is_stuck, is_done}
 use Rattle.geo_site.specs.Machine.{SiteState, Same, fresh, issue, issue_all, accessed, take, removed, sifted_delta, visible_in, IsRecordCount}
 use Rattle.geo_site.specs.Sites.{state_in, heard_in, horizon_in, delta_of, clock_in, waiting_in, HasIssued, HasIssuedAfter, FlushDoes, RequestDoes, RequestDoesBy, ActDoes, TickDoes, ReapDoes, ReapResult, RemoveDoes, EvictDoes, IsSent}
@@ -103,6 +106,12 @@ module _ (sites : List Site) (parcels : List Parcel) (all : Tables) (keep : Keep
 
   pub keep_evict : (key : List ℕ) (done : Bool) → EvictDoes old new key done → Keep (slice_set sites k new) parcels all
   keep_evict key done does = keep_same (table_same (heard_in old) (heard_in new) _ (state_in new) does.stays.2 does.left)
+
+  pub keep_fill : (key bytes : List ℕ) (filled : Filled) → FillDoes old new key bytes (Ok filled) → Keep (slice_set sites k new) parcels all
+  keep_fill key bytes filled does = keep_same (table_same (heard_in old) (heard_in new) (after_fill filled key bytes (state_in old)) (state_in new) does.stays.2 does.does.1)
+
+  pub keep_not_filled : (key bytes : List ℕ) (refused : AllocError) → FillDoes old new key bytes (Err refused) → Keep (slice_set sites k new) parcels all
+  keep_not_filled key bytes refused does = keep_still does.stays.2 does.does.1
 
   pub keep_taken : (p : ℕ) (parcel : Parcel) → slice_get parcels p ≡ Some parcel → old.number ≡ s → Same (take old.number (sifted_delta (horizon_in old) (delta_of parcel)) (state_in old)) (state_in new) → heard_in new ≡ heard (heard_in old) parcel.from parcel.upto
       → Keep (slice_set sites k new) parcels (keeps all s (take_at s (slice_index_or all.sent p brings_nothing) (all.at s)))

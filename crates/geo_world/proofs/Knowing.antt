@@ -5,7 +5,7 @@ use Rattle.geo_records.specs.Operations as spec
 use Rattle.geo_stamp.specs.Stamps.{Moment}
 use Rattle.geo_site.specs.Entries.{Held, named_by, entry_in}
 use Rattle.geo_site.specs.Machine.{act_held, without}
-use Rattle.geo_site.specs.Schedule.{still_held}
+use Rattle.geo_site.specs.Schedule.{still_held, held_with}
 use Rattle.geo_world.specs.declared.plain.operation.Operation.{Operation}
 use Rattle.geo_world.specs.declared.plain.operation.Written.{Written}
 use Rattle.geo_world.specs.declared.plain.operation.Act.{Act}
@@ -36,6 +36,14 @@ pub knows_wrote : (old new : Knowledge) (w : Written) (key bytes : List ℕ) →
 knows_wrote old new w own bytes own_is bytes_are same more ops held k = record {
   operations = ap (λ v. operations_of v.items) same ∙ k.operations;
   holds = λ key. ap (held_after key None) more ∙ held_more key None old.changes.items (Wrote own bytes) ∙ (λ i. after (Wrote (own_is i) (bytes_are i)) key (k.holds key i));
+}
+
+-- a site holds bytes that were offered
+pub knows_filled : (old new : Knowledge) (own key given bytes : List ℕ) → own ≡ key → given ≡ bytes → new.ops ≡ old.ops → new.changes.items ≡ old.changes.items ++ Wrote own given ∷ []
+    → (ops : List spec.Operation) (held : Held) → Knows old ops held → Knows new ops (held_with key bytes held)
+knows_filled old new own key given bytes own_is bytes_are same more ops held k = record {
+  operations = ap (λ v. operations_of v.items) same ∙ k.operations;
+  holds = λ q. ap (held_after q None) more ∙ held_more q None old.changes.items (Wrote own given) ∙ (λ i. after (Wrote (own_is i) (bytes_are i)) q (k.holds q i));
 }
 
 -- a site evicts the bytes of a key

@@ -11,7 +11,7 @@ use Rattle.geo_grammar.specs.declared.reply.Reply.TheVariants.{MapFull, ClockEnd
 use Rattle.geo_site.specs.declared.setup.Limits.{Limits}
 use Rattle.geo_site.specs.Entries.{Held, Counts, none_counted, evicted_on, replied, is_crowded, lacks, is_done, flushes_due}
 use Rattle.geo_site.specs.Machine.{act_held, without}
-use Rattle.geo_site.specs.Schedule.{Known, nothing_known, settles, still_held, new_operation, issues, issues_on, counts_keys, lets_go, evicts, waits, flushed, visible, basis, RepliesTo, RepliesBy, learns, carried}
+use Rattle.geo_site.specs.Schedule.{Known, nothing_known, settles, still_held, new_operation, issues, issues_on, counts_keys, lets_go, evicts, held_with, fills, waits, flushed, visible, basis, RepliesTo, RepliesBy, learns, carried}
 use Rattle.geo_site.proofs.Sound.{here, held_here}
 use Rattle.geo_world.specs.declared.plain.operation.Operation.{Operation}
 use Rattle.geo_world.specs.declared.plain.knowledge.Knowledge.{Knowledge}
@@ -19,7 +19,7 @@ use Rattle.geo_world.specs.Agreement.{SiteKnown, about}
 use Rattle.geo_world.specs.Plain.{operations_of, stamped, held_after, sent_of, Knows, KeepsCounts, counts_of, shown, Meets}
 use Rattle.geo_world.proofs.Knowing.{shown_is}
 use Rattle.geo_world.proofs.Worlds.{some_same, some_none, get_appended}
-use Rattle.geo_world.proofs.Changing.{get_written, settled_about, put_same, left_here, left_there, counts_here, counts_there, waits_here, waits_there}
+use Rattle.geo_world.proofs.Changing.{get_written, settled_about, put_here, put_same, filled_there, left_here, left_there, counts_here, counts_there, waits_here, waits_there}
 
 module _ (sites : List Knowledge) (sent : List (ℕ × List Operation)) (w : Known) (meets : Meets sites sent w) where
   -- all sites are as they were
@@ -108,6 +108,13 @@ module _ (sites : List Knowledge) (sent : List (ℕ × List Operation)) (w : Kno
           meets_changed new (evicts w s key) (subst (Knows new (w.at s)) (sym (left_here w s (Some key))) (left (w.at s) (w.held s) (meets.each k s old at_number got)))
           (counts ∙ ap (evicted_on (Some key)) (meets.counted k s old at_number got) ∙ sym (counts_here u s c)) (waiting ∙ meets.waits k s old at_number got) (reap_after ∙ meets.reaps k s old at_number got)
           (λ t ne. counts_there u s c t ne ∙ left_there w s (Some key) t ne) refl
+
+      -- it holds bytes that were offered
+      pub meets_filled : (new : Knowledge) (key bytes : List ℕ) → ((ops : List spec.Operation) (held : Held) → Knows old ops held → Knows new ops (held_with key bytes held)) → KeepsCounts old new → Meets (slice_set sites k new) sent (fills w s key bytes)
+      meets_filled new key bytes holds rests =
+          meets_changed new (fills w s key bytes) (subst (Knows new (w.at s)) (sym (put_here w.held s (held_with key bytes (w.held s)))) (holds (w.at s) (w.held s) (meets.each k s old at_number got)))
+          (rests.counts ∙ meets.counted k s old at_number got) (rests.waiting ∙ meets.waits k s old at_number got) (rests.reap_after ∙ meets.reaps k s old at_number got)
+          (λ t ne. filled_there w s key bytes t ne) refl
 
       -- it counts keys
       pub meets_counted : (new : Knowledge) (counts : Counts) → new.ops ≡ old.ops → new.changes ≡ old.changes → new.waiting ≡ old.waiting → new.reap_after ≡ old.reap_after → counts_of new ≡ counts → Meets (slice_set sites k new) sent (counts_keys w s counts)

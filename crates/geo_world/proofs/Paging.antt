@@ -1,26 +1,30 @@
 -- No event gives a site pages or takes any: a class gets one only from the spare ones.
-use Rattle.std.proofs.Common.{◌≡◌, ℕ, zero, suc, ◌+◌, ◌-◌, ◌<◌, ◌≤◌, Bool, true, false, cond, nat_eq, nat_le, List, [], ◌∷◌, length, Option, None, Some, Ok, Err, refl, sym, ap, ◌∙◌, subst, arith, inl, inr}
+use Rattle.std.proofs.Common.{◌≡◌, ℕ, zero, suc, ◌+◌, ◌-◌, ◌<◌, ◌≤◌, Bool, true, false, cond, ◌&&◌, true≢false, is_some, nat_eq, nat_le, List, [], ◌∷◌, length, Option, None, Some, Ok, Err, refl, sym, ap, ◌∙◌, subst, arith, inl, inr}
 use Rattle.std.specs.Option.{option_map_or}
 use Rattle.std.proofs.lemmas.Bool.{cases_eq}
 use Rattle.std.proofs.lemmas.Bool.Decides.{nat_tests, eqb_tells}
 use Rattle.geo_slabs.specs.Storage.{class_count, chunk_bytes}
-use Rattle.geo_records.specs.Operations.{Act}
+use Rattle.geo_records.specs.Operations.{Act, version_in}
 use Rattle.geo_records.specs.Operations.Act.{Write, Delete, Touch, Flush}
-use Rattle.geo_values.specs.Stock.{Stock, Same as SameStock, first_stock, dropped, evicted_from, with_page_of, with_room, is_used_up}
+use Rattle.geo_values.specs.Stock.{Stock, Same as SameStock, first_stock, dropped, evicted_from, with_page_of, with_room, with_chunk, is_used_up, is_full}
 use Rattle.geo_lru.specs.Rules.{victim_of}
 use Rattle.geo_site.specs.declared.site.Site.{Site}
 use Rattle.geo_site.specs.declared.setup.Setup.{Setup}
 use Rattle.geo_site.specs.declared.event.Event.{Event}
-use Rattle.geo_site.specs.declared.event.Event.TheVariants.{Command, Evict, Send, Take, Remove, Tick, Reap}
+use Rattle.geo_site.specs.declared.event.Event.TheVariants.{Command, Evict, Send, Take, Remove, Tick, Reap, Fill}
 use Rattle.geo_site.specs.declared.event.Trace.{Trace}
-use Rattle.geo_site.specs.declared.event.Trace.TheVariants.{Replied, Evicted, Taken, TakeRefused, Removed, Ticked, Reaped, ReapRefused}
+use Rattle.geo_site.specs.declared.event.Trace.TheVariants.{Replied, Evicted, Taken, TakeRefused, Removed, Ticked, Reaped, ReapRefused, Filled as FilledAs, FillRefused}
 use Rattle.geo_site.specs.declared.refusal.ReapError.{ReapError}
 use Rattle.geo_site.specs.declared.refusal.ReapError.TheVariants.{ClockEnded, Memory}
 use Rattle.geo_grammar.specs.declared.request.Request.{Request}
 use Rattle.geo_grammar.specs.declared.reply.Reply.{Reply}
 use Rattle.std.specs.Prelude.{Result}
-use Rattle.geo_site.specs.Entries.{is_done, is_stuck, due_acts, accesses}
+use Rattle.geo_site.specs.Entries.{names, is_done, is_stuck, due_acts, accesses}
 use Rattle.geo_site.specs.Machine.{SiteState, fresh, Same, visible_in, with_stock, take, sifted_delta, removed, class_from, class_for, act_stock, hit_all, accessed, issue, issue_all}
+use Rattle.geo_site.specs.declared.fill.Filled.{Filled}
+use Rattle.geo_site.specs.declared.fill.Filled.TheVariants.{NotNamed, Full, Done}
+use Rattle.geo_site.specs.declared.fill.Filled.TheVariants as filled
+use Rattle.geo_site.specs.Fills.{after_fill, filled_in, filled_by}
 use Rattle.geo_site.specs.Sites.{state_in, waiting_in, clock_in, issued_in, reaped_in, horizon_in, delta_of, HasIssuedAfter, FlushDoes, RequestDoes, RequestDoesBy, ReapResult}
 use Rattle.geo_world.specs.Doing.{pages_below, pages_of, DoesThere, DoesAlone, EachAlone, EachOpens, HavePages, site_of}
 use Rattle.geo_world.proofs.Worlds.{some_same}
@@ -140,6 +144,37 @@ reap_pages old new now key (Ok done) does = issues_pages [] old new (reaped_in o
 reap_pages old new now key (Err ClockEnded) does = same_pages (state_in old) (state_in new) does.1
 reap_pages old new now key (Err Memory) does = absurd does
 
+chunk_pages : (class : ℕ) (s : Stock) → class < class_count → is_full s class ≡ false → pages_of (with_chunk class s) ≡ pages_of s
+chunk_pages class s lt room = by (is_used_up s class) (nat_eq s.spare 0) refl room
+  where
+    by : (used none : Bool) → nat_eq s.spare 0 ≡ none → (used && none) ≡ false → pages_of (cond used (with_page_of class s) s) ≡ pages_of s
+    by false none e room = refl
+    by true false e room = page_pages class s lt e
+    by true true e room = absurd (true≢false room)
+
+-- bytes come only where their class is not full
+has_room : (named held full : Bool) → Done ≡ filled_by named held full → full ≡ false
+has_room true false false e = refl
+has_room true false true e = absurd (done_apart_full e)
+  where
+    done_apart_full : Done ≡ Full → ⊥
+    done_apart_full e = cc
+has_room true true full e = absurd (done_apart_held e)
+  where
+    done_apart_held : Done ≡ filled.Held → ⊥
+    done_apart_held e = cc
+has_room false held full e = absurd (done_apart_unnamed e)
+  where
+    done_apart_unnamed : Done ≡ NotNamed → ⊥
+    done_apart_unnamed e = cc
+
+fill_pages : (filled : Filled) (st : SiteState) (key bytes : List ℕ) → filled ≡ filled_in st key bytes → pages_of (after_fill filled key bytes st).stock ≡ pages_of st.stock
+fill_pages NotNamed st key bytes is = refl
+fill_pages filled.Held st key bytes is = refl
+fill_pages Full st key bytes is = refl
+fill_pages Done st key bytes is = chunk_pages (class_for (length bytes)) st.stock (class_below (length bytes))
+    (has_room (names (version_in (st.map key)) bytes) (is_some (st.stock.held key)) (is_full st.stock (class_for (length bytes))) is)
+
 there_pages : (old new : Site) (event : Event) (trace : Trace) → DoesThere old new event trace → KeepsPages old new
 there_pages old new (Command site now request) (Replied reply victim) c =
     let act = c.does in
@@ -152,6 +187,8 @@ there_pages old new (Remove site) (Removed horizon count) does = same_pages (rem
 there_pages old new (Tick site now) (Ticked done) does = flush_pages old new now does.flush
 there_pages old new (Reap site now key) (Reaped done) does = reap_pages does.mid new now key (Ok done) does.does ∙ flush_pages old does.mid now does.flush
 there_pages old new (Reap site now key) (ReapRefused why) does = reap_pages does.mid new now key (Err why) does.does ∙ flush_pages old does.mid now does.flush
+there_pages old new (Fill site key bytes) (FilledAs filled) does = same_pages (after_fill filled key bytes (state_in old)) (state_in new) does.does.1 ∙ fill_pages filled (state_in old) key bytes does.does.0
+there_pages old new (Fill site key bytes) FillRefused does = same_pages (state_in old) (state_in new) does.does.does.1
 there_pages old new event trace does = absurd does
 
 -- ---- all sites

@@ -13,7 +13,7 @@ use Rattle.geo_site.specs.Schedule.{Known, StableAt, happens, Lawful}
 use Rattle.geo_site.specs.declared.setup.Setup.{Setup}
 use Rattle.geo_site.specs.declared.setup.Limits.{Limits}
 use Rattle.geo_site.specs.declared.event.Event.{Event}
-use Rattle.geo_site.specs.declared.event.Event.TheVariants.{Command, Evict, Send, Take, Remove, Tick, Reap}
+use Rattle.geo_site.specs.declared.event.Event.TheVariants.{Command, Evict, Send, Take, Remove, Tick, Reap, Fill}
 use Rattle.geo_site.specs.declared.event.Trace.{Trace}
 use Rattle.geo_site.specs.Agreement.{StateOf, DeltaOf}
 use Rattle.geo_world.specs.declared.outcome.WorldError.{WorldError}
@@ -117,6 +117,7 @@ moves_parcel (Take site parcel) = true
 moves_parcel (Remove site) = false
 moves_parcel (Tick site now) = false
 moves_parcel (Reap site now key) = false
+moves_parcel (Fill site key bytes) = false
 
 -- what a step does, by its result: it is lawful and keeps the agreement; or its event is not there, or memory was wanted for a parcel,
 -- and the world is as it was

@@ -2,6 +2,7 @@
 use Rattle.std.specs.Prelude.{Ok, Err, ◌≡◌, ◌≢◌, ℕ, zero, suc, ◌+◌, true, cond, List, [], ◌∷◌, length, Option, Some, None, slice_get}
 use Rattle.geo_records.specs.Operations.{Act}
 use Rattle.geo_records.specs.Operations.Act.{Write, Delete, Touch, Flush}
+use Rattle.std.specs.declared.alloc.AllocError.{AllocError}
 use Rattle.geo_slabs.specs.Storage.{class_count}
 use Rattle.geo_values.specs.Stock.{Stock, dropped, is_full}
 use Rattle.geo_delta.specs.declared.parcel.Parcel.{Parcel}
@@ -12,10 +13,11 @@ use Rattle.geo_site.specs.declared.setup.Setup.{Setup}
 use Rattle.geo_site.specs.declared.exchange.Taken.{Taken as TakenOf}
 use Rattle.geo_site.specs.declared.exchange.Refused.{Refused as RefusedOf}
 use Rattle.geo_site.specs.declared.event.Event.{Event}
-use Rattle.geo_site.specs.declared.event.Event.TheVariants.{Command, Evict, Send, Take, Remove, Tick, Reap}
+use Rattle.geo_site.specs.declared.event.Event.TheVariants.{Command, Evict, Send, Take, Remove, Tick, Reap, Fill}
 use Rattle.geo_site.specs.declared.event.Trace.{Trace}
-use Rattle.geo_site.specs.declared.event.Trace.TheVariants.{Replied, Evicted, Taken, TakeRefused, Removed, Ticked, Reaped, ReapRefused}
+use Rattle.geo_site.specs.declared.event.Trace.TheVariants.{Replied, Evicted, Taken, TakeRefused, Removed, Ticked, Reaped, ReapRefused, Filled, FillRefused}
 use Rattle.geo_site.specs.Entries.{is_done}
+use Rattle.geo_site.specs.Fills.{FillDoes}
 use Rattle.geo_site.specs.Machine.{class_for}
 use Rattle.geo_site.specs.Sites.{state_in, victim_in, issued_in, horizon_in, ActDoes, EvictDoes, TakeDoes, RemoveDoes, TickDoes, ReapDoes, OpenDoes}
 
@@ -45,6 +47,11 @@ pub record RefusesOne (old new : Site) : Type 0 where
   pub refused : RefusedOf
   pub does : TakeDoes old new parcel (Err refused)
 
+-- what a site makes of bytes that it would hold, where memory is wanted for that
+pub record RefusesFill (old new : Site) (key bytes : List ℕ) : Type 0 where
+  pub refused : AllocError
+  pub does : FillDoes old new key bytes (Err refused)
+
 -- what an event makes of its site
 abbrev pub DoesThere : Site → Site → Event → Trace → Type 0
 DoesThere old new (Command site now request) (Replied reply victim) = Commands old new now request reply victim
@@ -56,6 +63,8 @@ DoesThere old new (Remove site) (Removed horizon count) = (horizon ≡ horizon_i
 DoesThere old new (Tick site now) (Ticked done) = TickDoes old new now done
 DoesThere old new (Reap site now key) (Reaped done) = ReapDoes old new now key (Ok done)
 DoesThere old new (Reap site now key) (ReapRefused why) = ReapDoes old new now key (Err why)
+DoesThere old new (Fill site key bytes) (Filled filled) = FillDoes old new key bytes (Ok filled)
+DoesThere old new (Fill site key bytes) FillRefused = RefusesFill old new key bytes
 DoesThere old new event trace = ⊥
 
 -- the site of an event
@@ -67,6 +76,7 @@ site_of (Take site parcel) = site
 site_of (Remove site) = site
 site_of (Tick site now) = site
 site_of (Reap site now key) = site
+site_of (Fill site key bytes) = site
 
 -- an event does so at its site, and changes no other
 pub record DoesAlone (old new : List Site) (event : Event) (trace : Trace) : Type 0 where

@@ -25,8 +25,11 @@ pub(crate) fn is_in_time_event(event: &Event) -> bool
         Event::Command { now, .. } | Event::Tick { now, .. } | Event::Reap { now, .. } => {
             *now <= LAST_MOMENT
         }
-        Event::Evict { .. } | Event::Send { .. } | Event::Take { .. } | Event::Remove { .. } =>
-            true,
+        Event::Evict { .. }
+        | Event::Send { .. }
+        | Event::Take { .. }
+        | Event::Remove { .. }
+        | Event::Fill { .. } => true,
     }
 }
 
@@ -37,11 +40,12 @@ pub fn are_in_time(events: &[Event]) -> bool
     events.iter().all(is_in_time_event)
 }
 
-/// Runs a schedule: any list of commands, evictions, sends, takes, removals, ticks and reaps over the sites that the setups make,
-/// in which a parcel may be taken never, often and in any order. An eviction drops the bytes of a key at one site, a removal what
+/// Runs a schedule: any list of commands, evictions, sends, takes, removals, ticks, reaps and fills over the sites that the setups
+/// make, in which a parcel may be taken never, often and in any order. An eviction drops the bytes of a key at one site, a removal what
 /// is left of keys that every site knows to be deleted, a tick carries out a flush that waits and is due, and a reap deletes what a
 /// site wrote itself and ended long ago: they are events like the others, and come when the schedule says. A store evicts by itself
-/// where its slab class is full, and its trace tells which key.
+/// where its slab class is full, and its trace tells which key. A fill offers a site bytes of a key, any at all: it holds them where its
+/// version names their SHA-256 and length, it has none, and their class has room.
 ///
 /// Whatever the schedule, each event has a trace that it can have: each reply is plain memcached's over what its site then
 /// holds, or the refusal that is due; a store evicts no key but another one of which bytes of the same class were held; a
@@ -50,7 +54,7 @@ pub fn are_in_time(events: &[Event]) -> bool
 ///
 /// In the end sites and parcels are what is known along the schedule. Each site's floor and versions are those of the operations
 /// that it knows, whatever was evicted, so that sites which know the same operations hold equal versions. Bytes in a reply are what
-/// the operation wrote whose stamp the version has, unless two values that were written have one SHA-256.
+/// the operation wrote whose stamp the version has, unless two values that were written or offered have one SHA-256.
 ///
 /// Each event does at its site what that site's own call says, and changes no other: bytes go by themselves only where their slab
 /// class is full, and each site keeps the pages that its setup tells.
@@ -77,7 +81,7 @@ pub fn run_schedule(
         → slice_get o.sites.items k ≡ Some other
         → SameOperations ((known (start setups.items) events.now o.traces.items).at (j + 1))
         ((known (start setups.items) events.now o.traces.items).at (k + 1)) → SameVersions one other) }
-    ensures served { IfOk result (λ o. NoCollision (known (start setups.items) events.now o.traces.items)
+    ensures served { IfOk result (λ o. NoCollision (known (start setups.items) events.now o.traces.items) events.now
         → AllServe (start setups.items) events.now o.traces.items) }
     ensures alone { IfOk result (λ o. RunsAlone setups.items events.now o.traces.items o.sites.items) }
     ensures pages { IfOk result (λ o. HavePages setups.items o.sites.items) }

@@ -8,9 +8,10 @@ ghost use Rattle.geo_world.specs.Tables.{TabledIn};
 use crate::outcome::WorldError;
 use crate::there::is_at_hand;
 use crate::world::World;
-use geo_grammar::{Reply, Request};
+use geo_grammar::{Reply, Request, ValueBytes};
 use geo_lattice::Twin;
 use geo_site::{Event, Trace};
+use geo_values::Blob;
 use geo_versions::Key;
 use std::alloc::{AllocError, Global};
 
@@ -91,6 +92,23 @@ impl World {
         }
     }
 
+    /// Bytes that are offered are held where the site has none and names them.
+    fn fill(&mut self, alloc: Global, site: u8, key: &Key, bytes: &ValueBytes) -> Trace
+        requires there { is_site (length self.old.sites.items) site ≡ true }
+        ensures lawful { HasLawfulTrace self.old (Event.Fill site key.now bytes.now) result }
+        ensures kept { LeadsOn self.old self.new (Event.Fill site key.now bytes.now) result }
+        ensures alone { DoesAlone self.old.sites.items self.new.sites.items (Event.Fill site key.now bytes.now) result }
+        ensures tables { TabledIn self.old self.new (Event.Fill site key.now bytes.now) result }
+        ensures as_many { length self.new.sites.items ≡ length self.old.sites.items }
+    {
+        let blob = Blob::known(bytes.as_slice(), bytes.digest());
+        let at = &mut self.sites[site as usize - 1];
+        match at.fill(alloc, key, &blob) {
+            Ok(filled) => Trace::Filled(filled),
+            Err(_) => Trace::FillRefused,
+        }
+    }
+
     fn send(&mut self, alloc: Global, site: u8, to: u8) -> Result<Trace, AllocError>
         requires there { is_site (length self.old.sites.items) site ≡ true }
         requires to_there { is_site (length self.old.sites.items) to ≡ true }
@@ -161,6 +179,7 @@ impl World {
             Event::Remove { site } => Ok(self.remove(*site)),
             Event::Tick { site, now } => Ok(self.tick(*site, *now)),
             Event::Reap { site, now, key } => Ok(self.reap(alloc, *site, *now, key)),
+            Event::Fill { site, key, bytes } => Ok(self.fill(alloc, *site, key, bytes)),
         }
     }
 }

@@ -20,6 +20,7 @@ pub(crate) fn is_at_hand(sites: usize, parcels: usize, event: &Event) -> bool
         | Event::Evict { site, .. }
         | Event::Remove { site }
         | Event::Tick { site, .. }
+        | Event::Fill { site, .. }
         | Event::Reap { site, .. } => has_site(sites, *site),
         Event::Send { site, to } => has_site(sites, *site) && has_site(sites, *to),
         Event::Take { site, parcel } => has_site(sites, *site) && *parcel < parcels,

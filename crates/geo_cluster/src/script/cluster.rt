@@ -8,6 +8,7 @@ use crate::script::connection::Connection;
 use crate::script::line::ScriptLine;
 use crate::script::listing::versions_lines;
 use crate::script::setups::{connections, opened, told};
+use geo_grammar::ValueBytes;
 use geo_site::Event;
 use geo_world::World;
 use std::alloc::{AllocError, Global};
@@ -82,6 +83,10 @@ impl Cluster {
             ScriptLine::Remove { site } => self.happen(alloc, Event::Remove { site }),
             ScriptLine::Reap { site, key } => self.happen(alloc, Event::Reap { site, now, key }),
             ScriptLine::Evict { site, key } => self.happen(alloc, Event::Evict { site, key }),
+            ScriptLine::Fill { site, key, text } => {
+                let bytes = ValueBytes::of(text);
+                self.happen(alloc, Event::Fill { site, key, bytes })
+            }
             ScriptLine::Versions { site } => self.versions(alloc, site),
         }
     }

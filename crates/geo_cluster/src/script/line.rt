@@ -47,6 +47,12 @@ pub enum ScriptLine {
         site: u8,
         key: Key,
     },
+    /// A site is offered these bytes of a key.
+    Fill {
+        site: u8,
+        key: Key,
+        text: Vec<u8>,
+    },
     /// What a site knows is printed.
     Versions {
         site: u8,

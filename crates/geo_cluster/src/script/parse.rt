@@ -2,7 +2,7 @@
 ghost use Rattle.std.specs.Prelude.{◌≡◌, ◌≤◌, None, Some, true, MatchOption, IfErr, IfOk, IfSome, option_copied};
 ghost use Rattle.std.specs.Option.{option_map, option_and_then, is_some};
 ghost use Rattle.geo_cluster.specs.Numbers.{ranged_of};
-ghost use Rattle.geo_cluster.specs.Sayings.{split_of, site_of, moment_of, parcel_of, key_of, front_number, option_number, client_said, send_said, sites_said, take_said, site_key_of, said_to_reap, said_to_evict, said, skips, SaysAt, SaysTick, SaysRemove, SaysVersions};
+ghost use Rattle.geo_cluster.specs.Sayings.{split_of, site_of, moment_of, parcel_of, key_of, front_number, option_number, client_said, send_said, sites_said, take_said, site_key_of, said_to_reap, said_to_evict, key_text_of, said_to_fill, said, skips, SaysAt, SaysTick, SaysRemove, SaysVersions};
 ghost use Rattle.geo_cluster.specs.Reads.{said_by, IsInRange};
 ghost use Rattle.geo_cluster.specs.Wants.{has_text, CarriesAt};
 
@@ -168,6 +168,38 @@ fn evict_line(alloc: Global, args: &[u8]) -> Result<Option<ScriptLine>, AllocErr
     Ok(Some(ScriptLine::Evict { site, key }))
 }
 
+/// The key that is spelled at the front of a text, and the text behind it.
+fn key_and_text(alloc: Global, args: &[u8]) -> Result<Option<(Key, Vec<u8>)>, AllocError>
+    ensures { IfOk result (λ o. option_map (λ p. (p.0, p.1.items)) o ≡ option_and_then key_text_of (split_of args.now)) }
+{
+    let Some((key, text)) = split_at(b' ', args) else {
+        return Ok(None);
+    };
+    let Some(key) = spelled_key(alloc, key)? else {
+        return Ok(None);
+    };
+    let Some(text) = unescape(alloc, text)? else {
+        return Ok(None);
+    };
+    Ok(Some((key, text)))
+}
+
+fn fill_line(alloc: Global, args: &[u8]) -> Result<Option<ScriptLine>, AllocError>
+    ensures said { IfOk result (λ o. option_map said_by o ≡ said_to_fill args.now) }
+    ensures range { IfOk result (λ o. IfSome o (λ l. IsInRange l)) }
+{
+    let Some((site, rest)) = split_at(b' ', args) else {
+        return Ok(None);
+    };
+    let Some(site) = site_number(site) else {
+        return Ok(None);
+    };
+    let Some((key, text)) = key_and_text(alloc, rest)? else {
+        return Ok(None);
+    };
+    Ok(Some(ScriptLine::Fill { site, key, text }))
+}
+
 /// A number at the front of a text, and what stands behind it.
 fn front_number(text: &[u8], least: u64, most: u64) -> Option<(u64, Option<&[u8]>)>
     ensures number { MatchOption result (front_number least most text.now ≡ None)
@@ -264,6 +296,9 @@ pub fn parse_line(alloc: Global, line: &[u8]) -> Result<Option<ScriptLine>, Allo
     if name == b"sites".as_slice() {
         return Ok(sites_line(args));
     }
+    if name == b"fill".as_slice() {
+        return fill_line(alloc, args);
+    }
     Ok(None)
 }
 
@@ -302,6 +337,21 @@ fn carries_keyed(args: &[u8], sites: usize) -> bool
     site as usize <= sites && spells_key(key)
 }
 
+fn carries_filled(args: &[u8], sites: usize) -> bool
+    ensures { CarriesAt sites (said_to_fill args.now) result }
+{
+    let Some((site, rest)) = split_at(b' ', args) else {
+        return false;
+    };
+    let Some(site) = site_number(site) else {
+        return false;
+    };
+    let Some((key, text)) = split_at(b' ', rest) else {
+        return false;
+    };
+    site as usize <= sites && spells_key(key) && spelling(text).is_some()
+}
+
 /// Whether a line with a text or a key can be carried out where there are so many sites. It takes no memory.
 pub fn carries_text(line: &[u8], sites: usize) -> bool
     ensures { has_text line.now ≡ true → CarriesAt sites (said line.now) result }
@@ -317,6 +367,9 @@ pub fn carries_text(line: &[u8], sites: usize) -> bool
     }
     if name == b"evict".as_slice() {
         return carries_keyed(args, sites);
+    }
+    if name == b"fill".as_slice() {
+        return carries_filled(args, sites);
     }
     false
 }

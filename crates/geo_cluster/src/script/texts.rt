@@ -1,9 +1,9 @@
 //! What the lines of a script print.
 ghost use Rattle.std.specs.Prelude.{◌≡◌, Some, IfOk};
-ghost use Rattle.geo_cluster.specs.Prints.{client_text, number_text, done_text, refused_text, trace_text};
+ghost use Rattle.geo_cluster.specs.Prints.{client_text, number_text, done_text, filled_text, refused_text, trace_text};
 
 use crate::script::escape::push_all_escaped;
-use geo_site::{ReapError, TakeError, Trace};
+use geo_site::{Filled, ReapError, TakeError, Trace};
 use itoa::Buffer;
 use std::alloc::{AllocError, Global};
 
@@ -56,6 +56,18 @@ fn refused_line(alloc: Global, why: TakeError) -> Result<Vec<u8>, AllocError>
     }
 }
 
+/// What came of bytes that were offered.
+fn filled_line(alloc: Global, filled: Filled) -> Result<Vec<u8>, AllocError>
+    ensures { IfOk result (λ text. text.items ≡ filled_text filled) }
+{
+    match filled {
+        Filled::NotNamed => Vec::from_slice(alloc, b"unnamed\n"),
+        Filled::Held => Vec::from_slice(alloc, b"held\n"),
+        Filled::Full => Vec::from_slice(alloc, b"full\n"),
+        Filled::Done => Vec::from_slice(alloc, b"filled\n"),
+    }
+}
+
 /// What a line prints of its event, where so many parcels were sent before. Of what was refused for want of memory nothing is
 /// printed, and a reply is printed with its request.
 pub fn trace_line(alloc: Global, parcels: usize, trace: &Trace) -> Result<Vec<u8>, AllocError>
@@ -70,8 +82,10 @@ pub fn trace_line(alloc: Global, parcels: usize, trace: &Trace) -> Result<Vec<u8
         Trace::Ticked(done) => done_line(alloc, b"flushed\n", *done),
         Trace::Reaped(done) => done_line(alloc, b"reaped\n", *done),
         Trace::ReapRefused(ReapError::ClockEnded) => Vec::from_slice(alloc, b"clock ended\n"),
-        Trace::Replied(..) | Trace::SendRefused(_) | Trace::ReapRefused(ReapError::Memory) => {
-            Err(AllocError)
-        }
+        Trace::Filled(filled) => filled_line(alloc, *filled),
+        Trace::Replied(..)
+        | Trace::SendRefused(_)
+        | Trace::ReapRefused(ReapError::Memory)
+        | Trace::FillRefused => Err(AllocError),
     }
 }

@@ -9,7 +9,7 @@ ghost use Rattle.geo_records.specs.Operations.{Operation as Issued, Act as ActOf
 ghost use Rattle.geo_records.specs.Operations.Act.{Touch};
 ghost use Rattle.geo_site.specs.Entries.{Held, found_of, found_after, touched_after, touches_of, evicted_on, is_due, flushes_due, is_reapable};
 ghost use Rattle.geo_site.specs.Machine.{act_held, without};
-ghost use Rattle.geo_site.specs.Schedule.{still_held};
+ghost use Rattle.geo_site.specs.Schedule.{still_held, held_with};
 ghost use Rattle.geo_world.specs.Plain.{act_of, acts_of, operations_of, stamped, Knows, KeepsCounts, counts_of, held_after, lent, shown};
 
 use crate::plain::meaning::{floor, is_named, latest, version_of};
@@ -24,7 +24,7 @@ use std::alloc::{AllocError, Global};
 /// What happened to what a site holds.
 #[derive(Drop)]
 pub enum Change {
-    /// It wrote a value.
+    /// It wrote a value, or was offered it.
     Wrote(Key, ValueBytes),
     /// The bytes of a key were evicted.
     Dropped(Key),
@@ -121,6 +121,18 @@ impl Knowledge {
     {
         add_copies(&mut self.ops, alloc, known)?;
         self.settle(alloc)?;
+        Ok(())
+    }
+
+    /// Bytes that were offered are held of a key.
+    pub fn fill(&mut self, alloc: Global, key: &Key, bytes: &ValueBytes) -> Result<(), AllocError>
+        ensures held { IfOk result (λ _. (ops : List Issued) (held : Held) → Knows self.old ops held
+            → Knows self.new ops (held_with key.now bytes.now held)) }
+        ensures rests { KeepsCounts self.old self.new }
+    {
+        let key = key.twin(alloc)?;
+        let bytes = bytes.twin(alloc)?;
+        self.changes.push(Change::Wrote(key, bytes))?;
         Ok(())
     }
 

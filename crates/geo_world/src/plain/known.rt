@@ -1,6 +1,6 @@
 //! What all sites know along a schedule with its trace.
 ghost use Rattle.std.specs.Prelude.{[], ◌≡◌, ◌≤◌, ◌<◌, length, IfOk, IfErr, true, false};
-ghost use Rattle.geo_site.specs.Schedule.{Known as Knowing, happens, known, learns, carried, Lawful, EachLawful};
+ghost use Rattle.geo_site.specs.Schedule.{Known as Knowing, happens, known, learns, fills, carried, Lawful, EachLawful};
 ghost use Rattle.geo_site.specs.Entries.{is_done as is_done_by};
 ghost use Rattle.geo_world.specs.Setups.{start};
 ghost use Rattle.geo_world.specs.There.{is_site, all_in_time, EachThere};
@@ -10,9 +10,10 @@ use crate::plain::knowledge::{Knowledge, copies};
 use crate::plain::operation::Operation;
 use crate::run::is_in_time_event;
 use crate::there::{has_site, is_at_hand};
-use geo_grammar::Reply;
+use geo_grammar::{Reply, ValueBytes};
 use geo_lattice::Items;
 use geo_site::{Event, Setup, Trace};
+use geo_versions::Key;
 use std::alloc::{AllocError, Global};
 use thiserror::Error;
 
@@ -62,6 +63,23 @@ impl Known {
     {
         let known = copies(alloc, self.sites[site as usize - 1].ops.as_slice())?;
         self.sent.push((to, known))?;
+        Ok(())
+    }
+
+    fn fill(
+        &mut self,
+        alloc: Global,
+        site: u8,
+        key: &Key,
+        bytes: &ValueBytes,
+    ) -> Result<(), AllocError>
+        requires there { is_site (length self.old.sites.items) site ≡ true }
+        ensures kept { IfOk result (λ _. (w : Knowing) → Meets self.old.sites.items self.old.sent.items w
+            → Meets self.new.sites.items self.new.sent.items (fills w site key.now bytes.now)) }
+        ensures as_many { length self.new.sites.items ≡ length self.old.sites.items }
+    {
+        let at = &mut self.sites[site as usize - 1];
+        at.fill(alloc, key, bytes)?;
         Ok(())
     }
 
@@ -122,6 +140,12 @@ impl Known {
             (Event::Reap { site, now, key }, Trace::Reaped(_)) => {
                 self.flush_due(alloc, *site, *now)?;
                 self.reap(alloc, *site, *now, key)
+            }
+            (Event::Fill { site, key, bytes }, Trace::Filled(filled)) => {
+                if filled.is_done() {
+                    self.fill(alloc, *site, key, bytes)?;
+                }
+                Ok(())
             }
             _ => Ok(()),
         }

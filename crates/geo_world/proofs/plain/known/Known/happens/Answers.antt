@@ -2,7 +2,7 @@ use Rattle.std.proofs.Common.{◌≡◌, ℕ, Bool, cond, Option, List, sym, sub
 use Rattle.std.specs.Prelude.{IfOk, IfErr}
 use Rattle.geo_site.specs.declared.event.Event.{Event}
 use Rattle.geo_site.specs.declared.event.Trace.{Trace}
-use Rattle.geo_site.specs.Schedule.{Known, carries_out, evicts, flushed, happens, Lawful}
+use Rattle.geo_site.specs.Schedule.{Known, carries_out, evicts, flushed, happens, fills, Lawful}
 use Rattle.geo_world.specs.declared.plain.known.PlainError.TheVariants.{ClockEnded}
 use Rattle.geo_world.specs.Plain.{Meets}
 use Rattle.geo_world.proofs.Happening.{carried_kept, carried_ended, reaped_kept, reaped_ended}
@@ -58,3 +58,10 @@ returns-in_ok-evict-in-Evict-Evicted-clause-kept c = λ w meets.
     let new = c.evict.new.self in
     subst₂ (λ (event : Event) (trace : Trace). Meets new.sites.items new.sent.items (happens w event trace)) (sym k.is-0) (sym k.is-1)
     (subst (λ (b : Bool). Meets new.sites.items new.sent.items (cond b (evicts w k.site k.key) w)) (sym c.if-done.true) (c.in_ok-evict-in-Evict-Evicted.ensures.kept w meets))
+
+pub returns-in_ok-fill-in-Fill-Filled-clause-kept : goal.returns-in_ok-fill-in-Fill-Filled-clause-kept
+returns-in_ok-fill-in-Fill-Filled-clause-kept c = λ w meets.
+    let k = c.in-Fill-Filled in
+    let new = c.fill.new.self in
+    subst₂ (λ (event : Event) (trace : Trace). Meets new.sites.items new.sent.items (happens w event trace)) (sym k.is-0) (sym k.is-1)
+    (subst (λ (b : Bool). Meets new.sites.items new.sent.items (cond b (fills w k.site k.key k.bytes) w)) (c.if-is_done.ensures) (c.in_ok-fill-in-Fill-Filled.ensures.kept w meets))
