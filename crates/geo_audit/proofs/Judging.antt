@@ -30,7 +30,7 @@ use Rattle.geo_audit.proofs.Halting.{none_interleaves}
 pub judged_sound : (histories : List History) (counts : List ℕ) (places : List Place) (sites : List Site) (parcels : List Parcel) (events : List Happening) → Merged histories counts places sites parcels events → AllTaken histories counts → Interleaves events histories
 judged_sound histories counts places sites parcels events m all = record {
   versions = λ k site at. subst (λ (es : List Happening). ShowsVersions site ((known (first_of histories) es (traces_in m.run)).at (k + 1))) (sym m.events_are) (shows _ (k + 1) site _ (m.takes.runs.agrees.each k (k + 1) site refl at));
-  served = subst (λ (es : List Happening). NoCollision (known (first_of histories) es (traces_in m.run)) → AllServe (first_of histories) es (traces_in m.run)) (sym m.events_are)
+  served = subst (λ (es : List Happening). NoCollision (known (first_of histories) es (traces_in m.run)) es → AllServe (first_of histories) es (traces_in m.run)) (sym m.events_are)
       (all_serve (first_of histories) (events_in m.run) (traces_in m.run) (sound_nothing (length (setups_in histories)) (limits_of (setups_in histories))) m.takes.runs.lawful);
   counts = counts;
   sites = sites;

@@ -14,14 +14,18 @@ use Rattle.geo_site.specs.declared.event.Trace.TheVariants as came
 use Rattle.geo_site.specs.declared.refusal.SendError.TheVariants as send_errors
 use Rattle.geo_site.specs.declared.refusal.TakeError.TheVariants as take_errors
 use Rattle.geo_site.specs.declared.refusal.ReapError.TheVariants as reap_errors
-use Rattle.geo_site.specs.Entries.{flushes_due, is_stuck, is_reapable, lacks, owed}
+use Rattle.geo_site.specs.Entries.{names, flushes_due, is_stuck, is_reapable, lacks, owed}
+use Rattle.geo_site.specs.declared.fill.Filled.{Filled}
+use Rattle.geo_site.specs.declared.fill.Filled.TheVariants.{NotNamed, Full, Done}
+use Rattle.geo_site.specs.declared.fill.Filled.TheVariants as filled
+use Rattle.geo_site.specs.Fills.{FillsAs, filled_by}
 use Rattle.geo_site.specs.Machine.{IsCount}
-use Rattle.geo_site.specs.Schedule.{Known, Lawful, basis, flushed, reaps_on, addressee}
+use Rattle.geo_site.specs.Schedule.{Known, Lawful, FilledIn, basis, flushed, reaps_on, addressee}
 use Rattle.geo_history.specs.declared.step.Answer.{Answer}
-use Rattle.geo_history.specs.declared.step.Answer.TheVariants.{Replied, Evicted, Sent, SendRefused, Taken as Took, TakeRefused, Removed, Ticked, Reaped, ReapRefused}
+use Rattle.geo_history.specs.declared.step.Answer.TheVariants.{Replied, Evicted, Sent, SendRefused, Taken as Took, TakeRefused, Removed, Ticked, Reaped, ReapRefused, Filled as FilledAs}
 use Rattle.geo_world.specs.Tables.{Tables, flushed_at, horizon_at, remove_at, OwesBy, CountsDropped, Tallies}
 use Rattle.geo_audit.specs.Runs.{IsSaid, IsToldBy}
-use Rattle.geo_audit.specs.Misses.{IsOwnVictim, NoneTells}
+use Rattle.geo_audit.specs.Misses.{IsOwnVictim, IsOwnRoom, NoneTells}
 
 pub count_one : (among : List ℕ → Bool) (n m : ℕ) → IsCount among n → IsCount among m → n ≡ m
 count_one among n m x y = sym x.many ∙ length-from_same_keys nat_list_eq_equiv x.keys y.keys x.apart y.apart (λ q. x.those q ∙ sym (y.those q)) ∙ y.many
@@ -34,9 +38,17 @@ dropped_one before after n m x y =
     let b = y.dropped in
     omega (arith, many, left, a, b)
 
--- two traces are one, but for a victim
+-- what comes of a fill, but for whether the class of the bytes is full
+abbrev sort_of : Filled → Filled
+sort_of NotNamed = NotNamed
+sort_of filled.Held = filled.Held
+sort_of Full = Done
+sort_of Done = Done
+
+-- two traces are one, but for a victim, or for a class that is full
 abbrev Same : Trace → Trace → Type 0
 Same (came.Replied reply victim) (came.Replied other let_go) = reply ≡ other
+Same (came.Filled f) (came.Filled other) = sort_of f ≡ sort_of other
 Same trace other = trace ≡ other
 
 -- what a request is answered
@@ -65,6 +77,8 @@ evict_one w site key (came.Removed horizon count) l = absurd l
 evict_one w site key (came.Ticked done) l = absurd l
 evict_one w site key (came.Reaped done) l = absurd l
 evict_one w site key (came.ReapRefused why) l = absurd l
+evict_one w site key (came.Filled f) l = absurd l
+evict_one w site key came.FillRefused l = absurd l
 
 tick_one : (w : Known) (site now : ℕ) (t : Trace) → Lawful w (at.Tick site now) t → t ≡ came.Ticked (flushes_due (w.waiting site) (latest (w.at site)) now)
 tick_one w site now (came.Replied reply victim) l = absurd l
@@ -77,6 +91,8 @@ tick_one w site now (came.Removed horizon count) l = absurd l
 tick_one w site now (came.Ticked done) l = ap came.Ticked l
 tick_one w site now (came.Reaped done) l = absurd l
 tick_one w site now (came.ReapRefused why) l = absurd l
+tick_one w site now (came.Filled f) l = absurd l
+tick_one w site now came.FillRefused l = absurd l
 
 send_one : (w : Known) (site to : ℕ) (t : Trace) → Lawful w (at.Send site to) t → IsSaid t → ((t ≡ came.Sent) × (to ≢ site)) ⊎ ((t ≡ came.SendRefused send_errors.NoSuchSite) × (to ≡ site))
 send_one w site to (came.Replied reply victim) l said = absurd l
@@ -90,6 +106,8 @@ send_one w site to (came.Removed horizon count) l said = absurd l
 send_one w site to (came.Ticked done) l said = absurd l
 send_one w site to (came.Reaped done) l said = absurd l
 send_one w site to (came.ReapRefused why) l said = absurd l
+send_one w site to (came.Filled f) l said = absurd l
+send_one w site to came.FillRefused l said = absurd l
 
 take_one : (w : Known) (site parcel : ℕ) (t : Trace) → Lawful w (at.Take site parcel) t → IsSaid t → ((t ≡ came.Taken) × (addressee w parcel ≡ site)) ⊎ ((t ≡ came.TakeRefused take_errors.NotForMe) × (addressee w parcel ≢ site))
 take_one w site parcel (came.Replied reply victim) l said = absurd l
@@ -105,6 +123,8 @@ take_one w site parcel (came.Removed horizon count) l said = absurd l
 take_one w site parcel (came.Ticked done) l said = absurd l
 take_one w site parcel (came.Reaped done) l said = absurd l
 take_one w site parcel (came.ReapRefused why) l said = absurd l
+take_one w site parcel (came.Filled f) l said = absurd l
+take_one w site parcel came.FillRefused l said = absurd l
 
 record IsRemoved (all : Tables) (site : ℕ) (t : Trace) : Type 0 where
   pub count : ℕ
@@ -122,6 +142,8 @@ remove_one w all site (came.Removed horizon count) l tallies = record { count = 
 remove_one w all site (came.Ticked done) l tallies = absurd l
 remove_one w all site (came.Reaped done) l tallies = absurd l
 remove_one w all site (came.ReapRefused why) l tallies = absurd l
+remove_one w all site (came.Filled f) l tallies = absurd l
+remove_one w all site came.FillRefused l tallies = absurd l
 
 reap_one : (w : Known) (site now : ℕ) (key : List ℕ) (t : Trace) → Lawful w (at.Reap site now key) t
     → ((t ≡ came.Reaped (is_reapable site ((flushed w site now).limits site).reap_after now (version_of ((flushed w site now).at site) key))) × (lacks (latest ((flushed w site now).at site)) (reaps_on (flushed w site now) site now key) ≡ false))
@@ -137,6 +159,8 @@ reap_one w site now key (came.Ticked done) l = absurd l
 reap_one w site now key (came.Reaped done) l = inl (ap came.Reaped l.0, l.1)
 reap_one w site now key (came.ReapRefused reap_errors.ClockEnded) l = inr (refl, l)
 reap_one w site now key (came.ReapRefused reap_errors.Memory) l = absurd l
+reap_one w site now key (came.Filled f) l = absurd l
+reap_one w site now key came.FillRefused l = absurd l
 
 record IsReplied (w : Known) (all : Tables) (site now : ℕ) (request : Request) (t : Trace) : Type 0 where
   pub reply : Reply
@@ -156,6 +180,33 @@ command_one w all site now request (came.Removed horizon count) l tallies said =
 command_one w all site now request (came.Ticked done) l tallies said = absurd l
 command_one w all site now request (came.Reaped done) l tallies said = absurd l
 command_one w all site now request (came.ReapRefused why) l tallies said = absurd l
+command_one w all site now request (came.Filled f) l tallies said = absurd l
+command_one w all site now request came.FillRefused l tallies said = absurd l
+
+record IsFilled (w : Known) (site : ℕ) (key bytes : List ℕ) (t : Trace) : Type 0 where
+  pub came_of : Filled
+  pub is : t ≡ came.Filled came_of
+  pub sort : sort_of came_of ≡ filled_by (names (version_of (w.at site) key) bytes) (is_some (w.held site key)) false
+
+sort_is : (named held : Bool) (f : Filled) → FillsAs named held f → sort_of f ≡ filled_by named held false
+sort_is named held NotNamed l = sym (ap (λ n. filled_by n held false) l)
+sort_is named held filled.Held l = sym (λ i. filled_by (l.0 i) (l.1 i) false)
+sort_is named held Full l = sym (λ i. filled_by (l.0 i) (l.1 i) false)
+sort_is named held Done l = sym (λ i. filled_by (l.0 i) (l.1 i) false)
+
+fill_one : (w : Known) (site : ℕ) (key bytes : List ℕ) (t : Trace) → Lawful w (at.Fill site key bytes) t → IsSaid t → IsFilled w site key bytes t
+fill_one w site key bytes (came.Replied reply victim) l said = absurd l
+fill_one w site key bytes (came.Evicted done) l said = absurd l
+fill_one w site key bytes came.Sent l said = absurd l
+fill_one w site key bytes (came.SendRefused why) l said = absurd l
+fill_one w site key bytes came.Taken l said = absurd l
+fill_one w site key bytes (came.TakeRefused why) l said = absurd l
+fill_one w site key bytes (came.Removed horizon count) l said = absurd l
+fill_one w site key bytes (came.Ticked done) l said = absurd l
+fill_one w site key bytes (came.Reaped done) l said = absurd l
+fill_one w site key bytes (came.ReapRefused why) l said = absurd l
+fill_one w site key bytes (came.Filled f) l said = record { came_of = f; is = refl; sort = sort_is (names (version_of (w.at site) key) bytes) (is_some (w.held site key)) f l }
+fill_one w site key bytes came.FillRefused l said = absurd said
 
 only_one : (w : Known) (all : Tables) (event : Happening) (t u : Trace) → Lawful w event t → Tallies w all event t → IsSaid t → Lawful w event u → Tallies w all event u → IsSaid u → Same t u
 only_one w all (at.Command site now request) t u l x s m y r =
@@ -203,8 +254,13 @@ only_one w all (at.Reap site now key) t u l x s m y r = elim (reap_one w site no
     | inr b ↦ subst (λ t. Same t u) (sym a.0) (subst (Same (came.ReapRefused reap_errors.ClockEnded)) (sym b.0) refl)
   ]
 ]
+only_one w all (at.Fill site key bytes) t u l x s m y r =
+    let a = fill_one w site key bytes t l s in
+    let b = fill_one w site key bytes u m r in
+    subst (λ t. Same t u) (sym a.is) (subst (Same (came.Filled a.came_of)) (sym b.is) (a.sort ∙ sym b.sort))
 
--- where the site's own trace is not told, no trace is, or the site let go of a victim of its own
+-- where the site's own trace is not told, no trace is, or the site let go of a victim of its own, or its class was full and is not by
+-- what is told, or the other way round
 replied_none : (reply : Reply) (answer : Answer) (u : Trace) → Same (came.Replied reply None) u → IsToldBy u answer → (IsToldBy (came.Replied reply None) answer → ⊥) → ⊥
 replied_none reply (Replied told) (came.Replied other let_go) same t apart = apart (same ∙ t.0, refl)
 replied_none reply (Evicted told) (came.Replied other let_go) same t apart = absurd t
@@ -216,6 +272,7 @@ replied_none reply (Removed told) (came.Replied other let_go) same t apart = abs
 replied_none reply (Ticked told) (came.Replied other let_go) same t apart = absurd t
 replied_none reply (Reaped told) (came.Replied other let_go) same t apart = absurd t
 replied_none reply (ReapRefused told) (came.Replied other let_go) same t apart = absurd t
+replied_none reply (FilledAs told) (came.Replied other let_go) same t apart = absurd t
 replied_none reply answer (came.Evicted done) same t apart = apart (subst (λ u. IsToldBy u answer) (sym same) t)
 replied_none reply answer came.Sent same t apart = apart (subst (λ u. IsToldBy u answer) (sym same) t)
 replied_none reply answer (came.SendRefused why) same t apart = apart (subst (λ u. IsToldBy u answer) (sym same) t)
@@ -225,9 +282,60 @@ replied_none reply answer (came.Removed horizon count) same t apart = apart (sub
 replied_none reply answer (came.Ticked done) same t apart = apart (subst (λ u. IsToldBy u answer) (sym same) t)
 replied_none reply answer (came.Reaped done) same t apart = apart (subst (λ u. IsToldBy u answer) (sym same) t)
 replied_none reply answer (came.ReapRefused why) same t apart = apart (subst (λ u. IsToldBy u answer) (sym same) t)
+replied_none reply answer (came.Filled f) same t apart = apart (subst (λ u. IsToldBy u answer) (sym same) t)
+replied_none reply answer came.FillRefused same t apart = apart (subst (λ u. IsToldBy u answer) (sym same) t)
 
-pub untold : (w : Known) (all : Tables) (event : Happening) (answer : Answer) (t : Trace) → Lawful w event t → Tallies w all event t → IsSaid t → (IsToldBy t answer → ⊥) → NoneTells w all event answer ⊎ IsOwnVictim t
-untold w all event answer (came.Replied reply (Some victim)) l x s apart = inr tt
+-- what comes of a fill is told otherwise
+apart_fill : (site : ℕ) (key bytes : List ℕ) (f told : Filled) → (f ≡ told → ⊥) → (sort_of f ≡ sort_of told → ⊥) ⊎ IsOwnRoom (at.Fill site key bytes) (came.Filled f) (FilledAs told)
+apart_fill site key bytes NotNamed NotNamed ne = absurd (ne refl)
+apart_fill site key bytes NotNamed filled.Held ne = inl (λ e. cc)
+apart_fill site key bytes NotNamed Full ne = inl (λ e. cc)
+apart_fill site key bytes NotNamed Done ne = inl (λ e. cc)
+apart_fill site key bytes filled.Held NotNamed ne = inl (λ e. cc)
+apart_fill site key bytes filled.Held filled.Held ne = absurd (ne refl)
+apart_fill site key bytes filled.Held Full ne = inl (λ e. cc)
+apart_fill site key bytes filled.Held Done ne = inl (λ e. cc)
+apart_fill site key bytes Full NotNamed ne = inl (λ e. cc)
+apart_fill site key bytes Full filled.Held ne = inl (λ e. cc)
+apart_fill site key bytes Full Full ne = absurd (ne refl)
+apart_fill site key bytes Full Done ne = inr tt
+apart_fill site key bytes Done NotNamed ne = inl (λ e. cc)
+apart_fill site key bytes Done filled.Held ne = inl (λ e. cc)
+apart_fill site key bytes Done Full ne = inr tt
+apart_fill site key bytes Done Done ne = absurd (ne refl)
+
+fill_untold : (w : Known) (all : Tables) (site : ℕ) (key bytes : List ℕ) (answer : Answer) (f : Filled) → FilledIn w site key bytes f → (IsToldBy (came.Filled f) answer → ⊥)
+    → NoneTells w all (at.Fill site key bytes) answer ⊎ (IsOwnVictim (came.Filled f) ⊎ IsOwnRoom (at.Fill site key bytes) (came.Filled f) answer)
+fill_untold w all site key bytes (FilledAs told) f l apart = elim (apart_fill site key bytes f told apart) [
+  | inl other ↦ inl (λ u m y r t.
+      let b = fill_one w site key bytes u m r in
+      let is : b.came_of ≡ told = subst (λ u. IsToldBy u (FilledAs told)) b.is t in
+      other (sort_is (names (version_of (w.at site) key) bytes) (is_some (w.held site key)) f l ∙ sym b.sort ∙ ap sort_of is))
+  | inr own ↦ inr (inr own)
+]
+fill_untold w all site key bytes (Replied reply) f l apart = inl (λ u m y r t. let b = fill_one w site key bytes u m r in absurd (subst (λ u. IsToldBy u (Replied reply)) b.is t))
+fill_untold w all site key bytes (Evicted done) f l apart = inl (λ u m y r t. let b = fill_one w site key bytes u m r in absurd (subst (λ u. IsToldBy u (Evicted done)) b.is t))
+fill_untold w all site key bytes (Sent parcel) f l apart = inl (λ u m y r t. let b = fill_one w site key bytes u m r in absurd (subst (λ u. IsToldBy u (Sent parcel)) b.is t))
+fill_untold w all site key bytes (SendRefused why) f l apart = inl (λ u m y r t. let b = fill_one w site key bytes u m r in absurd (subst (λ u. IsToldBy u (SendRefused why)) b.is t))
+fill_untold w all site key bytes (Took told) f l apart = inl (λ u m y r t. let b = fill_one w site key bytes u m r in absurd (subst (λ u. IsToldBy u (Took told)) b.is t))
+fill_untold w all site key bytes (TakeRefused why) f l apart = inl (λ u m y r t. let b = fill_one w site key bytes u m r in absurd (subst (λ u. IsToldBy u (TakeRefused why)) b.is t))
+fill_untold w all site key bytes (Removed count) f l apart = inl (λ u m y r t. let b = fill_one w site key bytes u m r in absurd (subst (λ u. IsToldBy u (Removed count)) b.is t))
+fill_untold w all site key bytes (Ticked done) f l apart = inl (λ u m y r t. let b = fill_one w site key bytes u m r in absurd (subst (λ u. IsToldBy u (Ticked done)) b.is t))
+fill_untold w all site key bytes (Reaped done) f l apart = inl (λ u m y r t. let b = fill_one w site key bytes u m r in absurd (subst (λ u. IsToldBy u (Reaped done)) b.is t))
+fill_untold w all site key bytes (ReapRefused why) f l apart = inl (λ u m y r t. let b = fill_one w site key bytes u m r in absurd (subst (λ u. IsToldBy u (ReapRefused why)) b.is t))
+
+filled_untold : (w : Known) (all : Tables) (event : Happening) (answer : Answer) (f : Filled) → Lawful w event (came.Filled f) → (IsToldBy (came.Filled f) answer → ⊥) → NoneTells w all event answer ⊎ (IsOwnVictim (came.Filled f) ⊎ IsOwnRoom event (came.Filled f) answer)
+filled_untold w all (at.Command site now request) answer f l apart = absurd l
+filled_untold w all (at.Evict site key) answer f l apart = absurd l
+filled_untold w all (at.Send site to) answer f l apart = absurd l
+filled_untold w all (at.Take site parcel) answer f l apart = absurd l
+filled_untold w all (at.Remove site) answer f l apart = absurd l
+filled_untold w all (at.Tick site now) answer f l apart = absurd l
+filled_untold w all (at.Reap site now key) answer f l apart = absurd l
+filled_untold w all (at.Fill site key bytes) answer f l apart = fill_untold w all site key bytes answer f l apart
+
+pub untold : (w : Known) (all : Tables) (event : Happening) (answer : Answer) (t : Trace) → Lawful w event t → Tallies w all event t → IsSaid t → (IsToldBy t answer → ⊥) → NoneTells w all event answer ⊎ (IsOwnVictim t ⊎ IsOwnRoom event t answer)
+untold w all event answer (came.Replied reply (Some victim)) l x s apart = inr (inl tt)
 untold w all event answer (came.Replied reply None) l x s apart = inl (λ u m y r told. replied_none reply answer u (only_one w all event (came.Replied reply None) u l x s m y r) told apart)
 untold w all event answer (came.Evicted done) l x s apart = inl (λ u m y r told. apart (subst (λ u. IsToldBy u answer) (sym (only_one w all event (came.Evicted done) u l x s m y r)) told))
 untold w all event answer came.Sent l x s apart = inl (λ u m y r told. apart (subst (λ u. IsToldBy u answer) (sym (only_one w all event came.Sent u l x s m y r)) told))
@@ -238,3 +346,5 @@ untold w all event answer (came.Removed horizon count) l x s apart = inl (λ u m
 untold w all event answer (came.Ticked done) l x s apart = inl (λ u m y r told. apart (subst (λ u. IsToldBy u answer) (sym (only_one w all event (came.Ticked done) u l x s m y r)) told))
 untold w all event answer (came.Reaped done) l x s apart = inl (λ u m y r told. apart (subst (λ u. IsToldBy u answer) (sym (only_one w all event (came.Reaped done) u l x s m y r)) told))
 untold w all event answer (came.ReapRefused why) l x s apart = inl (λ u m y r told. apart (subst (λ u. IsToldBy u answer) (sym (only_one w all event (came.ReapRefused why) u l x s m y r)) told))
+untold w all event answer (came.Filled f) l x s apart = filled_untold w all event answer f l apart
+untold w all event answer came.FillRefused l x s apart = absurd s

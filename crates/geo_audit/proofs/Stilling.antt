@@ -10,7 +10,7 @@ use Rattle.geo_site.specs.declared.event.Trace.TheVariants as came
 use Rattle.geo_site.specs.Entries.{flushes_due}
 use Rattle.geo_site.specs.Schedule.{Known, happens, known, waits, issues, Lawful, EachLawful}
 use Rattle.geo_history.specs.declared.step.Event.{Event}
-use Rattle.geo_history.specs.declared.step.Event.TheVariants.{Command, Evict, Send, Take, Remove, Tick, Reap}
+use Rattle.geo_history.specs.declared.step.Event.TheVariants.{Command, Evict, Send, Take, Remove, Tick, Reap, Fill}
 use Rattle.geo_world.specs.There.{is_in_time, EachThere}
 use Rattle.geo_world.specs.Agreement.{Agrees, StepDoes}
 use Rattle.geo_world.specs.Tables.{Tables, kept, kept_after, keeps, issue_all_at, Keep, Tabled}
@@ -86,6 +86,8 @@ ticked w site now (came.Ticked true) other l undue = true≢false (l ∙ undue)
 ticked w site now (came.Ticked false) other l undue = other refl
 ticked w site now (came.Reaped done) other l undue = absurd l
 ticked w site now (came.ReapRefused why) other l undue = absurd l
+ticked w site now (came.Filled filled) other l undue = absurd l
+ticked w site now came.FillRefused other l undue = absurd l
 
 pub flushes_step : (old : Play) (new : World) (site now : ℕ) (trace : Trace) → trace ≢ came.Ticked false → StepDoes old.world new (at.Tick site now) 0 (Ok trace) → FlushesAt old site now
 flushes_step old new site now trace other does first none before p = ticked (known first old.events.items before) site now trace other (does.1 (known first old.events.items before) p.agrees).0
@@ -107,6 +109,8 @@ unheld w site key (came.Removed horizon count) other l = absurd l
 unheld w site key (came.Ticked done) other l = absurd l
 unheld w site key (came.Reaped done) other l = absurd l
 unheld w site key (came.ReapRefused why) other l = absurd l
+unheld w site key (came.Filled filled) other l = absurd l
+unheld w site key came.FillRefused other l = absurd l
 
 pub unheld_step : (old new : Play) (site : ℕ) (key : List ℕ) (trace : Trace) → trace ≢ came.Evicted true → Leads old new (at.Evict site key ∷ []) (trace ∷ []) → Always old (λ w all. w.held site key ≡ None)
 unheld_step old new site key trace other leads first none before p =
@@ -125,3 +129,4 @@ timely_of site number (Take parcel) e = e
 timely_of site number Remove e = e
 timely_of site number (Tick now) e = e
 timely_of site number (Reap now key) e = e
+timely_of site number (Fill key bytes) e = e

@@ -13,9 +13,9 @@ use Rattle.geo_site.specs.Entries.{Held}
 use Rattle.geo_site.specs.Sites.{state_in}
 use Rattle.geo_site.specs.Schedule.{Known, happens, known, Lawful, EachLawful}
 use Rattle.geo_history.specs.declared.step.Event.{Event}
-use Rattle.geo_history.specs.declared.step.Event.TheVariants.{Command, Evict, Send, Take, Remove, Tick, Reap}
+use Rattle.geo_history.specs.declared.step.Event.TheVariants.{Command, Evict, Send, Take, Remove, Tick, Reap, Fill}
 use Rattle.geo_history.specs.declared.step.Answer.{Answer}
-use Rattle.geo_history.specs.declared.step.Answer.TheVariants.{Replied, Evicted, Sent, SendRefused, Taken as Took, TakeRefused, Removed, Ticked, Reaped, ReapRefused}
+use Rattle.geo_history.specs.declared.step.Answer.TheVariants.{Replied, Evicted, Sent, SendRefused, Taken as Took, TakeRefused, Removed, Ticked, Reaped, ReapRefused, Filled as FilledAs}
 use Rattle.geo_history.specs.declared.step.Step.{Step}
 use Rattle.geo_world.specs.There.{is_there}
 use Rattle.geo_world.specs.Agreement.{Carries as TellsOf, Agrees, about}
@@ -52,6 +52,8 @@ trace_sent (came.Removed horizon count) parcel t = absurd t
 trace_sent (came.Ticked done) parcel t = absurd t
 trace_sent (came.Reaped done) parcel t = absurd t
 trace_sent (came.ReapRefused why) parcel t = absurd t
+trace_sent (came.Filled filled) parcel t = absurd t
+trace_sent came.FillRefused parcel t = absurd t
 
 -- the parcel that a send made
 module _ (w : Known) (all : Tables) (site to : ℕ) (sites : List Site) (parcels : List Parcel) (agrees : Agrees sites parcels (happens w (at.Send site to) came.Sent)) (keep : Keep sites parcels (kept_after w all (at.Send site to) came.Sent)) where
@@ -87,10 +89,12 @@ brings_of w all site number (Send to) (Removed count) trace sites parcels t e ag
 brings_of w all site number (Send to) (Ticked done) trace sites parcels t e agrees keep = tt
 brings_of w all site number (Send to) (Reaped done) trace sites parcels t e agrees keep = tt
 brings_of w all site number (Send to) (ReapRefused why) trace sites parcels t e agrees keep = tt
+brings_of w all site number (Send to) (FilledAs filled) trace sites parcels t e agrees keep = tt
 brings_of w all site number (Take parcel) answer trace sites parcels t e agrees keep = tt
 brings_of w all site number Remove answer trace sites parcels t e agrees keep = tt
 brings_of w all site number (Tick now) answer trace sites parcels t e agrees keep = tt
 brings_of w all site number (Reap now key) answer trace sites parcels t e agrees keep = tt
+brings_of w all site number (Fill key bytes) answer trace sites parcels t e agrees keep = tt
 
 -- where the parcel that is told is not the last, another was made
 other_made : (w : Known) (all : Tables) (site number : ℕ) (event : Event) (parcel : Parcel) (sites : List Site) (parcels : List Parcel) → (slice_get parcels (length parcels - 1) ≡ Some parcel → ⊥) → Lawful w (event_of site number event) came.Sent
@@ -105,6 +109,7 @@ other_made w all site number (Take taken) parcel sites parcels other l agrees ke
 other_made w all site number Remove parcel sites parcels other l agrees keep = absurd l
 other_made w all site number (Tick now) parcel sites parcels other l agrees keep = absurd l
 other_made w all site number (Reap now key) parcel sites parcels other l agrees keep = absurd l
+other_made w all site number (Fill key bytes) parcel sites parcels other l agrees keep = absurd l
 
 brings_other : (w : Known) (all : Tables) (site number : ℕ) (event : Event) (answer : Answer) (trace : Trace) (sites : List Site) (parcels : List Parcel) → IsToldBy trace answer → (EndsWith parcels answer → ⊥) → Lawful w (event_of site number event) trace
     → Agrees sites parcels (happens w (event_of site number event) trace) → Keep sites parcels (kept_after w all (event_of site number event) trace) → BringsOther w all site event answer
@@ -120,6 +125,7 @@ brings_other w all site number event (Removed count) trace sites parcels t apart
 brings_other w all site number event (Ticked done) trace sites parcels t apart l agrees keep = absurd (apart tt)
 brings_other w all site number event (Reaped done) trace sites parcels t apart l agrees keep = absurd (apart tt)
 brings_other w all site number event (ReapRefused why) trace sites parcels t apart l agrees keep = absurd (apart tt)
+brings_other w all site number event (FilledAs filled) trace sites parcels t apart l agrees keep = absurd (apart tt)
 
 -- an event of a site at a place was carried out
 module _ (old new : Play) (k number : ℕ) (step : Step) (happening : Happening) (is : happening ≡ event_of (k + 1) number step.event) (trace : Trace) (leads : Leads old new (happening ∷ []) (trace ∷ [])) where

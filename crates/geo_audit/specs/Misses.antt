@@ -6,15 +6,17 @@ use Rattle.geo_records.specs.Operations.{version_of}
 use Rattle.geo_records.specs.declared.version.Version.{Version}
 use Rattle.geo_delta.specs.declared.parcel.Parcel.{Parcel}
 use Rattle.geo_site.specs.declared.event.Event.{Event as Happening}
+use Rattle.geo_site.specs.declared.event.Event.TheVariants as at
 use Rattle.geo_site.specs.declared.event.Trace.{Trace}
 use Rattle.geo_site.specs.declared.event.Trace.TheVariants as came
+use Rattle.geo_site.specs.declared.fill.Filled.TheVariants.{Full, Done}
 use Rattle.geo_site.specs.Entries.{Held}
 use Rattle.geo_site.specs.Machine.{IsHeldCount}
 use Rattle.geo_site.specs.Schedule.{Known, happens, known, Lawful}
 use Rattle.geo_history.specs.declared.step.Event.{Event}
 use Rattle.geo_history.specs.declared.step.Event.TheVariants.{Command, Send, Take}
 use Rattle.geo_history.specs.declared.step.Answer.{Answer}
-use Rattle.geo_history.specs.declared.step.Answer.TheVariants.{Replied, Sent, Taken as Took}
+use Rattle.geo_history.specs.declared.step.Answer.TheVariants.{Replied, Sent, Taken as Took, Filled as FilledAs}
 use Rattle.geo_history.specs.declared.step.Step.{Step}
 use Rattle.geo_world.specs.There.{is_there}
 use Rattle.geo_world.specs.Tables.{Tables, kept, Tallies}
@@ -84,13 +86,19 @@ abbrev pub IsOwnVictim : Trace → Type 0
 IsOwnVictim (came.Replied reply (Some victim)) = Unit {0}
 IsOwnVictim trace = ⊥
 
+-- the slab class of bytes that were offered is full at these sites where it was not by what is told, or the other way round
+abbrev pub IsOwnRoom : Happening → Trace → Answer → Type 0
+IsOwnRoom (at.Fill site key bytes) (came.Filled Full) (FilledAs Done) = Unit {0}
+IsOwnRoom (at.Fill site key bytes) (came.Filled Done) (FilledAs Full) = Unit {0}
+IsOwnRoom happening trace answer = ⊥
+
 -- what comes of the event is not what the step tells
 pub record Differs (w : Known) (all : Tables) (site : ℕ) (happening : Happening) (step : Step) : Type 0 where
   pub trace : Trace
   pub lawful : Lawful w happening trace
   pub tallies : Tallies w all happening trace
   pub said : IsSaid trace
-  pub other : (NoneTells w all happening step.answer ⊎ IsOwnVictim trace)
+  pub other : (NoneTells w all happening step.answer ⊎ (IsOwnVictim trace ⊎ IsOwnRoom happening trace step.answer))
       ⊎ (BringsOther w all site step.event step.answer
       ⊎ OtherBeside (all.at site).vector (w.held site) ((happens w happening trace).held site)
       (version_of ((happens w happening trace).at site)) step.event step.answer step.victim step.made)

@@ -27,9 +27,9 @@ use Rattle.geo_site.specs.Served.{NoCollision, AllServe}
 use Rattle.geo_site.specs.Schedule.{Known, known, EachLawful}
 use Rattle.geo_history.specs.declared.history.History.{History}
 use Rattle.geo_history.specs.declared.step.Event.{Event}
-use Rattle.geo_history.specs.declared.step.Event.TheVariants.{Command, Evict, Send, Take, Remove, Tick, Reap}
+use Rattle.geo_history.specs.declared.step.Event.TheVariants.{Command, Evict, Send, Take, Remove, Tick, Reap, Fill}
 use Rattle.geo_history.specs.declared.step.Answer.{Answer}
-use Rattle.geo_history.specs.declared.step.Answer.TheVariants.{Replied, Evicted, Sent, SendRefused, Taken as Took, TakeRefused, Removed, Ticked, Reaped, ReapRefused}
+use Rattle.geo_history.specs.declared.step.Answer.TheVariants.{Replied, Evicted, Sent, SendRefused, Taken as Took, TakeRefused, Removed, Ticked, Reaped, ReapRefused, Filled as FilledAs}
 use Rattle.geo_history.specs.declared.step.Step.{Step}
 use Rattle.geo_world.specs.Setups.{are_setups, start}
 use Rattle.geo_world.specs.There.{is_in_time, EachThere}
@@ -74,6 +74,7 @@ event_of site number (Take parcel) = at.Take site number
 event_of site number Remove = at.Remove site
 event_of site number (Tick now) = at.Tick site now
 event_of site number (Reap now key) = at.Reap site now key
+event_of site number (Fill key bytes) = at.Fill site key bytes
 
 -- the bytes of a recorded victim are evicted first, as an event of its own
 abbrev pub lets_go : ℕ → Option (List ℕ) → List Happening
@@ -121,6 +122,7 @@ IsToldBy (came.Removed horizon count) (Removed told) = count ≡ told
 IsToldBy (came.Ticked done) (Ticked told) = done ≡ told
 IsToldBy (came.Reaped done) (Reaped told) = done ≡ told
 IsToldBy (came.ReapRefused why) (ReapRefused told) = why ≡ told
+IsToldBy (came.Filled filled) (FilledAs told) = filled ≡ told
 IsToldBy trace answer = ⊥
 
 -- memory was not wanted
@@ -129,6 +131,7 @@ IsSaid (came.Replied reply victim) = reply ≢ OutOfMemory
 IsSaid (came.SendRefused why) = why ≢ send_errors.Memory
 IsSaid (came.TakeRefused why) = why ≢ take_errors.Memory
 IsSaid (came.ReapRefused why) = why ≢ reap_errors.Memory
+IsSaid came.FillRefused = ⊥
 IsSaid trace = Unit {0}
 
 -- the key under which a request that was answered so stored bytes
@@ -159,6 +162,7 @@ IsPlain (Take parcel) answer victim made = IsBare victim made
 IsPlain Remove answer victim made = IsBare victim made
 IsPlain (Tick now) answer victim made = (answer ≡ Ticked true) × IsBare victim made
 IsPlain (Reap now key) answer victim made = IsBare victim made
+IsPlain (Fill key bytes) answer victim made = IsBare victim made
 
 -- whether the moment of an event, if it has one, is one of a schedule
 abbrev pub is_timely : Event → Bool
@@ -302,4 +306,4 @@ pub record Interleaves (schedule : List Happening) (histories : List History) : 
   pub whole : (k : ℕ) (h : History) → slice_get histories k ≡ Some h → steps_at (k + 1) run ≡ h.steps.items
   pub versions : (k : ℕ) (site : Site) → slice_get sites k ≡ Some site
       → ShowsVersions site ((known (first_of histories) schedule (traces_in run)).at (k + 1))
-  pub served : NoCollision (known (first_of histories) schedule (traces_in run)) → AllServe (first_of histories) schedule (traces_in run)
+  pub served : NoCollision (known (first_of histories) schedule (traces_in run)) schedule → AllServe (first_of histories) schedule (traces_in run)

@@ -58,6 +58,11 @@ fn event_of(alloc: Global, site: u8, number: usize, event: &Event) -> Result<Hap
             now: *now,
             key: key.twin(alloc)?,
         },
+        Event::Fill { key, bytes } => Happening::Fill {
+            site,
+            key: key.twin(alloc)?,
+            bytes: bytes.twin(alloc)?,
+        },
     })
 }
 
@@ -143,7 +148,8 @@ impl Play {
             | Event::Send { .. }
             | Event::Take { .. }
             | Event::Remove
-            | Event::Tick { .. } => Ok(true),
+            | Event::Tick { .. }
+            | Event::Fill { .. } => Ok(true),
         }
     }
 

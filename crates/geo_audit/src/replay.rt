@@ -24,7 +24,11 @@ fn is_timely(event: &Event) -> bool
         Event::Command { now, .. } | Event::Tick { now } | Event::Reap { now, .. } => {
             *now <= LAST_MOMENT
         }
-        Event::Evict { .. } | Event::Send { .. } | Event::Take { .. } | Event::Remove => true,
+        Event::Evict { .. }
+        | Event::Send { .. }
+        | Event::Take { .. }
+        | Event::Remove
+        | Event::Fill { .. } => true,
     }
 }
 
@@ -85,7 +89,8 @@ fn may_tell(step: &Step) -> bool
         | Event::Send { .. }
         | Event::Take { .. }
         | Event::Remove
-        | Event::Reap { .. } => is_bare(&step.victim, &step.made),
+        | Event::Reap { .. }
+        | Event::Fill { .. } => is_bare(&step.victim, &step.made),
     }
 }
 
@@ -110,7 +115,9 @@ pub(crate) fn is_said(trace: &Trace) -> bool
         | Trace::Taken
         | Trace::Removed { .. }
         | Trace::Ticked(_)
-        | Trace::Reaped(_) => true,
+        | Trace::Reaped(_)
+        | Trace::Filled(_) => true,
+        Trace::FillRefused => false,
     }
 }
 
@@ -130,6 +137,7 @@ pub(crate) fn is_told(trace: &Trace, answer: &Answer) -> bool
         (Trace::TakeRefused(why), Answer::TakeRefused(told)) => *why == *told,
         (Trace::Removed { count, .. }, Answer::Removed(told)) => *count == *told,
         (Trace::ReapRefused(why), Answer::ReapRefused(told)) => *why == *told,
+        (Trace::Filled(filled), Answer::Filled(told)) => *filled == *told,
         _ => false,
     }
 }
@@ -154,7 +162,8 @@ fn rises(site: &Site, event: &Event) -> bool
         | Event::Send { .. }
         | Event::Remove
         | Event::Tick { .. }
-        | Event::Reap { .. } => false,
+        | Event::Reap { .. }
+        | Event::Fill { .. } => false,
     }
 }
 

@@ -26,6 +26,13 @@ impl Equal for Event {
                     key: key2,
                 },
             ) => *now == *now2 && key.equals(key2),
+            (
+                Event::Fill { key, bytes },
+                Event::Fill {
+                    key: key2,
+                    bytes: bytes2,
+                },
+            ) => key.equals(key2) && bytes.equals(bytes2),
             _ => false,
         }
     }
@@ -40,6 +47,7 @@ impl Equal for Answer {
             (Answer::Taken(one), Answer::Taken(two)) => *one == *two,
             (Answer::TakeRefused(one), Answer::TakeRefused(two)) => *one == *two,
             (Answer::ReapRefused(one), Answer::ReapRefused(two)) => *one == *two,
+            (Answer::Filled(one), Answer::Filled(two)) => *one == *two,
             (Answer::Removed(one), Answer::Removed(two)) => *one == *two,
             (Answer::Evicted(one), Answer::Evicted(two))
             | (Answer::Ticked(one), Answer::Ticked(two))

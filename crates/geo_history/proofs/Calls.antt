@@ -15,20 +15,22 @@ use Rattle.geo_site.specs.declared.refusal.ReapError.{ReapError}
 use Rattle.geo_site.specs.declared.refusal.ReapError.TheVariants as reaps
 use Rattle.geo_grammar.specs.declared.reply.Reply.TheVariants.{OutOfMemory}
 use Rattle.geo_site.specs.declared.acted.Acted.{Acted}
+use Rattle.geo_site.specs.declared.fill.Filled.{Filled}
+use Rattle.geo_site.specs.Fills.{FillDoes}
 use Rattle.geo_site.specs.Entries.{is_stuck, is_done, made_on, due_acts}
 use Rattle.geo_site.specs.Machine.{SiteState, Same, visible_in}
 use Rattle.geo_site.specs.Sites.{state_in, heard_in, waiting_in, counts_in, clock_in, limits_of, issued_in, victim_in, twice, Rests, Stays, Remains, FlushDoes, RequestDoesBy, ActDoes, ActTells, ActFullDoes, ReapDoes, SendDoes, TakeDoes}
 use Rattle.geo_site.proofs.Stocking.{state_path, unchanged}
 use Rattle.std.proofs.lemmas.List.{append-nil}
-use Rattle.geo_history.specs.declared.step.Event.TheVariants.{Command, Evict, Send, Take, Remove, Reap}
+use Rattle.geo_history.specs.declared.step.Event.TheVariants.{Command, Evict, Send, Take, Remove, Reap, Fill}
 use Rattle.geo_history.specs.declared.step.Event.{Event}
 use Rattle.geo_history.specs.declared.step.Step.{Step}
 use Rattle.geo_history.specs.declared.step.Answer.{Answer}
-use Rattle.geo_history.specs.declared.step.Answer.TheVariants.{Replied, Evicted, Sent, SendRefused, Taken as Took, TakeRefused, Removed, Reaped, ReapRefused}
+use Rattle.geo_history.specs.declared.step.Answer.TheVariants.{Replied, Evicted, Sent, SendRefused, Taken as Took, TakeRefused, Removed, Reaped, ReapRefused, Filled as FilledAs}
 use Rattle.geo_history.specs.Standings.{who_in, standing_in}
-use Rattle.geo_history.specs.Keeping.{Story, most_steps, made_by, step_with, step_of, is_flush_due, flush_count, flush_steps, number_after, IsKept, GoesOn, ReapsFor, DoesNothing, LeavesAll, ActsFor, ActForDoes, SendForDoes, TakesFor, RefusedFor, TakeForDoes, RemoveForDoes, EvictForDoes, TickForDoes, ReapForDoes, JuggleForDoes}
+use Rattle.geo_history.specs.Keeping.{Story, most_steps, made_by, step_with, step_of, is_flush_due, flush_count, flush_steps, number_after, IsKept, GoesOn, ReapsFor, DoesNothing, LeavesAll, ActsFor, ActForDoes, SendForDoes, TakesFor, RefusedFor, TakeForDoes, RemoveForDoes, EvictForDoes, FillForDoes, TickForDoes, ReapForDoes, JuggleForDoes}
 use Rattle.geo_history.proofs.Issuing.{stands_same, flush_again, stuck_same}
-use Rattle.geo_history.proofs.Leading.{command_leads, send_leads, unsent_leads, take_leads, untaken_leads, remove_leads, evict_leads, reap_leads, unreaped_leads}
+use Rattle.geo_history.proofs.Leading.{command_leads, send_leads, unsent_leads, take_leads, untaken_leads, remove_leads, evict_leads, fill_leads, reap_leads, unreaped_leads}
 use Rattle.geo_history.proofs.Keeps.{made_flushed, kept_more, kept_still, kept_after, flush_kept}
 
 -- it is the same site, and its history is still one
@@ -122,6 +124,13 @@ evict_goes old new seat key (Ok done) d = record {
   who = who_by old.site new.site d.0.stays.0 d.0.stays.1;
 }
 evict_goes old new seat key (Err refused) d = goes_same old new d
+
+pub fill_goes : (old new : Story) (seat : ℕ) (key bytes : List ℕ) (result : Result Filled AllocError) → FillForDoes old new seat key bytes result → Goes old new
+fill_goes old new seat key bytes (Ok filled) d = record {
+  kept = λ kept. kept_more old new seat (Fill key bytes) (FilledAs filled) None None kept d.0.stays.0 d.0.stays.1 (fill_leads old.site new.site key bytes filled d.0) d.1;
+  who = who_by old.site new.site d.0.stays.0 d.0.stays.1;
+}
+fill_goes old new seat key bytes (Err refused) d = goes_all old new d
 
 pub tick_goes : (old new : Story) (seat now : ℕ) (result : Result Bool AllocError) → TickForDoes old new seat now result → Goes old new
 tick_goes old new seat now (Ok done) d = goes_nothing old new seat now (inr d.1)
@@ -242,3 +251,15 @@ untaken_leaves old new parcel refused does rests remains opening steps = record 
   stays = (remains.0, remains.1, does.3);
   goes_on = record { opening = opening; more = steps ∙ sym (append-nil old.steps) };
 }
+
+-- bytes that would be held, for which memory was wanted
+pub unfilled_leaves : (old new : Story) (key bytes : List ℕ) (refused : AllocError) → FillDoes old.site new.site key bytes (Err refused) → new.opening ≡ old.opening → new.steps ≡ old.steps → LeavesAll old new
+unfilled_leaves old new key bytes refused does opening steps = record {
+  same = does.does.1;
+  rests = does.rests;
+  stays = does.stays;
+  goes_on = record { opening = opening; more = steps ∙ sym (append-nil old.steps) };
+}
+
+pub fill_unmade : (old new : Story) (seat : ℕ) (key bytes : List ℕ) (result : Result Filled AllocError) (e : AllocError) → result ≡ Err e → LeavesAll old new → FillForDoes old new seat key bytes result
+fill_unmade old new seat key bytes result e is left = subst (λ (r : Result Filled AllocError). FillForDoes old new seat key bytes r) (sym is) left

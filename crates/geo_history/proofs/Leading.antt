@@ -1,5 +1,5 @@
 -- Each call at a site leads from where it stands to where it stands then, with the answer that the call gave.
-use Rattle.std.proofs.Common.{◌≡◌, ◌≢◌, ◌⊎◌, ℕ, Bool, true, false, cond, List, [], Option, None, Some, Ok, Err, refl, sym, ap, ◌∙◌, subst, inl, inr, true≢false}
+use Rattle.std.proofs.Common.{◌≡◌, ◌≢◌, ◌⊎◌, ℕ, Bool, true, false, cond, List, [], length, Option, None, Some, Ok, Err, refl, sym, ap, ◌∙◌, subst, inl, inr, true≢false}
 use Rattle.std.specs.Prelude.{is_some}
 use Rattle.std.specs.Cmp.Lexicographic.{same_text}
 use Rattle.geo_records.specs.Keys.{same_key}
@@ -16,15 +16,19 @@ use Rattle.geo_site.specs.declared.refusal.SendError.TheVariants.{NoSuchSite}
 use Rattle.geo_site.specs.declared.refusal.TakeError.{TakeError}
 use Rattle.geo_site.specs.declared.refusal.TakeError.TheVariants as takes
 use Rattle.geo_site.specs.declared.refusal.ReapError.TheVariants.{ClockEnded}
-use Rattle.geo_site.specs.Entries.{Counts, accesses, counted, evicted_on, waits_after, flushes_due, is_stuck, is_reapable, reap_acts, owed, made_on, is_done}
+use Rattle.geo_site.specs.Entries.{Counts, names, accesses, counted, evicted_on, waits_after, flushes_due, is_stuck, is_reapable, reap_acts, owed, made_on, is_done}
+use Rattle.geo_values.specs.Stock.{is_full}
+use Rattle.geo_site.specs.declared.fill.Filled.{Filled}
+use Rattle.geo_site.specs.Fills.{FillDoes, is_filled, came}
+use Rattle.geo_site.proofs.Filling.{came_held, fills_as}
 use Rattle.geo_site.specs.Machine as machine
-use Rattle.geo_site.specs.Machine.{SiteState, Same, accessed, visible_in, removed, without, is_victim, IsRecordCount, IsHeldCount}
+use Rattle.geo_site.specs.Machine.{SiteState, Same, class_for, accessed, visible_in, removed, without, is_victim, IsRecordCount, IsHeldCount}
 use Rattle.geo_site.specs.Schedule.{VictimOf}
 use Rattle.geo_site.specs.Sites.{state_in, heard_in, waiting_in, counts_in, clock_in, basis_in, record_count, held_count, issued_in, victim_in, horizon_in, HasIssued, HasIssuedAfter, FirstVictimFits, Rests, Stays, Remains, FlushDoes, RequestDoes, RequestDoesBy, ActDoes, ReapDoes, TakeDoes, RemoveDoes, EvictDoes, SendDoes, IsSent as SiteSends}
 use Rattle.geo_site.proofs.Victims.{one_quiet, request_goes, victim_fits}
-use Rattle.geo_history.specs.declared.step.Event.TheVariants.{Command, Evict, Send, Take, Remove, Tick, Reap}
-use Rattle.geo_history.specs.declared.step.Answer.TheVariants.{Replied, Evicted, Sent, SendRefused, Taken as Took, TakeRefused, Removed, Ticked, Reaped, ReapRefused}
-use Rattle.geo_history.specs.Standings.{who_in, Standing, standing_in, issue_all, lets_go, carries_out, evicts}
+use Rattle.geo_history.specs.declared.step.Event.TheVariants.{Command, Evict, Send, Take, Remove, Tick, Reap, Fill}
+use Rattle.geo_history.specs.declared.step.Answer.TheVariants.{Replied, Evicted, Sent, SendRefused, Taken as Took, TakeRefused, Removed, Ticked, Reaped, ReapRefused, Filled as FilledAs}
+use Rattle.geo_history.specs.Standings.{who_in, Standing, standing_in, issue_all, lets_go, carries_out, evicts, admits}
 use Rattle.geo_history.specs.Replays.{Requested, Commanded, RefusesFor, IsSent, StepsTo}
 use Rattle.geo_history.proofs.Issuing.{standing_at, stands_same, quiet_stands, goes_stands, accessed_stands, beside, flush_stands, none_due, stuck_same, take_stands}
 
@@ -175,6 +179,23 @@ evict_leads old new key done does = (refl, refl, (does.told, by done refl))
         missing : (q : List ℕ) → (state_in old).stock.held key ≡ None → (t : Bool) → same_key q key ≡ t → cond {A = Option (List ℕ)} t None ((state_in old).stock.held q) ≡ (state_in old).stock.held q
         missing q none true e = sym (ap (state_in old).stock.held (same_text q key (sym e)) ∙ none)
         missing q none false e = refl
+
+-- ---- bytes that are offered
+pub fill_leads : (old new : Site) (key bytes : List ℕ) (filled : Filled) → FillDoes old new key bytes (Ok filled) → StepsTo (who_in old) (standing_in old) (Fill key bytes) (FilledAs filled) None None (standing_in new)
+fill_leads old new key bytes filled does = (
+  refl,
+  refl,
+  (
+    fills_as (names (version_in ((state_in old).map key)) bytes) (is_some ((state_in old).stock.held key)) (is_full (state_in old).stock (class_for (length bytes))) filled does.does.0,
+    by (is_filled filled) does.does.1,
+  ),
+)
+  where
+    by : (t : Bool) → Same (machine.with_stock (cond t (came key bytes (state_in old).stock) (state_in old).stock) (state_in old)) (state_in new) → standing_in new ≡ cond t (admits key bytes (standing_in old)) (standing_in old)
+    by true same =
+        stands_same (machine.with_stock (came key bytes (state_in old).stock) (state_in old)) new (heard_in old) (waiting_in old) (counts_in old) same does.stays.2 does.rests.1 does.rests.0
+        ∙ (λ i. record { vector = (state_in old).vector; rows = heard_in old; floor = (state_in old).floor; map = (state_in old).map; held = λ q. came_held key bytes (state_in old).stock q i; waiting = waiting_in old; counts = counts_in old })
+    by false same = stands_same (state_in old) new (heard_in old) (waiting_in old) (counts_in old) same does.stays.2 does.rests.1 does.rests.0
 
 -- ---- a reap after its due flush
 module _ (old new : Site) (now : ℕ) (key : List ℕ) where

@@ -15,15 +15,17 @@ use Rattle.geo_site.specs.declared.refusal.TakeError.{TakeError}
 use Rattle.geo_site.specs.declared.refusal.TakeError.TheVariants as takes
 use Rattle.geo_site.specs.declared.refusal.ReapError.{ReapError}
 use Rattle.geo_site.specs.declared.refusal.ReapError.TheVariants as reaps
+use Rattle.geo_site.specs.declared.fill.Filled.{Filled}
+use Rattle.geo_site.specs.Fills.{FillDoes}
 use Rattle.geo_site.specs.Entries.{flushes_due, is_done, made_on}
 use Rattle.geo_site.specs.Machine.{Same, visible_in, IsRecordCount, IsHeldCount}
 use Rattle.geo_site.specs.Sites.{state_in, record_count, held_count, waiting_in, clock_in, victim_in, issued_in, ActDoes, FlushDoes, OpenDoes, SendDoes, TakeDoes, RemoveDoes, EvictDoes, ReapDoes, JuggleDoes, Rests, Stays, Remains}
 use Rattle.geo_history.specs.declared.history.Opening.{Opening}
 use Rattle.geo_history.specs.declared.parts.Parts.{Parts}
 use Rattle.geo_history.specs.declared.step.Event.{Event}
-use Rattle.geo_history.specs.declared.step.Event.TheVariants.{Command, Evict, Send, Take, Remove, Tick, Reap}
+use Rattle.geo_history.specs.declared.step.Event.TheVariants.{Command, Evict, Send, Take, Remove, Tick, Reap, Fill}
 use Rattle.geo_history.specs.declared.step.Answer.{Answer}
-use Rattle.geo_history.specs.declared.step.Answer.TheVariants.{Replied, Evicted, Sent, SendRefused, Taken as Took, TakeRefused, Removed, Ticked, Reaped, ReapRefused}
+use Rattle.geo_history.specs.declared.step.Answer.TheVariants.{Replied, Evicted, Sent, SendRefused, Taken as Took, TakeRefused, Removed, Ticked, Reaped, ReapRefused, Filled as FilledAs}
 use Rattle.geo_history.specs.declared.step.Step.{Step}
 use Rattle.geo_history.specs.Standings.{Who, who_in, Standing, standing_in, nothing_yet, Describes}
 use Rattle.geo_history.specs.Replays.{Replays, steps_of, is_numbered}
@@ -186,6 +188,12 @@ EvictForDoes old new seat key (Err refused) = new ≡ old
 abbrev pub TickForDoes : Story → Story → ℕ → ℕ → Result Bool AllocError → Type 0
 TickForDoes old new seat now (Ok done) = (done ≡ is_flush_due old now) × FlushesAlone old new seat now
 TickForDoes old new seat now (Err refused) = new ≡ old
+
+-- what a fill does; where memory is wanted nothing is done
+abbrev pub FillForDoes : Story → Story → ℕ → List ℕ → List ℕ → Result Filled AllocError → Type 0
+FillForDoes old new seat key bytes (Ok filled) = FillDoes old.site new.site key bytes (Ok filled)
+    × GoesOn old new (step_of seat (made_by old seat + 1) (Fill key bytes) (FilledAs filled) ∷ [])
+FillForDoes old new seat key bytes (Err refused) = LeavesAll old new
 
 -- what a reap does after a due flush
 pub record ReapsFor (old new : Story) (seat now : ℕ) (key : List ℕ) (result : Result Bool ReapError) (answer : Answer) : Type 0 where

@@ -15,17 +15,18 @@ use Rattle.geo_site.specs.declared.refusal.TakeError.{TakeError}
 use Rattle.geo_site.specs.declared.refusal.TakeError.TheVariants as takes
 use Rattle.geo_site.specs.declared.refusal.ReapError.{ReapError}
 use Rattle.geo_site.specs.declared.refusal.ReapError.TheVariants as reaps
-use Rattle.geo_site.specs.Entries.{flushes_due, is_stuck, is_done, is_reapable, lacks, owed, made_on}
+use Rattle.geo_site.specs.Fills.{FillsAs, is_filled}
+use Rattle.geo_site.specs.Entries.{names, flushes_due, is_stuck, is_done, is_reapable, lacks, owed, made_on}
 use Rattle.geo_site.specs.Machine.{IsRecordCount, IsHeldCount}
 use Rattle.geo_site.specs.Schedule.{VictimOf}
 use Rattle.geo_site.specs.Sites.{is_sound}
 use Rattle.geo_records.specs.Operations.{version_in}
 use Rattle.geo_history.specs.declared.step.Event.{Event}
-use Rattle.geo_history.specs.declared.step.Event.TheVariants.{Command, Evict, Send, Take, Remove, Tick, Reap}
+use Rattle.geo_history.specs.declared.step.Event.TheVariants.{Command, Evict, Send, Take, Remove, Tick, Reap, Fill}
 use Rattle.geo_history.specs.declared.step.Answer.{Answer}
-use Rattle.geo_history.specs.declared.step.Answer.TheVariants.{Replied, Evicted, Sent, SendRefused, Taken as Took, TakeRefused, Removed, Ticked, Reaped, ReapRefused}
+use Rattle.geo_history.specs.declared.step.Answer.TheVariants.{Replied, Evicted, Sent, SendRefused, Taken as Took, TakeRefused, Removed, Ticked, Reaped, ReapRefused, Filled as FilledAs}
 use Rattle.geo_history.specs.declared.step.Step.{Step}
-use Rattle.geo_history.specs.Standings.{Who, Standing, clock_at, visible_at, basis_at, issued_at, issue_all, flushed, carries_out, takes as taken, removes, evicts, reaped_at}
+use Rattle.geo_history.specs.Standings.{Who, Standing, clock_at, visible_at, basis_at, issued_at, issue_all, flushed, carries_out, takes as taken, removes, evicts, admits, reaped_at}
 
 -- a request where no flush is due: the reply is the one that is owed, and never want of memory
 pub record Requested (who : Who) (old new : Standing) (now : ℕ) (request : Request) (reply : Reply) (victim : Option (List ℕ))
@@ -120,6 +121,9 @@ Leads who old (Reap now key) (Reaped done) new = Undue old now
     × (done ≡ is_reapable who.number who.limits.reap_after now (version_in (old.map key)))
     × (lacks (clock_at old) (reaped_at who old now key) ≡ false) × (new ≡ issue_all who (reaped_at who old now key) old)
 Leads who old (Reap now key) (ReapRefused why) new = Undue old now × ReapRefuses who old now key why × (new ≡ old)
+-- of bytes that are offered it holds what it names and has none of, but where their class is full: of chunks nothing stands here
+Leads who old (Fill key bytes) (FilledAs filled) new = FillsAs (names (version_in (old.map key)) bytes) (is_some (old.held key)) filled
+    × (new ≡ cond (is_filled filled) (admits key bytes old) old)
 Leads who old event answer new = ⊥
 
 abbrev pub StepsTo : Who → Standing → Event → Answer → Option (List ℕ) → Option (List ℕ × ℕ) → Standing → Type 0

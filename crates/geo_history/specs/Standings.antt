@@ -15,6 +15,7 @@ use Rattle.geo_site.specs.declared.site.Site.{Site}
 use Rattle.geo_site.specs.declared.state.SiteState.{SiteState}
 use Rattle.geo_site.specs.Entries.{Held, Visible, Basis, Counts, none_counted, counted, evicted_on, entry_in, named_by, issued, waits_after, due_acts, waits_on, reap_acts}
 use Rattle.geo_site.specs.Machine.{act_held, without, next_operation, sifted_delta}
+use Rattle.geo_site.specs.Schedule.{held_with}
 use Rattle.geo_site.specs.Sites.{state_in, heard_in, waiting_in, counts_in, limits_of, delta_of}
 
 -- which site it is, and what it goes by
@@ -178,6 +179,10 @@ removes who st = record st { map = λ key. remaining (horizon_at who st) (st.map
 -- it holds the bytes of a key no longer, and counts that where it held any
 abbrev pub evicts : List ℕ → Standing → Standing
 evicts key st = counts_as (evicted_on (Some key) st.counts) (lets_go (Some key) st)
+
+-- it holds bytes that were offered
+abbrev pub admits : List ℕ → List ℕ → Standing → Standing
+admits key bytes st = record st { held = held_with key bytes st.held }
 
 -- what it issues to reap a key
 abbrev pub reaped_at : Who → Standing → ℕ → List ℕ → List Act

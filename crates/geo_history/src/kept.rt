@@ -10,9 +10,9 @@ use crate::parts::Parts;
 use crate::step::Step;
 use geo_chunks::Chunks;
 use geo_delta::Parcel;
-use geo_grammar::{Reply, Request};
+use geo_grammar::{Reply, Request, ValueBytes};
 use geo_site::{
-    ReapError, Refused, SendError, Setup, SetupError, Site, SiteState, TakeError, Taken,
+    Filled, ReapError, Refused, SendError, Setup, SetupError, Site, SiteState, TakeError, Taken,
 };
 use geo_versions::Key;
 use std::alloc::{AllocError, Global};
@@ -41,6 +41,8 @@ fn no_steps(alloc: Global) -> Result<Vec<u64>, AllocError>
 
 impl Kept {
     ghost use Rattle.std.specs.Prelude.{◌≡◌, ◌+◌, IfOk, IfSome, None, Some};
+    ghost use Rattle.geo_site.specs.Machine.{Numbered};
+    ghost use Rattle.geo_site.specs.Sites.{state_in};
     ghost use Rattle.geo_history.specs.Keeping.{most_steps, made_by};
     ghost use Rattle.geo_history.specs.Sizes.{kept_bytes};
     ghost use Rattle.geo_history.specs.Stories.{story_in, setup_in, most_bytes_in, is_full, StaysTold, KeptOpens, IsHistoryOf, NewEraDoes};
@@ -94,6 +96,14 @@ impl Kept {
         ensures { result.now ≡ (story_in self.now).site }
     {
         &self.parts.site
+    }
+
+    /// The site's number.
+    pub fn number(&self) -> u8
+        ensures number { result ≡ (story_in self.now).site.number }
+        ensures among { Numbered result (state_in (story_in self.now).site).vector }
+    {
+        self.parts.setup.site
     }
 
     /// Which part of what was done at the site its history is, from 0.
@@ -169,7 +179,7 @@ impl Kept {
 impl Kept {
     ghost use Rattle.std.specs.Prelude.{◌≤◌, ◌<◌, ◌+◌, ◌^◌};
     ghost use Rattle.geo_slabs.specs.Storage.{class_count};
-    ghost use Rattle.geo_history.specs.Keeping.{most_steps, made_by, flush_count, ActForDoes, SendForDoes, TakeForDoes, RemoveForDoes, EvictForDoes, TickForDoes, ReapForDoes, JuggleForDoes};
+    ghost use Rattle.geo_history.specs.Keeping.{most_steps, made_by, flush_count, ActForDoes, SendForDoes, TakeForDoes, RemoveForDoes, EvictForDoes, FillForDoes, TickForDoes, ReapForDoes, JuggleForDoes};
     ghost use Rattle.geo_history.specs.Stories.{story_in, StaysTold};
 
     /// Answers a client's request at a moment in seconds, 1 to 2^40, as [`Site::act_full`] does, and gives the reply twice. A due
@@ -248,6 +258,22 @@ impl Kept {
         ensures told { StaysTold self.old self.new }
     {
         self.parts.evict_for(alloc, seat, key)
+    }
+
+    /// Offers the site bytes of a key as [`Site::fill`] does, and tells what came of them. The step keeps them. Their SHA-256 is computed
+    /// here unless it is known. Where memory is wanted nothing is done.
+    pub fn fill_for(
+        &mut self,
+        alloc: Global,
+        seat: u8,
+        key: &Key,
+        bytes: ValueBytes,
+    ) -> Result<Filled, AllocError>
+        requires left { made_by (story_in self.old) seat < most_steps }
+        ensures does { FillForDoes (story_in self.old) (story_in self.new) seat key.now bytes result }
+        ensures told { StaysTold self.old self.new }
+    {
+        self.parts.fill_for(alloc, seat, key, bytes)
     }
 
     /// Carries out a flush that is due at a moment in seconds, and tells whether there was one. Without one there is no step.

@@ -1,17 +1,19 @@
 //! What a site with its history is made of. A call leaves these parts for a while without the link that a whole `Kept` has.
 ghost use Rattle.std.specs.Prelude.{◌≡◌, ◌≢◌, ◌≤◌, ◌<◌, ◌+◌, ◌^◌, ◌∷◌, ◌++◌, [], ℕ, true, IfOk, IfSome, List, length, slice_index_or};
 ghost use Rattle.geo_slabs.specs.Storage.{class_count};
+ghost use Rattle.geo_site.specs.Fills.{FillDoes};
 ghost use Rattle.geo_site.specs.Sites.{FlushDoes, Rests, Stays};
-ghost use Rattle.geo_history.specs.Keeping.{most_steps, most_seats, made_in, IsCounted, step_with, step_of, is_flush_due, flush_count, flush_steps, story_of, ActForDoes, SendForDoes, TakeForDoes, RemoveForDoes, EvictForDoes, TickForDoes, ReapForDoes, JuggleForDoes};
+ghost use Rattle.geo_history.specs.Keeping.{most_steps, most_seats, made_in, IsCounted, step_with, step_of, is_flush_due, flush_count, flush_steps, story_of, ActForDoes, SendForDoes, TakeForDoes, RemoveForDoes, EvictForDoes, FillForDoes, TickForDoes, ReapForDoes, JuggleForDoes};
 
 use crate::boxed::BoxedParcel;
 use crate::history::{History, Opening};
 use crate::log::Log;
 use crate::step::{Answer, Event, Step};
 use geo_delta::Parcel;
-use geo_grammar::{Reply, Request};
+use geo_grammar::{Reply, Request, ValueBytes};
 use geo_lattice::Twin;
-use geo_site::{Acted, ReapError, Refused, SendError, Setup, Site, TakeError, Taken};
+use geo_site::{Acted, Filled, ReapError, Refused, SendError, Setup, Site, TakeError, Taken};
+use geo_values::Blob;
 use geo_versions::{Digest, Key};
 use std::alloc::{AllocError, Global};
 use std::mem;
@@ -25,6 +27,19 @@ pub struct Parts {
     pub(crate) steps: Log,
     /// How many steps each seat has made.
     pub(crate) counts: Vec<u64>,
+}
+
+/// Offers a site bytes of a key.
+fn fill_site(
+    site: &mut Site,
+    alloc: Global,
+    key: &Key,
+    bytes: &ValueBytes,
+) -> Result<Filled, AllocError>
+    ensures { FillDoes site.old site.new key.now bytes.now result }
+{
+    let blob = Blob::known(bytes.as_slice(), bytes.digest());
+    site.fill(alloc, key, &blob)
 }
 
 impl Parts {
@@ -228,6 +243,29 @@ impl Parts {
         let event = Event::Evict { key: copy };
         self.append(seat, event, Answer::Evicted(done), None, None);
         Ok(done)
+    }
+
+    /// Offers the site bytes of a key, which are kept.
+    pub(crate) fn fill_for(
+        &mut self,
+        alloc: Global,
+        seat: u8,
+        key: &Key,
+        mut bytes: ValueBytes,
+    ) -> Result<Filled, AllocError>
+        requires counted { IsCounted self.old.opening self.old.steps.items self.old.counts.items }
+        requires left { made_in self.old.opening self.old.steps.items seat < most_steps }
+        ensures does { FillForDoes (story_of self.old) (story_of self.new) seat key.now bytes result }
+        ensures setup { self.new.setup ≡ self.old.setup }
+        ensures counted { IsCounted self.new.opening self.new.steps.items self.new.counts.items }
+    {
+        self.steps.ready(1)?;
+        let copy = key.twin(alloc)?;
+        let filled = fill_site(&mut self.site, alloc, key, &bytes)?;
+        bytes.forget_digest();
+        let event = Event::Fill { key: copy, bytes };
+        self.append(seat, event, Answer::Filled(filled), None, None);
+        Ok(filled)
     }
 
     /// Carries out a flush that is due, if there is one.

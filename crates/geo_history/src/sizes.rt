@@ -120,6 +120,7 @@ impl Event {
             Event::Command { request, .. } => request_bytes(request),
             Event::Take { parcel } => parcel_bytes(parcel.parcel()),
             Event::Evict { key } | Event::Reap { key, .. } => lone_bytes(key),
+            Event::Fill { key, bytes } => grown(bytes.len() as u64, 0, key.bytes().len()),
             Event::Send { .. } | Event::Remove | Event::Tick { .. } => 0,
         }
     }

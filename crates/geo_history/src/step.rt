@@ -1,7 +1,7 @@
 //! One call at a site, with what it answered.
 use crate::boxed::BoxedParcel;
-use geo_grammar::{Reply, Request};
-use geo_site::{ReapError, SendError, TakeError, Taken};
+use geo_grammar::{Reply, Request, ValueBytes};
+use geo_site::{Filled, ReapError, SendError, TakeError, Taken};
 use geo_versions::{Digest, Key};
 
 /// What was asked of a site. Moments are in seconds, 1 to 2^40.
@@ -21,6 +21,8 @@ pub enum Event {
     Tick { now: u64 },
     /// To delete a key, where a write of its own ended long enough ago.
     Reap { now: u64, key: Key },
+    /// To hold bytes of a key that another site offers.
+    Fill { key: Key, bytes: ValueBytes },
 }
 
 /// What a site answered. It never wanted memory: a call that did left no step.
@@ -46,6 +48,8 @@ pub enum Answer {
     Reaped(bool),
     /// The key was not deleted.
     ReapRefused(ReapError),
+    /// What came of bytes that were offered.
+    Filled(Filled),
 }
 
 /// One call of a seat.

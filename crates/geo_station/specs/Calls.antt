@@ -4,6 +4,8 @@ use Rattle.geo_delta.specs.declared.parcel.Parcel.{Parcel}
 use Rattle.geo_grammar.specs.declared.request.Request.{Request}
 use Rattle.geo_grammar.specs.declared.reply.Reply.{Reply}
 use Rattle.geo_grammar.specs.declared.reply.Reply.TheVariants.{OutOfMemory}
+use Rattle.std.specs.declared.alloc.AllocError.{AllocError}
+use Rattle.geo_site.specs.declared.fill.Filled.{Filled}
 use Rattle.geo_site.specs.declared.exchange.Taken.{Taken}
 use Rattle.geo_site.specs.declared.refusal.SendError.{SendError}
 use Rattle.geo_site.specs.declared.refusal.SendError.TheVariants as sends
@@ -60,6 +62,11 @@ TakeRefusedBy old new parcel (Site why) = new ≡ called old 1 (Take parcel) (Ta
 abbrev pub TakesBy : Seated → Seated → Parcel → Result Taken Returned → Type 0
 TakesBy old new parcel (Ok told) = new ≡ called old 1 (Take parcel) (Took told)
 TakesBy old new parcel (Err returned) = (returned.parcel ≡ parcel) × TakeRefusedBy old new parcel returned.why
+
+-- a fill is a step that the seat does not keep; a refusal leaves none
+abbrev pub FillsBy : Seated → Seated → Result Filled (CallError AllocError) → Type 0
+FillsBy old new (Ok filled) = new ≡ record old { steps = old.steps + 1 }
+FillsBy old new (Err why) = new ≡ old
 
 -- a maintenance makes steps and changes nothing else of a seat
 abbrev pub MaintainsBy : Seated → Seated → Result Maintained Spent → Type 0

@@ -1,5 +1,6 @@
 //! What lies under a station's lock.
 ghost use Rattle.std.specs.Prelude.{◌≡◌, ◌≢◌, ◌+◌, ◌≤◌, ◌<◌, ◌^◌, ℕ, [], true, false, cond, length, ◌⊎◌, IfOk, IfErr, IfSome, IfNone};
+ghost use Rattle.sha2.specs.Sha256.{sha256};
 ghost use Rattle.geo_delta.specs.Ranges.{InRange};
 ghost use Rattle.geo_grammar.specs.declared.reply.Reply.TheVariants.{OutOfMemory};
 ghost use Rattle.geo_history.specs.Keeping.{most_steps, made_by, made_in_all, is_flush_due};
@@ -13,9 +14,10 @@ use crate::calls::Calls;
 use crate::refusal::{CallError, NoSeat, Returned};
 use crate::seat::Seat;
 use geo_delta::Parcel;
-use geo_grammar::{Reply, Request};
+use geo_grammar::{Reply, Request, ValueBytes};
 use geo_history::{BoxedParcel, History, Kept};
-use geo_site::{Refused, SendError, TakeError, Taken};
+use geo_site::{Filled, Refused, SendError, TakeError, Taken};
+use geo_versions::{Digest, Key};
 use std::alloc::{AllocError, Global};
 use std::sync::ledger::{Book, Ledger, Share};
 
@@ -243,6 +245,36 @@ impl<L: Ledger> Desk<L> {
 }
 
 impl<L: Ledger> Desk<L> {
+    /// Offers the site bytes of a key for a seat.
+    fn fill_in_era(
+        &mut self,
+        alloc: Global,
+        number: u8,
+        account: &mut Account<L>,
+        key: &Key,
+        bytes: ValueBytes,
+    ) -> Result<Filled, CallError<AllocError>>
+        ensures made { IfOk result (λ _. account.new.count ≡ account.old.count + 1) }
+        ensures unmade { IfErr result (λ _. account.new.count ≡ account.old.count) }
+        ensures spent { IfErr result (λ why. why ≡ SeatSpent → most_steps ≤ account.old.count) }
+    {
+        if account.is_spent() {
+            return Err(CallError::SeatSpent);
+        }
+        if !self.has_room(number) {
+            return Err(CallError::Site(AllocError));
+        }
+        match self.kept.fill_for(alloc, number, key, bytes) {
+            Ok(filled) => {
+                account.book(&mut self.book);
+                Ok(filled)
+            }
+            Err(refused) => Err(CallError::Site(refused)),
+        }
+    }
+}
+
+impl<L: Ledger> Desk<L> {
     ghost use Rattle.geo_station.specs.Calls.{sends_made, takes_made};
     ghost use Rattle.geo_station.specs.Eras.{EndsWhereFull};
 
@@ -320,5 +352,41 @@ impl<L: Ledger> Desk<L> {
         let outcome = self.take_in_era(alloc, number, account, parcel, copy);
         *ended = self.end_full(alloc);
         outcome
+    }
+
+    /// Offers the site bytes of a key for a seat as [`Desk::fill_in_era`] does, and ends the era where that filled it.
+    pub(crate) fn fill(
+        &mut self,
+        alloc: Global,
+        number: u8,
+        account: &mut Account<L>,
+        key: &Key,
+        bytes: ValueBytes,
+        ended: &mut Ended,
+    ) -> Result<Filled, CallError<AllocError>>
+        ensures made { IfOk result (λ _. account.new.count ≡ account.old.count + 1) }
+        ensures unmade { IfErr result (λ _. account.new.count ≡ account.old.count) }
+        ensures spent { IfErr result (λ why. why ≡ SeatSpent → most_steps ≤ account.old.count) }
+        ensures ended { EndsWhereFull self.new.kept ended.new }
+    {
+        let outcome = self.fill_in_era(alloc, number, account, key, bytes);
+        *ended = self.end_full(alloc);
+        outcome
+    }
+
+    /// A copy of the bytes that are held of a key, where they have this SHA-256.
+    pub(crate) fn offer(
+        &self,
+        alloc: Global,
+        key: &Key,
+        digest: &Digest,
+    ) -> Result<Option<Vec<u8>>, AllocError>
+        ensures digest { IfOk result (λ offered. IfSome offered (λ bytes. sha256 bytes.items ≡ digest.now)) }
+        ensures short { IfOk result (λ offered. IfSome offered (λ bytes. length bytes.items ≤ 1048576)) }
+    {
+        match self.kept.site().offer(key, digest) {
+            Some(bytes) => Ok(Some(Vec::from_slice(alloc, bytes)?)),
+            None => Ok(None),
+        }
     }
 }

@@ -11,13 +11,15 @@ use crate::account::Account;
 use crate::close::{Unclosed, Unlocked, Why, all_fit, merge_all};
 use crate::desk::{Desk, Unmade};
 use crate::maintain::Maintained;
+use crate::missing::Missing;
 use crate::refusal::{CallError, NoSeat, Returned, SeatSpent, StationError};
 use crate::seat::Seat;
 use geo_delta::Parcel;
-use geo_grammar::{Reply, Request};
+use geo_grammar::{Reply, Request, ValueBytes};
 use geo_history::{Answer, BoxedParcel, Event, History, Kept};
 use geo_lattice::Twin;
-use geo_site::{SendError, TakeError, Taken};
+use geo_site::{Filled, SendError, TakeError, Taken};
+use geo_versions::{Digest, Key};
 use std::alloc::{AllocError, Global};
 use std::marker::Model;
 use std::sync::ledger::{Blank, Ledger};
@@ -88,7 +90,8 @@ impl<L: Ledger> Station<L> {
 }
 
 impl<L: Ledger> Station<L> {
-    ghost use Rattle.geo_station.specs.Calls.{ActsBy, SendsBy, TakesBy, MaintainsBy, takes_made};
+    ghost use Rattle.sha2.specs.Sha256.{sha256};
+    ghost use Rattle.geo_station.specs.Calls.{ActsBy, SendsBy, TakesBy, FillsBy, MaintainsBy, takes_made};
 
     /// Answers a client's request at a moment in seconds, 1 to 2^40, after a due flush. Where memory was wanted for the answer, its
     /// step, or the seat's copy, it is [`Reply::OutOfMemory`], and nothing was done but the due flush.
@@ -256,6 +259,68 @@ impl<L: Ledger> Station<L> {
         done
     }
 
+    /// Offers the site bytes of a key, and tells what came of them. It is a step, of which the seat keeps nothing.
+    pub fn fill(
+        &self,
+        rt: &impl Wait,
+        alloc: Global,
+        seat: &mut Seat<L>,
+        key: &Key,
+        mut bytes: ValueBytes,
+    ) -> Result<Filled, CallError<AllocError>>
+        ensures fills { FillsBy seat.old seat.new result }
+        ensures limit { seat.old.steps ≡ most_steps → result ≡ Err refused.SeatSpent }
+        ensures spent { result ≡ Err refused.SeatSpent → most_steps ≤ seat.old.steps }
+    {
+        let Seat {
+            number,
+            account,
+            ..
+        } = seat;
+        if account.is_spent() {
+            return Err(CallError::SeatSpent);
+        }
+        // No other thread waits for their SHA-256 here.
+        bytes.know_digest(alloc);
+        let mut ended = Ok(None);
+        let done = self
+            .desk
+            .lock(rt)
+            .fill(alloc, *number, account, key, bytes, &mut ended);
+        done
+    }
+
+    /// What the site lacks of the least key above another, where one is told, that has a version which is live at a moment in seconds,
+    /// of which it holds nothing, and whose slab class has room: None where there is none. It is no step. It passes over all records
+    /// while the others wait.
+    pub fn missing(
+        &self,
+        rt: &impl Wait,
+        alloc: Global,
+        now: u64,
+        after: Option<&Key>,
+    ) -> Result<Option<Missing>, AllocError>
+        ensures number { IfOk result (λ missing. IfSome missing (λ m. (1 ≤ m.from) × (m.from ≤ m.sites))) }
+        ensures sites { IfOk result (λ missing. IfSome missing (λ m. m.sites ≤ 16)) }
+    {
+        self.desk.lock(rt).missing(alloc, now, after)
+    }
+
+    /// A copy of the bytes, at most a mebibyte, that the site holds of a key, where they have this SHA-256. It is no step, and counts no
+    /// access.
+    pub fn offer(
+        &self,
+        rt: &impl Wait,
+        alloc: Global,
+        key: &Key,
+        digest: &Digest,
+    ) -> Result<Option<Vec<u8>>, AllocError>
+        ensures digest { IfOk result (λ offered. IfSome offered (λ bytes. sha256 bytes.items ≡ digest.now)) }
+        ensures short { IfOk result (λ offered. IfSome offered (λ bytes. length bytes.items ≤ 1048576)) }
+    {
+        self.desk.lock(rt).offer(alloc, key, digest)
+    }
+
     /// Does at a moment in seconds what the site needs from time to time: a due flush, the deletes of at most 16 keys whose writes
     /// ended long enough ago, one removal, and at most 64 moves in each slab class. It stops at the first that is refused.
     pub fn maintain(
@@ -304,7 +369,7 @@ impl<L: Ledger> Station<L> {
 }
 
 impl<L: Ledger> Station<L> {
-    ghost use Rattle.geo_station.specs.declared.close.Why.TheVariants.{Missing, Differs};
+    ghost use Rattle.geo_station.specs.declared.close.Why.TheVariants as whys;
 
     /// The history of what was done, where all seats are handed in and it tells of each what the seat keeps. Else station and seats
     /// come back, the station without its lock, so that its history can be spoken of.
@@ -314,8 +379,8 @@ impl<L: Ledger> Station<L> {
             ≡ sum_by (λ s. s.steps) seats.items) }
         ensures each { IfOk result (λ history. All (FitsIn history.opening history.steps.items) seats.items) }
         ensures all { IfOk result (λ _. vec_len seats ≡ self) }
-        ensures missing { IfErr result (λ unclosed. unclosed.why ≡ Missing → vec_len seats ≢ self) }
-        ensures differs { IfErr result (λ unclosed. unclosed.why ≡ Differs
+        ensures missing { IfErr result (λ unclosed. unclosed.why ≡ whys.Missing → vec_len seats ≢ self) }
+        ensures differs { IfErr result (λ unclosed. unclosed.why ≡ whys.Differs
             → (vec_len seats ≡ self) × DiffersFrom (story_in unclosed.station.desk.kept) seats.items) }
         ensures back { IfErr result (λ unclosed. (unclosed.seats ≡ seats) × (unclosed.station.seats ≡ self) × (self ≡ L.parts)) }
     {
