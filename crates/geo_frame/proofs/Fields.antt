@@ -10,10 +10,10 @@ use Rattle.geo_stamp.specs.Stamps.{Moment, last_time}
 use Rattle.geo_stamp.specs.Vectors.{greatest_of}
 use Rattle.geo_frame.specs.declared.fault.FrameFault.{FrameFault}
 use Rattle.geo_frame.specs.declared.fault.FrameFault.TheVariants.{Field}
-use Rattle.geo_frame.specs.declared.reading.Route.{Route}
+use Rattle.geo_frame.specs.declared.route.Route.{Route}
 use Rattle.geo_delta.specs.Ranges.{sites_fit, stamp_fits, floor_fits}
-use Rattle.geo_frame.specs.Spelling.{four, eight, stamp_bytes, vector_bytes, floor_bytes, sites_bytes}
-use Rattle.geo_frame.specs.Reading.{◌>>=◌, Read, moment, part_at, byte_at, four_at, eight_at, stamp_at, floor_at, time_at, vector_at, sites_at}
+use Rattle.geo_frame.specs.Spelling.{four, eight, stamp_bytes, vector_bytes, floor_bytes, sites_bytes, retired_bytes}
+use Rattle.geo_frame.specs.Reading.{◌>>=◌, Read, moment, part_at, byte_at, four_at, eight_at, stamp_at, floor_at, time_at, vector_at, sites_at, none_at, retired_at}
 use Rattle.geo_frame.proofs.Lengths.{four_length, eight_length}
 
 -- ---- tools
@@ -207,9 +207,9 @@ floor_takes n bytes f rest fits e =
 floor_parts : (rest : List ℕ) → (eight 0 ++ 0 ∷ []) ++ rest ≡ eight 0 ++ (0 ∷ rest)
 floor_parts rest = append_assoc (eight 0) (0 ∷ []) rest
 
-none_again : (n : ℕ) (rest : List ℕ) → floor_at n (eight 0 ++ (0 ∷ rest)) ≡ Ok (None, rest)
+no_floor_again : (n : ℕ) (rest : List ℕ) → floor_at n (eight 0 ++ (0 ∷ rest)) ≡ Ok (None, rest)
 unfolding floor_at
-none_again n rest = rw (eight_again 0 (0 ∷ rest) (omega arith), byte_again 0 rest) refl
+no_floor_again n rest = rw (eight_again 0 (0 ∷ rest) (omega arith), byte_again 0 rest) refl
 
 some_again : (n : ℕ) (s : Moment) (rest : List ℕ) → stamp_fits n s ≡ true → floor_at n (eight s.time ++ (s.site ∷ rest)) ≡ Ok (Some s, rest)
 unfolding floor_at
@@ -219,7 +219,7 @@ some_again n s rest h =
 
 pub floor_again : (n : ℕ) (f : Option Moment) (rest : List ℕ) → floor_fits n f ≡ true → floor_at n (floor_bytes f ++ rest) ≡ Ok (f, rest)
 unfolding floor_bytes floor_fits
-floor_again n None rest h = ap (floor_at n) (floor_parts rest) ∙ none_again n rest
+floor_again n None rest h = ap (floor_at n) (floor_parts rest) ∙ no_floor_again n rest
 floor_again n (Some s) rest h = ap (floor_at n) (stamp_parts s rest) ∙ some_again n s rest h
 
 -- ---- vectors
@@ -285,3 +285,33 @@ sites_takes bytes r rest fits e =
 pub sites_again : (from to n : ℕ) (rest : List ℕ) → sites_fit from to n ≡ true → sites_at (sites_bytes from to n ++ rest) ≡ Ok (record { from = from; to = to; sites = n }, rest)
 unfolding sites_at sites_bytes byte_at
 sites_again from to n rest h = rw h refl
+
+-- ---- retired sites
+
+none_takes : (bytes rest : List ℕ) → IsBytes bytes → none_at bytes ≡ Ok rest → Takes bytes (eight 0) rest
+unfolding none_at
+none_takes bytes rest fits e =
+    let a = bind_ok (eight_at bytes) (λ set. cond (eqb set.0 0) (Ok set.1) (Err Field)) rest e in
+    let g = pass_ok (eqb a.0.0 0) Field a.0.1 rest a.2 in
+    let t = eight_takes bytes a.0.0 a.0.1 fits a.1 in
+    subst (λ (r : List ℕ). Takes bytes (eight 0) r) g.1 (subst (λ (n : ℕ). Takes bytes (eight n) a.0.1) (eqb-true a.0.0 0 g.0) t.0)
+
+none_again : (rest : List ℕ) → none_at (eight 0 ++ rest) ≡ Ok rest
+unfolding none_at
+none_again rest = rw (eight_again 0 rest (omega arith)) refl
+
+pub retired_takes : (version : ℕ) (bytes rest : List ℕ) → IsBytes bytes → retired_at version bytes ≡ Ok rest → Takes bytes (retired_bytes version) rest
+unfolding retired_at retired_bytes
+retired_takes version bytes rest fits e =
+    elim (chosen (eqb version 1) (Ok bytes) (none_at bytes) (Ok rest) e) [
+      | inl c ↦ rw c.0 (subst (λ (r : List ℕ). Takes bytes [] r) (ok_is bytes rest c.1) (record { parts = refl; rest_fits = fits }))
+      | inr c ↦ rw c.0 (none_takes bytes rest fits c.1)
+    ]
+
+pub retired_again : (version : ℕ) (rest : List ℕ) → retired_at version (retired_bytes version ++ rest) ≡ Ok rest
+unfolding retired_at retired_bytes
+retired_again version rest = by (eqb version 1)
+  where
+    by : (old : Bool) → cond old (Ok (cond old [] (eight 0) ++ rest)) (none_at (cond old [] (eight 0) ++ rest)) ≡ Ok rest
+    by true = refl
+    by false = none_again rest

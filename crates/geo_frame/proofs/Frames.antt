@@ -1,85 +1,28 @@
--- A frame that is read is the frame of what it gives, and the frame of a parcel is read again.
-use Rattle.std.proofs.Common.{◌≡◌, ℕ, zero, suc, ◌+◌, ◌-◌, ◌^◌, ◌<◌, ◌≤◌, Bool, true, false, cond, not, ◌||◌, eqb, ltb, List, [], ◌∷◌, ◌++◌, length, get_or, take, drop, Option, Result, Ok, Err, refl, sym, ap, subst, ◌∙◌, append_assoc, arith}
+-- A frame that is read is a frame of what it gives, and each frame of a message is read again.
+use Rattle.std.proofs.Common.{◌≡◌, ℕ, zero, suc, ◌+◌, ◌-◌, ◌^◌, ◌<◌, ◌≤◌, Bool, true, false, cond, not, ◌||◌, eqb, ltb, List, [], ◌∷◌, ◌++◌, length, get_or, take, drop, Result, Ok, Err, refl, sym, ap, subst, ◌∙◌, append_assoc, arith, inl, inr}
 use Rattle.std.specs.Prelude.{IfOk, codes}
 use Rattle.std.specs.Int.{w32, from_be_bytes}
 use Rattle.std.specs.Str.{bytes_eq}
-use Rattle.std.proofs.lemmas.Bool.{ltb-false, le-ltb, eqb-true}
+use Rattle.std.proofs.lemmas.Bool.{ltb-false, le-ltb}
 use Rattle.std.proofs.lemmas.List.{append-nil, nil_from_length, take_at, drop_at, take-append-drop, length-append, length-take, length-drop}
 use Rattle.std.proofs.lemmas.Slice.Eq.{bytes_eq-Decides}
 use Rattle.sha2.specs.Sha256.{sha256}
 use Rattle.sha2.proofs.Facts256.{length-sha256}
 use Rattle.geo_delta.specs.declared.parcel.Parcel.{Parcel}
-use Rattle.geo_stamp.specs.Stamps.{Moment}
-use Rattle.geo_versions.specs.Maps.{Rec}
+use Rattle.geo_delta.specs.Ranges.{InRange}
 use Rattle.geo_frame.specs.declared.fault.FrameFault.{FrameFault}
 use Rattle.geo_frame.specs.declared.fault.FrameFault.TheVariants.{Short, Magic, Version, Field, Damaged, Trailing, Memory}
-use Rattle.geo_frame.specs.declared.reading.Route.{Route}
-use Rattle.geo_delta.specs.Ranges.{InRange}
-use Rattle.geo_frame.specs.Spelling.{four, sites_bytes, vector_bytes, floor_bytes, records_bytes, fields_of, head_bytes, content_of, frame_of, longest_frame}
-use Rattle.geo_frame.specs.Reading.{◌>>=◌, Gives, sites_at, vector_at, floor_at, all_records, parcel_in, length_field, size_in, fields_sized, fields_in, frame_in}
+use Rattle.geo_frame.specs.declared.message.Message.{Message}
+use Rattle.geo_frame.specs.Payloads.{Wanted, WantedInRange, Payload, PayloadInRange, payload_of}
+use Rattle.geo_frame.specs.Payloads.Payload.{Tells, Asks, Offers}
+use Rattle.geo_frame.specs.Spelling.{four, parcel_bytes, fields_of, head_bytes, content_of, framed, frame_of, old_frame_of, IsFrameOf, longest_frame}
+use Rattle.geo_frame.specs.Reading.{◌>>=◌, Gives, payload_in, version_field, is_version, shortest_frame, length_field, size_in, fields_sized, fields_in, frame_in}
 use Rattle.geo_frame.proofs.Memory.{Clean, clean_cond, clean_then, field}
-use Rattle.geo_frame.proofs.Lengths.{four_length, records_few, fields_length, head_length, frame_size, frame_length}
-use Rattle.geo_frame.proofs.Within.{sites_least}
-use Rattle.geo_frame.proofs.Fields.{IsBytes, IsBytes-drop, IsBytes-take, bind_ok, pass_ok, ok_is, Takes-then, four_is, four_back, sites_takes, sites_again, vector_takes, vector_again, floor_takes, floor_again}
-use Rattle.geo_frame.proofs.Records.{all_takes, all_again}
-
--- ---- parcels
-
-pub parcel_takes : (bytes : List ℕ) (p : Parcel) → IsBytes bytes → parcel_in bytes ≡ Ok p → InRange p × (bytes ≡ fields_of p)
-unfolding parcel_in fields_of
-parcel_takes bytes p fits e =
-    let Records : Type 0 = List (List ℕ × Rec) in
-    let made : Route → List ℕ → List ℕ → Option Moment → Records → Parcel = λ r base upto floor records. record { from = r.from; to = r.to; base = base; upto = upto; floor = floor; records = records } in
-    let a = bind_ok (sites_at bytes) (λ sites. vector_at sites.0.sites sites.1 >>= λ base. vector_at sites.0.sites base.1 >>= λ upto. floor_at sites.0.sites upto.1 >>= λ floor. all_records sites.0.sites floor.1 >>= λ records. Ok (made sites.0 base.0 upto.0 floor.0 records)) p e in
-    let r = a.0.0 in
-    let n = r.sites in
-    let b = bind_ok (vector_at n a.0.1) (λ base. vector_at n base.1 >>= λ upto. floor_at n upto.1 >>= λ floor. all_records n floor.1 >>= λ records. Ok (made r base.0 upto.0 floor.0 records)) p a.2 in
-    let c = bind_ok (vector_at n b.0.1) (λ upto. floor_at n upto.1 >>= λ floor. all_records n floor.1 >>= λ records. Ok (made r b.0.0 upto.0 floor.0 records)) p b.2 in
-    let d = bind_ok (floor_at n c.0.1) (λ floor. all_records n floor.1 >>= λ records. Ok (made r b.0.0 c.0.0 floor.0 records)) p c.2 in
-    let f = bind_ok (all_records n d.0.1) (λ records. Ok (made r b.0.0 c.0.0 d.0.0 records)) p d.2 in
-    let t0 = sites_takes bytes r a.0.1 fits a.1 in
-    let t1 = vector_takes n a.0.1 b.0.0 b.0.1 t0.0.rest_fits b.1 in
-    let t2 = vector_takes n b.0.1 c.0.0 c.0.1 t1.0.rest_fits c.1 in
-    let t3 = floor_takes n c.0.1 d.0.0 d.0.1 t2.0.rest_fits d.1 in
-    let t4 = all_takes n d.0.1 f.0 t3.0.rest_fits f.1 in
-    let x0 = sites_bytes r.from r.to n in
-    let x1 = vector_bytes b.0.0 in
-    let x2 = vector_bytes c.0.0 in
-    let x3 = floor_bytes d.0.0 in
-    let t01 = Takes-then bytes x0 a.0.1 x1 b.0.1 t0.0 t1.0 in
-    let t02 = Takes-then bytes (x0 ++ x1) b.0.1 x2 c.0.1 t01 t2.0 in
-    let t03 = Takes-then bytes (x0 ++ x1 ++ x2) c.0.1 x3 d.0.1 t02 t3.0 in
-    let text : bytes ≡ x0 ++ x1 ++ x2 ++ x3 ++ records_bytes f.0 = t03.parts ∙ ap (λ (y : List ℕ). x0 ++ x1 ++ x2 ++ x3 ++ y) t4.0 in
-    let whole : bytes ≡ sites_bytes r.from r.to (length b.0.0) ++ x1 ++ x2 ++ x3 ++ records_bytes f.0 = text ∙ ap (λ (k : ℕ). sites_bytes r.from r.to k ++ x1 ++ x2 ++ x3 ++ records_bytes f.0) (sym t1.1) in
-    let q : Parcel = made r b.0.0 c.0.0 d.0.0 f.0 in
-    let in_range : InRange q = record {
-      sites = rw t1.1 t0.1;
-      vectors = t2.1 ∙ sym t1.1;
-      base = t1.2;
-      upto = t2.2;
-      floor = rw t1.1 t3.1;
-      records = rw t1.1 t4.1;
-      rising = t4.2;
-    } in
-    subst (λ (p : Parcel). InRange p × (bytes ≡ sites_bytes p.from p.to (length p.base) ++ vector_bytes p.base ++ vector_bytes p.upto ++ floor_bytes p.floor ++ records_bytes p.records)) (ok_is q p f.2) (in_range, whole)
-
-fields_parts : (a b c d e : List ℕ) → a ++ b ++ c ++ d ++ e ≡ a ++ (b ++ (c ++ (d ++ e)))
-fields_parts a b c d e = append_assoc (a ++ b ++ c) d e ∙ append_assoc (a ++ b) c (d ++ e) ∙ append_assoc a b (c ++ (d ++ e))
-
-parts_again : (p : Parcel) → InRange p → length p.records < 2 ^ 32 → parcel_in (sites_bytes p.from p.to (length p.base) ++ (vector_bytes p.base ++ (vector_bytes p.upto ++ (floor_bytes p.floor ++ records_bytes p.records)))) ≡ Ok p
-unfolding parcel_in
-parts_again p h few =
-    let n = length p.base in
-    let x4 = records_bytes p.records in
-    let x3 = floor_bytes p.floor ++ x4 in
-    let x2 = vector_bytes p.upto ++ x3 in
-    let x1 = vector_bytes p.base ++ x2 in
-    let upto : vector_at n x2 ≡ Ok (p.upto, x3) = ap (λ (k : ℕ). vector_at k x2) (sym h.vectors) ∙ vector_again p.upto x3 h.upto in
-    rw (sites_again p.from p.to n x1 h.sites, vector_again p.base x2 h.base, upto, floor_again n p.floor x4 h.floor, all_again n p.records few h.records h.rising) refl
-
-pub parcel_again : (p : Parcel) → InRange p → length p.records < 2 ^ 32 → parcel_in (fields_of p) ≡ Ok p
-unfolding fields_of
-parcel_again p h few = ap parcel_in (fields_parts (sites_bytes p.from p.to (length p.base)) (vector_bytes p.base) (vector_bytes p.upto) (floor_bytes p.floor) (records_bytes p.records)) ∙ parts_again p h few
+use Rattle.geo_frame.proofs.Lengths.{four_length, records_few, head_length, framed_length, frame_size, frame_length, old_frame_length, ask_frame_length, offer_frame_length}
+use Rattle.geo_frame.proofs.Within.{sites_least, key_least}
+use Rattle.geo_frame.proofs.Fields.{IsBytes, IsBytes-drop, IsBytes-take, bind_ok, pass_ok, ok_is, four_is, four_back}
+use Rattle.geo_frame.proofs.Messages.{Few, payload_takes, fields_again, old_again}
+use Rattle.geo_frame.proofs.Messages.Gave.{Old, New}
 
 -- ---- heads
 
@@ -99,29 +42,37 @@ neither false b h = (refl, h)
 record IsHead (bytes : List ℕ) (size : ℕ) : Type 0 where
   long : 9 ≤ length bytes
   magic : take 4 bytes ≡ codes "GCDS"
-  version : get_or bytes 4 0 ≡ 1
+  version : is_version (version_field bytes) ≡ true
   field : size ≡ length_field bytes
-  least : 89 ≤ size
+  least : 79 ≤ size
   most : size ≤ longest_frame
+
+shortest_least : (version : ℕ) → 79 ≤ shortest_frame version
+shortest_least version = by (eqb version 1)
+  where
+    by : (old : Bool) → 79 ≤ cond old 89 79
+    by true = omega arith
+    by false = omega arith
 
 size_takes : (bytes : List ℕ) (size : ℕ) → size_in bytes ≡ Ok size → IsHead bytes size
 unfolding size_in
 size_takes bytes size e =
-    let last : Result ℕ FrameFault = cond (ltb (length_field bytes) 89 || ltb longest_frame (length_field bytes)) (Err Field) (Ok (length_field bytes)) in
-    let third : Result ℕ FrameFault = cond (not (eqb (get_or bytes 4 0) 1)) (Err Version) last in
+    let v = version_field bytes in
+    let last : Result ℕ FrameFault = cond (ltb (length_field bytes) (shortest_frame v) || ltb longest_frame (length_field bytes)) (Err Field) (Ok (length_field bytes)) in
+    let third : Result ℕ FrameFault = cond (not (is_version v)) (Err Version) last in
     let second : Result ℕ FrameFault = cond (not (bytes_eq (take 4 bytes) (codes "GCDS"))) (Err Magic) third in
     let a = passed (ltb (length bytes) 9) Short second size e in
     let b = passed (not (bytes_eq (take 4 bytes) (codes "GCDS"))) Magic third size a.1 in
-    let c = passed (not (eqb (get_or bytes 4 0) 1)) Version last size b.1 in
-    let d = passed (ltb (length_field bytes) 89 || ltb longest_frame (length_field bytes)) Field (Ok (length_field bytes)) size c.1 in
-    let f = neither (ltb (length_field bytes) 89) (ltb longest_frame (length_field bytes)) d.0 in
+    let c = passed (not (is_version v)) Version last size b.1 in
+    let d = passed (ltb (length_field bytes) (shortest_frame v) || ltb longest_frame (length_field bytes)) Field (Ok (length_field bytes)) size c.1 in
+    let f = neither (ltb (length_field bytes) (shortest_frame v)) (ltb longest_frame (length_field bytes)) d.0 in
     let is : length_field bytes ≡ size = ok_is (length_field bytes) size d.1 in
     record {
       long = ltb-false _ _ a.0;
       magic = (bytes_eq-Decides (take 4 bytes) (codes "GCDS")).0 (not_false _ b.0);
-      version = eqb-true _ _ (not_false _ c.0);
+      version = not_false _ c.0;
       field = sym is;
-      least = subst (λ (n : ℕ). 89 ≤ n) is (ltb-false _ _ f.0);
+      least = subst (λ (n : ℕ). 79 ≤ n) is (omega (arith, ltb-false _ _ f.0, shortest_least v));
       most = subst (λ (n : ℕ). n ≤ longest_frame) is (ltb-false _ _ f.1);
     }
 
@@ -137,25 +88,22 @@ nine (a ∷ b ∷ c ∷ d ∷ e ∷ f ∷ g ∷ []) h = absurd (omega arith)
 nine (a ∷ b ∷ c ∷ d ∷ e ∷ f ∷ g ∷ i ∷ []) h = absurd (omega arith)
 nine (a ∷ b ∷ c ∷ d ∷ e ∷ f ∷ g ∷ i ∷ j ∷ bytes) h = refl
 
-head_is : (bytes : List ℕ) (size : ℕ) → IsBytes bytes → IsHead bytes size → take 9 bytes ≡ head_bytes size
+head_is : (bytes : List ℕ) (size : ℕ) → IsBytes bytes → IsHead bytes size → take 9 bytes ≡ head_bytes (version_field bytes) size
 unfolding head_bytes
 head_is bytes size fits h =
     let four-is : four size ≡ take 4 (drop 5 bytes) = ap four h.field ∙ four_is (take 4 (drop 5 bytes)) (omega (arith, length-take 4 (drop 5 bytes), length-drop 5 bytes, h.long)) (IsBytes-take 4 (drop 5 bytes) (IsBytes-drop 5 bytes fits)) in
-    nine bytes h.long ∙ (λ i. h.magic i ++ h.version i ∷ sym four-is i)
+    nine bytes h.long ∙ (λ i. h.magic i ++ version_field bytes ∷ sym four-is i)
 
 -- ---- frames
 
--- the frame that has those fields
-abbrev content_with : List ℕ → List ℕ
-content_with fields = head_bytes (41 + length fields) ++ fields
-
 record IsFramed (bytes fields : List ℕ) : Type 0 where
-  whole : bytes ≡ content_with fields ++ sha256 (content_with fields)
+  whole : bytes ≡ framed (version_field bytes) fields
+  version : is_version (version_field bytes) ≡ true
   most : length bytes ≤ longest_frame
   fits : IsBytes fields
 
 fields_take : (bytes fields : List ℕ) → IsBytes bytes → fields_in bytes ≡ Ok fields → IsFramed bytes fields
-unfolding fields_in fields_sized
+unfolding fields_in fields_sized framed content_of
 fields_take bytes fields fits e =
     let a = bind_ok (size_in bytes) (λ size. fields_sized bytes size) fields e in
     let size = a.0 in
@@ -171,9 +119,11 @@ fields_take bytes fields fits e =
     let content-length : length content ≡ size - 32 = omega (arith, length-take (size - 32) bytes, low, h.least) in
     let rest-length : 41 + length fields ≡ size = omega (arith, ap length (sym d.1), length-drop 9 content, content-length, h.least) in
     let front : take 9 content ≡ take 9 bytes = take_of_take 9 (size - 32) bytes (omega (arith, h.least)) in
-    let is : content ≡ content_with fields = sym (take-append-drop 9 content) ∙ (λ i. (front ∙ head_is bytes size fits h ∙ ap head_bytes (sym rest-length)) i ++ d.1 i) in
+    let v = version_field bytes in
+    let is : content ≡ head_bytes v (41 + length fields) ++ fields = sym (take-append-drop 9 content) ∙ (λ i. (front ∙ head_is bytes size fits h ∙ ap (head_bytes v) (sym rest-length)) i ++ d.1 i) in
     record {
       whole = sym (take-append-drop (size - 32) bytes) ∙ ap (λ (x : List ℕ). content ++ x) (sym ((bytes_eq-Decides (sha256 content) digest).0 d.0)) ∙ ap (λ (x : List ℕ). x ++ sha256 x) is;
+      version = h.version;
       most = omega (arith, high, h.most);
       fits = subst IsBytes d.1 (IsBytes-drop 9 content (IsBytes-take (size - 32) bytes fits));
     }
@@ -184,26 +134,38 @@ fields_take bytes fields fits e =
     take_of_take (suc m) (suc n) [] h = refl
     take_of_take (suc m) (suc n) (x ∷ xs) h = ap (λ (ys : List ℕ). x ∷ ys) (take_of_take m n xs (omega arith))
 
-pub frame_takes : (bytes : List ℕ) (p : Parcel) → IsBytes bytes → frame_in bytes ≡ Ok p → InRange p × (bytes ≡ frame_of p) × (length bytes ≤ longest_frame)
-unfolding frame_in frame_of content_of
-frame_takes bytes p fits e =
-    let a = bind_ok (fields_in bytes) (λ fields. parcel_in fields) p e in
+is_new : (m : Payload) (bytes : List ℕ) → bytes ≡ frame_of m → IsFrameOf bytes m
+is_new (Tells p) bytes e = inl e
+is_new (Asks w) bytes e = e
+is_new (Offers w b) bytes e = e
+
+two_is : (version : ℕ) → is_version version ≡ true → (version ≡ 1 → ⊥) → version ≡ 2
+two_is version h n = grind arith
+
+pub frame_takes : (bytes : List ℕ) (m : Payload) → IsBytes bytes → frame_in bytes ≡ Ok m → PayloadInRange m × IsFrameOf bytes m × (length bytes ≤ longest_frame)
+unfolding frame_in frame_of old_frame_of
+frame_takes bytes m fits e =
+    let a = bind_ok (fields_in bytes) (λ fields. payload_in (version_field bytes) fields) m e in
     let f = fields_take bytes a.0 fits a.1 in
-    let t = parcel_takes a.0 p f.fits a.2 in
-    (t.0, f.whole ∙ ap (λ (x : List ℕ). content_with x ++ sha256 (content_with x)) t.1, f.most)
+    elim (payload_takes (version_field bytes) a.0 m f.fits a.2) [
+      | Old old told ↦
+          let is : bytes ≡ old_frame_of told.parcel = f.whole ∙ (λ i. framed (old i) (told.spelled i)) in
+          subst (λ (m : Payload). PayloadInRange m × IsFrameOf bytes m × (length bytes ≤ longest_frame)) (sym told.told) (told.ranges, inr is, f.most)
+      | New new ranges spelled ↦ (ranges, is_new m bytes (f.whole ∙ (λ i. framed (two_is (version_field bytes) f.version new i) (spelled i))), f.most)
+    ]
 
-pub field_again : (size : ℕ) (rest : List ℕ) → size ≤ longest_frame → length_field (head_bytes size ++ rest) ≡ size
+field_again : (version size : ℕ) (rest : List ℕ) → size ≤ longest_frame → length_field (head_bytes version size ++ rest) ≡ size
 unfolding head_bytes
-field_again size rest most = ap (from_be_bytes w32) (take_at (four size) rest 4 (four_length size)) ∙ four_back size (omega (arith, most))
+field_again version size rest most = ap (from_be_bytes w32) (take_at (four size) rest 4 (four_length size)) ∙ four_back size (omega (arith, most))
 
-head_again : (size : ℕ) (rest : List ℕ) → 89 ≤ size → size ≤ longest_frame → size_in (head_bytes size ++ rest) ≡ Ok size
+head_again : (version size : ℕ) (rest : List ℕ) → is_version version ≡ true → shortest_frame version ≤ size → size ≤ longest_frame → size_in (head_bytes version size ++ rest) ≡ Ok size
 unfolding head_bytes size_in
-head_again size rest least most =
-    let long : ltb (length (head_bytes size ++ rest)) 9 ≡ false = le-ltb _ _ (omega (arith, length-append (four size) rest, four_length size)) in
-    let field : from_be_bytes w32 (take 4 (four size ++ rest)) ≡ size = field_again size rest most in
-    let low : ltb size 89 ≡ false = le-ltb _ _ least in
+head_again version size rest known least most =
+    let long : ltb (length (head_bytes version size ++ rest)) 9 ≡ false = le-ltb _ _ (omega (arith, length-append (four size) rest, four_length size)) in
+    let field : from_be_bytes w32 (take 4 (four size ++ rest)) ≡ size = field_again version size rest most in
+    let low : ltb size (shortest_frame version) ≡ false = le-ltb _ _ least in
     let high : ltb longest_frame size ≡ false = le-ltb _ _ most in
-    rw (long, field, low, high) refl
+    rw (long, known, field, low, high) refl
 
 sized_again : (content digest : List ℕ) (size : ℕ) → size ≡ length content + 32 → digest ≡ sha256 content → fields_sized (content ++ digest) size ≡ Ok (drop 9 content)
 unfolding fields_sized
@@ -216,42 +178,96 @@ sized_again content digest size n e =
     let same : bytes_eq (sha256 content) digest ≡ true = (bytes_eq-Decides (sha256 content) digest).1 (sym e) in
     rw (low, high, take_at content digest (size - 32) k, drop_at content digest (size - 32) k, same) refl
 
-fields_again : (fields : List ℕ) → 48 ≤ length fields → 41 + length fields ≤ longest_frame → fields_in (content_with fields ++ sha256 (content_with fields)) ≡ Ok fields
-unfolding fields_in
-fields_again fields least most =
+framed_again : (version : ℕ) (fields : List ℕ) → is_version version ≡ true → shortest_frame version ≤ 41 + length fields → 41 + length fields ≤ longest_frame → fields_in (framed version fields) ≡ Ok fields
+unfolding fields_in framed content_of
+framed_again version fields known least most =
     let size : ℕ = 41 + length fields in
-    let head : List ℕ = head_bytes size in
-    let content : List ℕ = content_with fields in
-    let one : size_in (content ++ sha256 content) ≡ Ok size = ap size_in (append_assoc head fields (sha256 content)) ∙ head_again size (fields ++ sha256 content) (omega (arith, least)) most in
-    let n : size ≡ length content + 32 = omega (arith, length-append head fields, head_length size) in
-    let two : fields_sized (content ++ sha256 content) size ≡ Ok fields = sized_again content (sha256 content) size n refl ∙ ap (λ (x : List ℕ). Ok x) (drop_at head fields 9 (head_length size)) in
+    let head : List ℕ = head_bytes version size in
+    let content : List ℕ = head ++ fields in
+    let one : size_in (content ++ sha256 content) ≡ Ok size = ap size_in (append_assoc head fields (sha256 content)) ∙ head_again version size (fields ++ sha256 content) known least most in
+    let n : size ≡ length content + 32 = omega (arith, length-append head fields, head_length version size) in
+    let two : fields_sized (content ++ sha256 content) size ≡ Ok fields = sized_again content (sha256 content) size n refl ∙ ap (λ (x : List ℕ). Ok x) (drop_at head fields 9 (head_length version size)) in
     ap (λ (r : Result ℕ FrameFault). r >>= λ size. fields_sized (content ++ sha256 content) size) one ∙ two
 
-pub frame_again : (p : Parcel) → InRange p → length (frame_of p) ≤ longest_frame → frame_in (frame_of p) ≡ Ok p
-unfolding frame_in frame_of content_of
-frame_again p h most =
-    let fields : List ℕ = fields_of p in
-    let few : length p.records < 2 ^ 32 = omega (arith, frame_length p, records_few p.records, most) in
-    let two : 2 ≤ length p.base = sites_least p.from p.to (length p.base) h.sites in
-    let least : 48 ≤ length fields = omega (arith, fields_length p, two, h.vectors) in
-    let one : fields_in (content_with fields ++ sha256 (content_with fields)) ≡ Ok fields = fields_again fields least (omega (arith, frame_size p, most)) in
-    ap (λ (r : Result (List ℕ) FrameFault). r >>= λ fields. parcel_in fields) one ∙ parcel_again p h few
+version_framed : (version : ℕ) (fields : List ℕ) → version_field (framed version fields) ≡ version
+unfolding framed content_of head_bytes
+version_framed version fields = refl
+
+message_again : (version : ℕ) (fields : List ℕ) (m : Payload) → is_version version ≡ true → shortest_frame version ≤ 41 + length fields → 41 + length fields ≤ longest_frame → payload_in version fields ≡ Ok m → frame_in (framed version fields) ≡ Ok m
+unfolding frame_in
+message_again version fields m known least most e =
+    let one : fields_in (framed version fields) ≡ Ok fields = framed_again version fields known least most in
+    ap (λ (r : Result (List ℕ) FrameFault). r >>= λ x. payload_in (version_field (framed version fields)) x) one ∙ ap (λ (v : ℕ). payload_in v fields) (version_framed version fields) ∙ e
+
+pub few_told : (p : Parcel) → length (frame_of (Tells p)) ≤ longest_frame → length p.records < 2 ^ 32
+few_told p most = omega (arith, frame_length p, records_few p.records, most)
+
+few_in : (m : Payload) → length (frame_of m) ≤ longest_frame → Few m
+few_in (Tells p) most = few_told p most
+few_in (Asks w) most = tt
+few_in (Offers w b) most = tt
+
+two_sites : (p : Parcel) → InRange p → 4 ≤ length p.base + length p.upto
+two_sites p h = omega (arith, sites_least p.from p.to (length p.base) h.sites, h.vectors)
+
+some_key : (w : Wanted) → WantedInRange w → 79 ≤ 46 + length w.key + length w.digest
+some_key w h = omega (arith, h.digest, key_least w.key h.key)
+
+least_of : (m : Payload) → PayloadInRange m → 79 ≤ length (frame_of m)
+least_of (Tells p) h = omega (arith, frame_length p, two_sites p h)
+least_of (Asks w) h = omega (arith, ask_frame_length w, some_key w h)
+least_of (Offers w b) h = omega (arith, offer_frame_length w b, some_key w h.0)
+
+new_again : (m : Payload) → PayloadInRange m → length (frame_of m) ≤ longest_frame → frame_in (frame_of m) ≡ Ok m
+unfolding frame_of
+new_again m h most =
+    let size = frame_size m in
+    message_again 2 (fields_of m) m refl (omega (arith, least_of m h, size)) (omega (arith, most, size)) (fields_again m h (few_in m most))
+
+told_before : (p : Parcel) → InRange p → length (old_frame_of p) ≤ longest_frame → frame_in (old_frame_of p) ≡ Ok (Tells p)
+unfolding old_frame_of
+told_before p h most =
+    let n = old_frame_length p in
+    let size = framed_length 1 (parcel_bytes 1 p) in
+    message_again 1 (parcel_bytes 1 p) (Tells p) refl (omega (arith, n, size, two_sites p h)) (omega (arith, size, most)) (old_again p h (omega (arith, n, records_few p.records, most)))
+
+pub frame_again : (m : Payload) (frame : List ℕ) → PayloadInRange m → IsFrameOf frame m → length frame ≤ longest_frame → frame_in frame ≡ Ok m
+frame_again (Tells p) frame h (inl e) most = ap frame_in e ∙ new_again (Tells p) h (subst (λ (x : List ℕ). length x ≤ longest_frame) e most)
+frame_again (Tells p) frame h (inr e) most = ap frame_in e ∙ told_before p h (subst (λ (x : List ℕ). length x ≤ longest_frame) e most)
+frame_again (Asks w) frame h e most = ap frame_in e ∙ new_again (Asks w) h (subst (λ (x : List ℕ). length x ≤ longest_frame) e most)
+frame_again (Offers w b) frame h e most = ap frame_in e ∙ new_again (Offers w b) h (subst (λ (x : List ℕ). length x ≤ longest_frame) e most)
 
 -- ---- laws
 
-pub one_parcel : (p q : Parcel) → InRange p → InRange q → length (frame_of p) ≤ longest_frame → frame_of p ≡ frame_of q → p ≡ q
-one_parcel p q h k most e = ok_is p q (sym (frame_again p h most) ∙ ap frame_in e ∙ frame_again q k (omega (arith, most, ap length (sym e))))
+pub one_message : (m n : Payload) (frame : List ℕ) → PayloadInRange m → PayloadInRange n → length frame ≤ longest_frame → IsFrameOf frame m → IsFrameOf frame n → m ≡ n
+one_message m n frame h k most e f = ok_is m n (sym (frame_again m frame h e most) ∙ frame_again n frame k f most)
 
 -- the length field of a frame, whatever follows
-field_of_frame : (p : Parcel) (more : List ℕ) → length (frame_of p) ≤ longest_frame → length_field (frame_of p ++ more) ≡ length (frame_of p)
-unfolding frame_of content_of
-field_of_frame p more most =
-    let fields : List ℕ = fields_of p in
+field_of_framed : (version : ℕ) (fields more : List ℕ) → length (framed version fields) ≤ longest_frame → length_field (framed version fields ++ more) ≡ length (framed version fields)
+unfolding framed content_of
+field_of_framed version fields more most =
     let size : ℕ = 41 + length fields in
-    let head : List ℕ = head_bytes size in
+    let head : List ℕ = head_bytes version size in
     let digest : List ℕ = sha256 (head ++ fields) in
+    let whole = framed_length version fields in
     let parts : head ++ fields ++ digest ++ more ≡ head ++ (fields ++ (digest ++ more)) = append_assoc (head ++ fields) digest more ∙ append_assoc head fields (digest ++ more) in
-    ap length_field parts ∙ field_again size (fields ++ (digest ++ more)) (omega (arith, frame_size p, most)) ∙ sym (frame_size p)
+    ap length_field parts ∙ field_again version size (fields ++ (digest ++ more)) (omega (arith, whole, most)) ∙ sym whole
+
+field_of_new : (m : Payload) (frame more : List ℕ) → frame ≡ frame_of m → length frame ≤ longest_frame → length_field (frame ++ more) ≡ length frame
+unfolding frame_of
+field_of_new m frame more e most =
+    subst (λ (x : List ℕ). length_field (x ++ more) ≡ length x) (sym e) (field_of_framed 2 (fields_of m) more (subst (λ (x : List ℕ). length x ≤ longest_frame) e most))
+
+field_of_old : (p : Parcel) (frame more : List ℕ) → frame ≡ old_frame_of p → length frame ≤ longest_frame → length_field (frame ++ more) ≡ length frame
+unfolding old_frame_of
+field_of_old p frame more e most =
+    subst (λ (x : List ℕ). length_field (x ++ more) ≡ length x) (sym e) (field_of_framed 1 (parcel_bytes 1 p) more (subst (λ (x : List ℕ). length x ≤ longest_frame) e most))
+
+field_of_frame : (m : Payload) (frame more : List ℕ) → IsFrameOf frame m → length frame ≤ longest_frame → length_field (frame ++ more) ≡ length frame
+field_of_frame (Tells p) frame more (inl e) most = field_of_new (Tells p) frame more e most
+field_of_frame (Tells p) frame more (inr e) most = field_of_old p frame more e most
+field_of_frame (Asks w) frame more e most = field_of_new (Asks w) frame more e most
+field_of_frame (Offers w b) frame more e most = field_of_new (Offers w b) frame more e most
 
 field_of_front : (front back : List ℕ) → 9 ≤ length front → length_field front ≡ length_field (front ++ back)
 field_of_front [] back h = absurd (omega arith)
@@ -265,13 +281,13 @@ field_of_front (a ∷ b ∷ c ∷ d ∷ e ∷ f ∷ g ∷ []) back h = absurd (o
 field_of_front (a ∷ b ∷ c ∷ d ∷ e ∷ f ∷ g ∷ i ∷ []) back h = absurd (omega arith)
 field_of_front (a ∷ b ∷ c ∷ d ∷ e ∷ f ∷ g ∷ i ∷ j ∷ front) back h = refl
 
-pub told_early : (p : Parcel) (front back more : List ℕ) → length (frame_of p) ≤ longest_frame → 9 ≤ length front → front ++ back ≡ frame_of p ++ more → length_field front ≡ length (frame_of p)
-told_early p front back more most long e = field_of_front front back long ∙ ap length_field e ∙ field_of_frame p more most
+pub told_early : (m : Payload) (frame front back more : List ℕ) → IsFrameOf frame m → length frame ≤ longest_frame → 9 ≤ length front → front ++ back ≡ frame ++ more → length_field front ≡ length frame
+told_early m frame front back more is most long e = field_of_front front back long ∙ ap length_field e ∙ field_of_frame m frame more is most
 
-pub none_begins : (p q : Parcel) (more : List ℕ) → length (frame_of p) ≤ longest_frame → length (frame_of q) ≤ longest_frame → frame_of p ++ more ≡ frame_of q → more ≡ []
-none_begins p q more pm qm e =
-    let same : length (frame_of p) ≡ length (frame_of q) = sym (field_of_frame p more pm) ∙ ap length_field (e ∙ sym (append-nil (frame_of q))) ∙ field_of_frame q [] qm in
-    nil_from_length more (omega (arith, same, ap length (sym e), length-append (frame_of p) more))
+pub none_begins : (m n : Payload) (one other more : List ℕ) → IsFrameOf one m → IsFrameOf other n → length one ≤ longest_frame → length other ≤ longest_frame → one ++ more ≡ other → more ≡ []
+none_begins m n one other more p q pm qm e =
+    let same : length one ≡ length other = sym (field_of_frame m one more p pm) ∙ ap length_field (e ∙ sym (append-nil other)) ∙ field_of_frame n other [] q qm in
+    nil_from_length more (omega (arith, same, ap length (sym e), length-append one more))
 
 -- ---- memory is no fault of the bytes
 
@@ -292,7 +308,7 @@ damaged h = absurd cc
 
 clean_size : (bytes : List ℕ) → Clean (size_in bytes)
 unfolding size_in
-clean_size bytes = clean_cond (ltb (length bytes) 9) _ _ short (clean_cond (not (bytes_eq (take 4 bytes) (codes "GCDS"))) _ _ magic (clean_cond (not (eqb (get_or bytes 4 0) 1)) _ _ version (clean_cond (ltb (length_field bytes) 89 || ltb longest_frame (length_field bytes)) (Err Field) (Ok (length_field bytes)) field tt)))
+clean_size bytes = clean_cond (ltb (length bytes) 9) _ _ short (clean_cond (not (bytes_eq (take 4 bytes) (codes "GCDS"))) _ _ magic (clean_cond (not (is_version (version_field bytes))) _ _ version (clean_cond (ltb (length_field bytes) (shortest_frame (version_field bytes)) || ltb longest_frame (length_field bytes)) (Err Field) (Ok (length_field bytes)) field tt)))
 
 clean_sized : (bytes : List ℕ) (size : ℕ) → Clean (fields_sized bytes size)
 unfolding fields_sized
@@ -305,6 +321,7 @@ clean_fields bytes = clean_then (size_in bytes) (λ size. fields_sized bytes siz
 pub no_memory : (bytes : List ℕ) (e : FrameFault) → fields_in bytes ≡ Err e → e ≡ Memory → ⊥
 no_memory bytes e h = subst (λ (r : Result (List ℕ) FrameFault). Clean r) h (clean_fields bytes)
 
-pub is_found : (bytes : List ℕ) (r : Result Parcel FrameFault) → IsBytes bytes → Gives (λ p. p) r (frame_in bytes) → IfOk r (λ p. InRange p × (bytes ≡ frame_of p) × (length bytes ≤ longest_frame))
-is_found bytes (Ok p) fits given = frame_takes bytes p fits given
+pub is_found : (bytes : List ℕ) (r : Result Message FrameFault) → IsBytes bytes → Gives payload_of r (frame_in bytes)
+    → IfOk r (λ m. PayloadInRange (payload_of m) × IsFrameOf bytes (payload_of m) × (length bytes ≤ longest_frame))
+is_found bytes (Ok m) fits given = frame_takes bytes (payload_of m) fits given
 is_found bytes (Err e) fits given = tt

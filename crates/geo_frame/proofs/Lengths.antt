@@ -9,7 +9,9 @@ use Rattle.geo_delta.specs.declared.parcel.Parcel.{Parcel}
 use Rattle.geo_stamp.specs.Stamps.{Moment}
 use Rattle.geo_versions.specs.Maps.{Rec}
 use Rattle.geo_records.specs.declared.body.Body.TheVariants.{Gone, Value}
-use Rattle.geo_frame.specs.Spelling.{four, eight, stamp_bytes, vector_bytes, floor_bytes, body_bytes, expiry_bytes, key_bytes, rec_bytes, record_bytes, records_bytes, sites_bytes, fields_of, head_bytes, content_of, frame_of}
+use Rattle.geo_frame.specs.Payloads.{Wanted, Payload}
+use Rattle.geo_frame.specs.Payloads.Payload.{Tells, Asks, Offers}
+use Rattle.geo_frame.specs.Spelling.{four, eight, stamp_bytes, vector_bytes, floor_bytes, body_bytes, expiry_bytes, key_bytes, rec_bytes, record_bytes, records_bytes, sites_bytes, retired_bytes, parcel_bytes, wanted_bytes, offered_bytes, fields_of, head_bytes, content_of, framed, frame_of, old_frame_of}
 
 pub four_length : (n : ℕ) → length (four n) ≡ 4
 unfolding four
@@ -63,34 +65,84 @@ pub records_length : (rs : List (List ℕ × Rec)) → length (records_bytes rs)
 unfolding records_bytes
 records_length rs = omega (arith, length-append (four (length rs)) (flat_map record_bytes rs), four_length (length rs))
 
-pub fields_length : (p : Parcel) → length (fields_of p) ≡ 16 + 8 * (length p.base + length p.upto) + length (flat_map record_bytes p.records)
-unfolding fields_of sites_bytes
-fields_length p =
+retired_old : length (retired_bytes 1) ≡ 0
+unfolding retired_bytes
+retired_old = refl
+
+retired_new : length (retired_bytes 2) ≡ 8
+unfolding retired_bytes eight
+retired_new = refl
+
+pub parcel_length : (version : ℕ) (p : Parcel) → length (parcel_bytes version p) ≡ 16 + length (retired_bytes version) + 8 * (length p.base + length p.upto) + length (flat_map record_bytes p.records)
+unfolding parcel_bytes sites_bytes
+parcel_length version p =
     omega (
       arith,
       vector_length p.base,
       vector_length p.upto,
       floor_length p.floor,
       records_length p.records,
-      length-append (vector_bytes p.base ++ vector_bytes p.upto ++ floor_bytes p.floor) (records_bytes p.records),
-      length-append (vector_bytes p.base ++ vector_bytes p.upto) (floor_bytes p.floor),
+      length-append (vector_bytes p.base ++ vector_bytes p.upto ++ retired_bytes version ++ floor_bytes p.floor) (records_bytes p.records),
+      length-append (vector_bytes p.base ++ vector_bytes p.upto ++ retired_bytes version) (floor_bytes p.floor),
+      length-append (vector_bytes p.base ++ vector_bytes p.upto) (retired_bytes version),
       length-append (vector_bytes p.base) (vector_bytes p.upto),
     )
 
-pub head_length : (n : ℕ) → length (head_bytes n) ≡ 9
+pub wanted_length : (w : Wanted) → length (wanted_bytes w) ≡ 4 + length w.key + length w.digest
+unfolding wanted_bytes sites_bytes key_bytes
+wanted_length w = omega (arith, length-append w.key w.digest)
+
+pub offered_none : length (offered_bytes None) ≡ 1
+unfolding offered_bytes
+offered_none = refl
+
+pub offered_some : (bytes : List ℕ) → length (offered_bytes (Some bytes)) ≡ 5 + length bytes
+unfolding offered_bytes
+offered_some bytes = omega (arith, four_length (length bytes), length-append (four (length bytes)) bytes)
+
+tells_length : (p : Parcel) → length (fields_of (Tells p)) ≡ 1 + length (parcel_bytes 2 p)
+unfolding fields_of
+tells_length p = omega arith
+
+asks_length : (w : Wanted) → length (fields_of (Asks w)) ≡ 1 + length (wanted_bytes w)
+unfolding fields_of
+asks_length w = omega arith
+
+offers_length : (w : Wanted) (bytes : Option (List ℕ)) → length (fields_of (Offers w bytes)) ≡ 1 + length (wanted_bytes w) + length (offered_bytes bytes)
+unfolding fields_of
+offers_length w bytes = omega (arith, length-append (wanted_bytes w) (offered_bytes bytes))
+
+pub head_length : (version n : ℕ) → length (head_bytes version n) ≡ 9
 unfolding head_bytes four
-head_length n = refl
+head_length version n = refl
 
-pub content_length : (p : Parcel) → length (content_of p) ≡ 9 + length (fields_of p)
+pub content_length : (version : ℕ) (fields : List ℕ) → length (content_of version fields) ≡ 9 + length fields
 unfolding content_of
-content_length p = omega (arith, length-append (head_bytes (41 + length (fields_of p))) (fields_of p), head_length (41 + length (fields_of p)))
+content_length version fields = omega (arith, length-append (head_bytes version (41 + length fields)) fields, head_length version (41 + length fields))
 
-pub frame_size : (p : Parcel) → length (frame_of p) ≡ 41 + length (fields_of p)
+pub framed_length : (version : ℕ) (fields : List ℕ) → length (framed version fields) ≡ 41 + length fields
+unfolding framed
+framed_length version fields = omega (arith, length-append (content_of version fields) (sha256 (content_of version fields)), length-sha256 (content_of version fields), content_length version fields)
+
+pub frame_size : (m : Payload) → length (frame_of m) ≡ 41 + length (fields_of m)
 unfolding frame_of
-frame_size p = omega (arith, length-append (content_of p) (sha256 (content_of p)), length-sha256 (content_of p), content_length p)
+frame_size m = framed_length 2 (fields_of m)
 
-pub frame_length : (p : Parcel) → length (frame_of p) ≡ 57 + 8 * (length p.base + length p.upto) + length (flat_map record_bytes p.records)
-frame_length p = omega (arith, frame_size p, fields_length p)
+pub frame_length : (p : Parcel) → length (frame_of (Tells p)) ≡ 66 + 8 * (length p.base + length p.upto) + length (flat_map record_bytes p.records)
+frame_length p = omega (arith, frame_size (Tells p), tells_length p, parcel_length 2 p, retired_new)
+
+pub old_frame_length : (p : Parcel) → length (old_frame_of p) ≡ 57 + 8 * (length p.base + length p.upto) + length (flat_map record_bytes p.records)
+unfolding old_frame_of
+old_frame_length p = omega (arith, framed_length 1 (parcel_bytes 1 p), parcel_length 1 p, retired_old)
+
+pub ask_frame_length : (w : Wanted) → length (frame_of (Asks w)) ≡ 46 + length w.key + length w.digest
+ask_frame_length w = omega (arith, frame_size (Asks w), asks_length w, wanted_length w)
+
+pub offer_frame_length : (w : Wanted) (bytes : Option (List ℕ)) → length (frame_of (Offers w bytes)) ≡ 46 + length w.key + length w.digest + length (offered_bytes bytes)
+offer_frame_length w bytes = omega (arith, frame_size (Offers w bytes), offers_length w bytes, wanted_length w)
+
+pub offer_by : (w : Wanted) (bytes : Option (List ℕ)) (ask offered : ℕ) → ask ≡ length (frame_of (Asks w)) → offered ≡ length (offered_bytes bytes) → ask + offered ≡ length (frame_of (Offers w bytes))
+offer_by w bytes ask offered e f = omega (arith, offer_frame_length w bytes, ask_frame_length w, e, f)
 
 -- each record has a byte at least
 pub records_few : (rs : List (List ℕ × Rec)) → length rs ≤ length (flat_map record_bytes rs)
@@ -98,9 +150,9 @@ records_few [] = omega arith
 records_few (e ∷ rs) = omega (arith, ap length (flat_map-cons record_bytes e rs), length-append (record_bytes e) (flat_map record_bytes rs), record_length e, records_few rs)
 
 -- the head, the fields and the SHA-256 are the frame
-pub written_is : (p : Parcel) (size : ℕ) (a b out : List ℕ) → size ≡ length (frame_of p) → a ≡ head_bytes size → b ≡ a ++ fields_of p → out ≡ b ++ sha256 b → out ≡ frame_of p
-unfolding frame_of content_of
-written_is p size a b out n e f g =
-    let size-is : size ≡ 41 + length (fields_of p) = n ∙ frame_size p in
-    let content : b ≡ head_bytes (41 + length (fields_of p)) ++ fields_of p = f ∙ ap (λ (x : List ℕ). x ++ fields_of p) (e ∙ ap head_bytes size-is) in
+pub written_is : (m : Payload) (size : ℕ) (a b out : List ℕ) → size ≡ length (frame_of m) → a ≡ head_bytes 2 size → b ≡ a ++ fields_of m → out ≡ b ++ sha256 b → out ≡ frame_of m
+unfolding frame_of framed content_of
+written_is m size a b out n e f g =
+    let size-is : size ≡ 41 + length (fields_of m) = n ∙ frame_size m in
+    let content : b ≡ head_bytes 2 (41 + length (fields_of m)) ++ fields_of m = f ∙ ap (λ (x : List ℕ). x ++ fields_of m) (e ∙ ap (head_bytes 2) size-is) in
     g ∙ ap (λ (x : List ℕ). x ++ sha256 x) content

@@ -3,5 +3,7 @@ pub mod Lengths
 pub mod Within
 pub mod Fields
 pub mod Records
+pub mod Asks
+pub mod Messages
 pub mod Frames
 pub mod Loops

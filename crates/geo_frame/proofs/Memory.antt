@@ -1,12 +1,16 @@
 -- Want of memory is no fault of the bytes.
 use Rattle.std.proofs.Common.{◌≡◌, ℕ, zero, suc, ◌+◌, Bool, true, false, cond, ◌&&◌, eqb, ltb, nat_le, List, [], ◌∷◌, length, Result, Ok, Err, IsOk, subst, sym, refl, arith}
 use Rattle.geo_frame.specs.declared.fault.FrameFault.{FrameFault}
-use Rattle.geo_frame.specs.declared.fault.FrameFault.TheVariants.{Field, Memory}
+use Rattle.geo_frame.specs.declared.fault.FrameFault.TheVariants.{Field, Order, Memory}
 use Rattle.geo_stamp.specs.Stamps.{last_time}
 use Rattle.geo_delta.specs.Ranges.{sites_fit, stamp_fits}
 use Rattle.geo_versions.specs.Maps.{Rec}
+use Rattle.std.specs.Ordering.{nat_cmp, is_lt}
+use Rattle.std.specs.Cmp.Lexicographic.{slice_cmp}
+use Rattle.geo_records.specs.Keys.{is_key}
+use Rattle.geo_records.specs.Lengths.{longest_value}
 use Rattle.geo_frame.proofs.Fields.{bind_ok}
-use Rattle.geo_frame.specs.Reading.{◌>>=◌, key_at, record_at, last_key, moment, part_at, byte_at, four_at, eight_at, floor_at, time_at, vector_at, sites_at}
+use Rattle.geo_frame.specs.Reading.{◌>>=◌, key_at, record_at, last_key, moment, part_at, byte_at, four_at, eight_at, floor_at, time_at, vector_at, sites_at, size_at, none_at, retired_at, wanted_at, bytes_at, tagged_bytes, offered_at, ask_in, offer_in}
 
 abbrev pub Clean : {A : Type 0} → Result A FrameFault → Type 0
 Clean (Ok x) = Unit {0}
@@ -60,6 +64,48 @@ pub clean_floor : (n : ℕ) (bytes : List ℕ) → Clean (floor_at n bytes)
 unfolding floor_at
 clean_floor n bytes = clean_then (eight_at bytes) _ (clean_eight bytes) (λ time. clean_then (byte_at time.1) _ (clean_byte time.1) (λ site.
     clean_cond (eqb time.0 0 && eqb site.0 0) _ _ tt (clean_cond (stamp_fits n (moment time.0 site.0)) _ _ tt field)))
+
+order : Order ≡ Memory → ⊥
+order h = absurd cc
+
+pub clean_key : (before bytes : List ℕ) → Clean (key_at before bytes)
+unfolding key_at
+clean_key before bytes = clean_then (byte_at bytes) _ (clean_byte bytes) (λ size. clean_then (part_at size.0 size.1) _ (clean_part size.0 size.1) (λ key.
+    clean_cond (is_key key.0) _ _ (clean_cond (is_lt (slice_cmp nat_cmp before key.0)) _ _ tt order) field))
+
+clean_none : (bytes : List ℕ) → Clean (none_at bytes)
+unfolding none_at
+clean_none bytes = clean_then (eight_at bytes) _ (clean_eight bytes) (λ set. clean_cond (eqb set.0 0) _ _ tt field)
+
+pub clean_retired : (version : ℕ) (bytes : List ℕ) → Clean (retired_at version bytes)
+unfolding retired_at
+clean_retired version bytes = clean_cond (eqb version 1) _ _ tt (clean_none bytes)
+
+-- ---- asks and offers
+
+clean_size : (bytes : List ℕ) → Clean (size_at bytes)
+unfolding size_at
+clean_size bytes = clean_then (four_at bytes) _ (clean_four bytes) (λ size. clean_cond (nat_le size.0 longest_value) (Ok size) (Err Field) tt field)
+
+clean_wanted : (bytes : List ℕ) → Clean (wanted_at bytes)
+unfolding wanted_at
+clean_wanted bytes = clean_then (sites_at bytes) _ (clean_sites bytes) (λ sites. clean_then (key_at [] sites.1) _ (clean_key [] sites.1) (λ key. clean_then (part_at 32 key.1) _ (clean_part 32 key.1) (λ _. tt)))
+
+clean_bytes : (bytes : List ℕ) → Clean (bytes_at bytes)
+unfolding bytes_at
+clean_bytes bytes = clean_then (size_at bytes) _ (clean_size bytes) (λ size. clean_then (part_at size.0 size.1) _ (clean_part size.0 size.1) (λ _. tt))
+
+clean_offered : (bytes : List ℕ) → Clean (offered_at bytes)
+unfolding offered_at tagged_bytes
+clean_offered bytes = clean_then (byte_at bytes) _ (clean_byte bytes) (λ tag. clean_cond (eqb tag.0 0) _ _ tt (clean_cond (eqb tag.0 1) (bytes_at tag.1) (Err Field) (clean_bytes tag.1) field))
+
+pub clean_ask : (bytes : List ℕ) → Clean (ask_in bytes)
+unfolding ask_in
+clean_ask bytes = clean_then (wanted_at bytes) _ (clean_wanted bytes) (λ wanted. clean_cond (eqb (length wanted.1) 0) _ _ tt field)
+
+pub clean_offer : (bytes : List ℕ) → Clean (offer_in bytes)
+unfolding offer_in
+clean_offer bytes = clean_then (wanted_at bytes) _ (clean_wanted bytes) (λ wanted. clean_then (offered_at wanted.1) _ (clean_offered wanted.1) (λ offered. clean_cond (eqb (length offered.1) 0) _ _ tt field))
 
 -- ---- the first key
 

@@ -23,7 +23,7 @@ use Rattle.geo_frame.proofs.Fields.{IsBytes, bind_ok, pass_ok, chosen, ok_is, no
 
 -- ---- bodies
 
-size_takes : (bytes : List ℕ) (n : ℕ) (rest : List ℕ) → IsBytes bytes → size_at bytes ≡ Ok (n, rest) → Takes bytes (four n) rest × (leb n longest_value ≡ true)
+pub size_takes : (bytes : List ℕ) (n : ℕ) (rest : List ℕ) → IsBytes bytes → size_at bytes ≡ Ok (n, rest) → Takes bytes (four n) rest × (leb n longest_value ≡ true)
 unfolding size_at
 size_takes bytes n rest fits e =
     let a = bind_ok (four_at bytes) (λ size. cond (leb size.0 longest_value) (Ok size) (Err Field)) (n, rest) e in
@@ -31,7 +31,7 @@ size_takes bytes n rest fits e =
     let t0 = four_takes bytes a.0.0 a.0.1 fits a.1 in
     subst (λ (p : ℕ × List ℕ). Takes bytes (four p.0) p.1 × (leb p.0 longest_value ≡ true)) g.1 (t0.0, g.0)
 
-size_again : (n : ℕ) (rest : List ℕ) → leb n longest_value ≡ true → size_at (four n ++ rest) ≡ Ok (n, rest)
+pub size_again : (n : ℕ) (rest : List ℕ) → leb n longest_value ≡ true → size_at (four n ++ rest) ≡ Ok (n, rest)
 unfolding size_at
 size_again n rest h = rw (four_again n rest (omega (arith, leb-true n longest_value h)), h) refl
 
@@ -221,7 +221,7 @@ rec_again n r rest h =
     let q = both_of (expiry_fits n r.right.register) (has_register (r.left.register, r.right.register)) p.1 in
     rw (body_again n r.left.register (expiry_bytes r.right.register ++ rest) p.0, latest_again n r.right.register rest q.0, q.1) refl
 
-key_takes : (before bytes key rest : List ℕ) → IsBytes bytes → key_at before bytes ≡ Ok (key, rest) → Takes bytes (key_bytes key) rest × (is_key key ≡ true) × (is_lt (slice_cmp nat_cmp before key) ≡ true)
+pub key_takes : (before bytes key rest : List ℕ) → IsBytes bytes → key_at before bytes ≡ Ok (key, rest) → Takes bytes (key_bytes key) rest × (is_key key ≡ true) × (is_lt (slice_cmp nat_cmp before key) ≡ true)
 unfolding key_at key_bytes
 key_takes before bytes key rest fits e =
     let inner : List ℕ × List ℕ → Read (List ℕ) = λ key. cond (is_lt (slice_cmp nat_cmp before key.0)) (Ok key) (Err Order) in
@@ -238,7 +238,7 @@ key_takes before bytes key rest fits e =
       | inr c ↦ not_ok Field (key, rest) c.1
     ]
 
-key_again : (before key rest : List ℕ) → is_key key ≡ true → is_lt (slice_cmp nat_cmp before key) ≡ true → key_at before (key_bytes key ++ rest) ≡ Ok (key, rest)
+pub key_again : (before key rest : List ℕ) → is_key key ≡ true → is_lt (slice_cmp nat_cmp before key) ≡ true → key_at before (key_bytes key ++ rest) ≡ Ok (key, rest)
 unfolding key_at key_bytes
 key_again before key rest h lt = rw (byte_again (length key) (key ++ rest), part_again (length key) key rest refl, h, lt) refl
 
@@ -286,7 +286,7 @@ records_take n (suc count) before bytes rs rest fits e =
     subst (λ (p : List (List ℕ × Rec) × List ℕ). Takes bytes (flat_map record_bytes p.0) p.1 × (length p.0 ≡ suc count) × (list_all (record_fits n) p.0 ≡ true) × Above before p.0 × Rising p.0) (ok_is (a.0.0 ∷ b.0.0, b.0.1) (rs, rest) b.2)
     (rw flat_map-cons both, ap suc t1.1, both_are _ _ t0.1 t1.2, less_is _ t0.2, (t1.3, t1.4))
 
-is_less : (o : Ordering) → o ≡ Less → is_lt o ≡ true
+pub is_less : (o : Ordering) → o ≡ Less → is_lt o ≡ true
 is_less o h = ap is_lt h
 
 records_again : (n : ℕ) (before : List ℕ) (rs : List (List ℕ × Rec)) (rest : List ℕ) → list_all (record_fits n) rs ≡ true → Above before rs → Rising rs → records_at n (length rs) before (flat_map record_bytes rs ++ rest) ≡ Ok (rs, rest)
@@ -298,7 +298,7 @@ records_again n before (r ∷ rs) rest h above rising =
     ap (records_at n (suc (length rs)) before) parts ∙ rw (record_again n before r (flat_map record_bytes rs ++ rest) p.0 (is_less _ above), records_again n r.0 rs rest p.1 rising.0 rising.1) refl
 
 -- each key is greater than no bytes
-key_above : (key : List ℕ) → is_key key ≡ true → slice_cmp nat_cmp [] key ≡ Less
+pub key_above : (key : List ℕ) → is_key key ≡ true → slice_cmp nat_cmp [] key ≡ Less
 key_above [] h = absurd cc
 key_above (b ∷ key) h = refl
 

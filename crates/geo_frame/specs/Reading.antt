@@ -1,5 +1,5 @@
 -- Reading a frame from left to right, with the first fault that is met.
-use Rattle.std.specs.Prelude.{◌≡◌, ℕ, zero, suc, ◌-◌, ◌==◌, nat_le, nat_lt, not, ◌&&◌, ◌||◌, List, [], ◌∷◌, length, take, drop, slice_index, codes, Option, None, Some, Result, Ok, Err, if◌then◌else◌}
+use Rattle.std.specs.Prelude.{◌≡◌, ℕ, zero, suc, ◌-◌, ◌==◌, nat_le, nat_lt, Bool, not, ◌&&◌, ◌||◌, List, [], ◌∷◌, length, take, drop, slice_index, codes, Option, None, Some, Result, Ok, Err, if◌then◌else◌}
 use Rattle.std.specs.Int.{w32, w64, from_be_bytes}
 use Rattle.std.specs.Ordering.{nat_cmp, is_lt}
 use Rattle.std.specs.Cmp.Lexicographic.{slice_cmp}
@@ -14,9 +14,11 @@ use Rattle.geo_records.specs.declared.body.Body.{Body}
 use Rattle.geo_records.specs.declared.body.Body.TheVariants.{Gone, Value}
 use Rattle.geo_frame.specs.declared.fault.FrameFault.{FrameFault}
 use Rattle.geo_frame.specs.declared.fault.FrameFault.TheVariants.{Short, Magic, Version, Field, Order, Damaged, Trailing, Memory}
-use Rattle.geo_frame.specs.declared.reading.Route.{Route}
+use Rattle.geo_frame.specs.declared.route.Route.{Route}
 use Rattle.geo_delta.specs.Ranges.{sites_fit, stamp_fits}
 use Rattle.geo_records.specs.Lengths.{longest_value}
+use Rattle.geo_frame.specs.Payloads.{Wanted, Payload}
+use Rattle.geo_frame.specs.Payloads.Payload.{Tells, Asks, Offers}
 use Rattle.geo_frame.specs.Spelling.{longest_frame}
 
 infixl 10 ◌>>=◌
@@ -170,7 +172,7 @@ rec_at n bytes = do
   expiry ← latest_at n body.1
   if has_register (body.0, expiry.0) then Ok (rec_with body.0 expiry.0, expiry.1) else Err Field
 
--- a key that is greater than the one before it
+-- a key that is greater than the one before it; all keys are greater than no bytes
 unfoldable pub key_at : List ℕ → List ℕ → Read (List ℕ)
 key_at before bytes = do
   size ← byte_at bytes
@@ -204,44 +206,151 @@ all_records n bytes = do
   records ← records_at n count.0 [] count.1
   if length records.1 == 0 then Ok records.0 else Err Field
 
+-- ---- parcels
+
+-- no bit is set
+unfoldable pub none_at : List ℕ → Result (List ℕ) FrameFault
+none_at bytes = do
+  set ← eight_at bytes
+  if set.0 == 0 then Ok set.1 else Err Field
+
+-- the bytes behind the sites that have retired: version 1 has no such field
+unfoldable pub retired_at : ℕ → List ℕ → Result (List ℕ) FrameFault
+retired_at version bytes = if version == 1 then Ok bytes else none_at bytes
+
+unfoldable pub parcel_in : ℕ → List ℕ → Result Parcel FrameFault
+parcel_in version bytes = do
+  sites ← sites_at bytes
+  base ← vector_at sites.0.sites sites.1
+  upto ← vector_at sites.0.sites base.1
+  behind ← retired_at version upto.1
+  floor ← floor_at sites.0.sites behind
+  records ← all_records sites.0.sites floor.1
+  Ok (record { from = sites.0.from; to = sites.0.to; base = base.0; upto = upto.0; floor = floor.0; records = records })
+
+-- ---- asks and offers
+
+unfoldable pub wanted_at : List ℕ → Read Wanted
+wanted_at bytes = do
+  sites ← sites_at bytes
+  key ← key_at [] sites.1
+  digest ← part_at 32 key.1
+  Ok (record { route = sites.0; key = key.0; digest = digest.0 }, digest.1)
+
+-- bytes behind their length
+unfoldable pub bytes_at : List ℕ → Read (Option (List ℕ))
+bytes_at bytes = do
+  size ← size_at bytes
+  part ← part_at size.0 size.1
+  Ok (Some part.0, part.1)
+
+unfoldable pub tagged_bytes : ℕ → List ℕ → Read (Option (List ℕ))
+tagged_bytes tag bytes = if tag == 0 then Ok (None, bytes) else (if tag == 1 then bytes_at bytes else Err Field)
+
+unfoldable pub offered_at : List ℕ → Read (Option (List ℕ))
+offered_at bytes = do
+  tag ← byte_at bytes
+  tagged_bytes tag.0 tag.1
+
+-- and nothing more
+unfoldable pub ask_in : List ℕ → Result Wanted FrameFault
+ask_in bytes = do
+  wanted ← wanted_at bytes
+  if length wanted.1 == 0 then Ok wanted.0 else Err Field
+
+unfoldable pub offer_in : List ℕ → Result (Wanted × Option (List ℕ)) FrameFault
+offer_in bytes = do
+  wanted ← wanted_at bytes
+  offered ← offered_at wanted.1
+  if length offered.1 == 0 then Ok (wanted.0, offered.0) else Err Field
+
+-- ---- messages
+
+unfoldable pub told_in : ℕ → List ℕ → Result Payload FrameFault
+told_in version bytes = do
+  parcel ← parcel_in version bytes
+  Ok (Tells parcel)
+
+unfoldable pub asked_in : List ℕ → Result Payload FrameFault
+asked_in bytes = do
+  ask ← ask_in bytes
+  Ok (Asks ask)
+
+unfoldable pub offered_in : List ℕ → Result Payload FrameFault
+offered_in bytes = do
+  offer ← offer_in bytes
+  Ok (Offers offer.0 offer.1)
+
+unfoldable pub of_kind : ℕ → List ℕ → Result Payload FrameFault
+of_kind kind bytes = if kind == 1 then told_in 2 bytes
+    else (if kind == 2 then asked_in bytes else (if kind == 3 then offered_in bytes else Err Field))
+
+-- version 1 has parcels alone, and version 2 begins with the kind
+unfoldable pub payload_in : ℕ → List ℕ → Result Payload FrameFault
+payload_in version fields = if version == 1 then told_in 1 fields else (do
+  kind ← byte_at fields
+  of_kind kind.0 kind.1)
+
 -- ---- want of memory
 
--- the key of the first record: memory is asked for nowhere before it is read
+-- the key of the first record: of a parcel memory is asked for nowhere before it is read
 unfoldable pub first_key_at : List ℕ → Read (List ℕ)
 first_key_at bytes = do
   count ← four_at bytes
   if count.0 == 0 then Err Field else key_at [] count.1
 
 -- behind the sites, the vectors, the floor and the number of records
-unfoldable pub first_key_of : List ℕ → Read (List ℕ)
-first_key_of fields = do
+unfoldable pub first_key_of : ℕ → List ℕ → Read (List ℕ)
+first_key_of version fields = do
   sites ← sites_at fields
   base ← vector_at sites.0.sites sites.1
   upto ← vector_at sites.0.sites base.1
-  floor ← floor_at sites.0.sites upto.1
+  behind ← retired_at version upto.1
+  floor ← floor_at sites.0.sites behind
   first_key_at floor.1
+
+-- of an ask or an offer memory is asked for nowhere before all of it is read
+unfoldable pub key_of_ask : List ℕ → Read (List ℕ)
+key_of_ask bytes = do
+  ask ← ask_in bytes
+  Ok (ask.key, [])
+
+unfoldable pub key_of_offer : List ℕ → Read (List ℕ)
+key_of_offer bytes = do
+  offer ← offer_in bytes
+  Ok (offer.0.key, [])
+
+unfoldable pub key_of_kind : ℕ → List ℕ → Read (List ℕ)
+key_of_kind kind bytes = if kind == 1 then first_key_of 2 bytes
+    else (if kind == 2 then key_of_ask bytes else (if kind == 3 then key_of_offer bytes else Err Field))
+
+unfoldable pub key_in : ℕ → List ℕ → Read (List ℕ)
+key_in version fields = if version == 1 then first_key_of 1 fields else (do
+  kind ← byte_at fields
+  key_of_kind kind.0 kind.1)
 
 -- ---- frames
 
-unfoldable pub parcel_in : List ℕ → Result Parcel FrameFault
-parcel_in bytes = do
-  sites ← sites_at bytes
-  base ← vector_at sites.0.sites sites.1
-  upto ← vector_at sites.0.sites base.1
-  floor ← floor_at sites.0.sites upto.1
-  records ← all_records sites.0.sites floor.1
-  Ok (record { from = sites.0.from; to = sites.0.to; base = base.0; upto = upto.0; floor = floor.0; records = records })
+abbrev pub version_field : List ℕ → ℕ
+version_field bytes = slice_index bytes 4
 
 -- what the length field says
 abbrev pub length_field : List ℕ → ℕ
 length_field bytes = from_be_bytes w32 (take 4 (drop 5 bytes))
 
+abbrev pub is_version : ℕ → Bool
+is_version version = (version == 1) || (version == 2)
+
+-- in version 1 a parcel between two sites without records, in version 2 an ask for a key of one byte
+abbrev pub shortest_frame : ℕ → ℕ
+shortest_frame version = if version == 1 then 89 else 79
+
 unfoldable pub size_in : List ℕ → Result ℕ FrameFault
 size_in bytes =
     if nat_lt (length bytes) 9 then Err Short
     else (if not (bytes_eq (take 4 bytes) (codes "GCDS")) then Err Magic
-    else (if not (slice_index bytes 4 == 1) then Err Version
-    else (if nat_lt (length_field bytes) 89 || nat_lt longest_frame (length_field bytes) then Err Field
+    else (if not (is_version (version_field bytes)) then Err Version
+    else (if nat_lt (length_field bytes) (shortest_frame (version_field bytes)) || nat_lt longest_frame (length_field bytes) then Err Field
     else Ok (length_field bytes))))
 
 -- the fields, where the frame has its length and its SHA-256
@@ -257,12 +366,12 @@ fields_in bytes = do
   size ← size_in bytes
   fields_sized bytes size
 
-unfoldable pub frame_in : List ℕ → Result Parcel FrameFault
+unfoldable pub frame_in : List ℕ → Result Payload FrameFault
 frame_in bytes = do
   fields ← fields_in bytes
-  parcel_in fields
+  payload_in (version_field bytes) fields
 
 unfoldable pub first_key_in : List ℕ → Read (List ℕ)
 first_key_in bytes = do
   fields ← fields_in bytes
-  first_key_of fields
+  key_in (version_field bytes) fields

@@ -1,5 +1,5 @@
 -- The bytes of a frame, part by part. All numbers are big-endian.
-use Rattle.std.specs.Prelude.{ℕ, ◌+◌, List, [], ◌∷◌, ◌++◌, length, codes, Option, None, Some}
+use Rattle.std.specs.Prelude.{◌≡◌, ◌⊎◌, ℕ, ◌+◌, ◌==◌, List, [], ◌∷◌, ◌++◌, length, codes, Option, None, Some, if◌then◌else◌}
 use Rattle.std.specs.List.{flat_map}
 use Rattle.std.specs.Int.{w32, w64, to_be_bytes}
 use Rattle.sha2.specs.Sha256.{sha256}
@@ -9,6 +9,8 @@ use Rattle.geo_versions.specs.Maps.{Rec}
 use Rattle.geo_records.specs.Operations.{Register}
 use Rattle.geo_records.specs.declared.body.Body.{Body}
 use Rattle.geo_records.specs.declared.body.Body.TheVariants.{Gone, Value}
+use Rattle.geo_frame.specs.Payloads.{Wanted, Payload}
+use Rattle.geo_frame.specs.Payloads.Payload.{Tells, Asks, Offers}
 
 -- a number of four bytes, and of eight
 unfoldable pub four : ℕ → List ℕ
@@ -57,20 +59,54 @@ records_bytes records = four (length records) ++ flat_map record_bytes records
 unfoldable pub sites_bytes : ℕ → ℕ → ℕ → List ℕ
 sites_bytes from to n = from ∷ to ∷ n ∷ []
 
-unfoldable pub fields_of : Parcel → List ℕ
-fields_of p = sites_bytes p.from p.to (length p.base) ++ vector_bytes p.base ++ vector_bytes p.upto ++ floor_bytes p.floor
-    ++ records_bytes p.records
+-- the sites that have retired, a bit each, of which there are none so far; version 1 has no such field
+unfoldable pub retired_bytes : ℕ → List ℕ
+retired_bytes version = if version == 1 then [] else eight 0
+
+-- the fields of a parcel in a version
+unfoldable pub parcel_bytes : ℕ → Parcel → List ℕ
+parcel_bytes version p = sites_bytes p.from p.to (length p.base) ++ vector_bytes p.base ++ vector_bytes p.upto
+    ++ retired_bytes version ++ floor_bytes p.floor ++ records_bytes p.records
+
+-- between which sites, the key, and the digest
+unfoldable pub wanted_bytes : Wanted → List ℕ
+wanted_bytes w = sites_bytes w.route.from w.route.to w.route.sites ++ key_bytes w.key ++ w.digest
+
+-- a tag, and the bytes behind their length
+unfoldable pub offered_bytes : Option (List ℕ) → List ℕ
+offered_bytes None = 0 ∷ []
+offered_bytes (Some bytes) = 1 ∷ four (length bytes) ++ bytes
+
+-- the kind of a message, and its fields
+unfoldable pub fields_of : Payload → List ℕ
+fields_of (Tells p) = 1 ∷ parcel_bytes 2 p
+fields_of (Asks w) = 2 ∷ wanted_bytes w
+fields_of (Offers w bytes) = 3 ∷ wanted_bytes w ++ offered_bytes bytes
 
 -- the magic, the version, and the length of the whole
-unfoldable pub head_bytes : ℕ → List ℕ
-head_bytes size = codes "GCDS" ++ 1 ∷ four size
+unfoldable pub head_bytes : ℕ → ℕ → List ℕ
+head_bytes version size = codes "GCDS" ++ version ∷ four size
 
 -- nine bytes of head and 32 of digest stand around the fields
-unfoldable pub content_of : Parcel → List ℕ
-content_of p = head_bytes (41 + length (fields_of p)) ++ fields_of p
+unfoldable pub content_of : ℕ → List ℕ → List ℕ
+content_of version fields = head_bytes version (41 + length fields) ++ fields
 
-unfoldable pub frame_of : Parcel → List ℕ
-frame_of p = content_of p ++ sha256 (content_of p)
+unfoldable pub framed : ℕ → List ℕ → List ℕ
+framed version fields = content_of version fields ++ sha256 (content_of version fields)
+
+-- what is written: version 2
+unfoldable pub frame_of : Payload → List ℕ
+frame_of m = framed 2 (fields_of m)
+
+-- version 1, which has parcels alone, as it was written before
+unfoldable pub old_frame_of : Parcel → List ℕ
+old_frame_of p = framed 1 (parcel_bytes 1 p)
+
+-- one spelling in each version
+abbrev pub IsFrameOf : List ℕ → Payload → Type 0
+IsFrameOf bytes (Tells p) = (bytes ≡ frame_of (Tells p)) ⊎ (bytes ≡ old_frame_of p)
+IsFrameOf bytes (Asks w) = bytes ≡ frame_of (Asks w)
+IsFrameOf bytes (Offers w b) = bytes ≡ frame_of (Offers w b)
 
 abbrev pub longest_frame : ℕ
 longest_frame = 1073741824

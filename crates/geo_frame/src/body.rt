@@ -13,7 +13,7 @@ type ExpiryRegister = Lww<Stamp, u64>;
 
 /// The length of a value.
 #[tactic(auto, unfolding(crate::specs::Reading::size_at))]
-fn take_size(bytes: &mut Bytes) -> Result<Length, FrameFault>
+pub(crate) fn take_size(bytes: &mut Bytes) -> Result<Length, FrameFault>
     ensures { Reads (λ x. x) result bytes.new.left.now (size_at bytes.old.left.now) }
 {
     match Length::new(bytes.take_u32()?) {

@@ -1,10 +1,10 @@
 //! The bytes of a frame, read from the front.
 ghost use Rattle.std.specs.Prelude.{◌≡◌, ◌≤◌, IfOk, MatchOption, true, false};
 ghost use Rattle.geo_delta.specs.Ranges.{stamp_fits};
-ghost use Rattle.geo_frame.specs.Reading.{Reads, moment, part_at, byte_at, four_at, eight_at, stamp_at, floor_at, time_at};
+ghost use Rattle.geo_frame.specs.Reading.{Says, Reads, moment, part_at, byte_at, four_at, eight_at, stamp_at, floor_at, time_at, none_at, retired_at};
 
 use crate::fault::FrameFault;
-use crate::limits::DIGEST;
+use crate::limits::{DIGEST, OLD_VERSION};
 use geo_stamp::{LAST_TIME, Stamp};
 use geo_versions::Digest;
 
@@ -130,5 +130,26 @@ impl<'a> Bytes<'a> {
             return Err(FrameFault::Field);
         }
         Ok(time)
+    }
+    /// A set of sites of which there are none.
+    #[tactic(auto, unfolding(crate::specs::Reading::none_at))]
+    fn take_none(&mut self) -> Result<(), FrameFault>
+        ensures { Says (λ _. self.new.left.now) result (none_at self.old.left.now) }
+    {
+        if self.take_u64()? != 0 {
+            return Err(FrameFault::Field);
+        }
+        Ok(())
+    }
+
+    /// The sites that have retired, which version 1 doesn't tell.
+    #[tactic(auto, unfolding(crate::specs::Reading::retired_at))]
+    pub(crate) fn take_retired(&mut self, version: u8) -> Result<(), FrameFault>
+        ensures { Says (λ _. self.new.left.now) result (retired_at version self.old.left.now) }
+    {
+        if version == OLD_VERSION {
+            return Ok(());
+        }
+        self.take_none()
     }
 }

@@ -1,28 +1,28 @@
-//! What holds of all frames. The laws run nothing: a caller names them for their contract.
+//! What holds of all frames, of either version. The laws run nothing: a caller names them for their contract.
 ghost use Rattle.std.specs.Prelude.{◌≡◌, ◌≤◌, ◌++◌, [], List, ℕ, length, Ok};
-ghost use Rattle.geo_delta.specs.declared.parcel.Parcel.{Parcel};
-ghost use Rattle.geo_delta.specs.Ranges.{InRange};
-ghost use Rattle.geo_frame.specs.Spelling.{frame_of, longest_frame};
+ghost use Rattle.geo_frame.specs.Payloads.{Payload, PayloadInRange};
+ghost use Rattle.geo_frame.specs.Spelling.{IsFrameOf, longest_frame};
 ghost use Rattle.geo_frame.specs.Reading.{frame_in, length_field};
 
-/// To read the frame of a parcel gives the parcel.
-pub fn frame_gives_its_parcel()
-    ensures { (p : Parcel) → InRange p → length (frame_of p) ≤ longest_frame → frame_in (frame_of p) ≡ Ok p }
+/// To read a frame of a message gives the message.
+pub fn frame_gives_its_message()
+    ensures { (m : Payload) (frame : List ℕ) → PayloadInRange m → IsFrameOf frame m → length frame ≤ longest_frame → frame_in frame ≡ Ok m }
 {}
 
-/// Two parcels have two frames.
-pub fn frame_is_of_one_parcel()
-    ensures { (p q : Parcel) → InRange p → InRange q → length (frame_of p) ≤ longest_frame → frame_of p ≡ frame_of q → p ≡ q }
+/// Two messages have no frame in common.
+pub fn frame_is_of_one_message()
+    ensures { (m n : Payload) (frame : List ℕ) → PayloadInRange m → PayloadInRange n → length frame ≤ longest_frame → IsFrameOf frame m
+        → IsFrameOf frame n → m ≡ n }
 {}
 
 /// No frame begins another.
 pub fn no_frame_begins_another()
-    ensures { (p q : Parcel) (more : List ℕ) → length (frame_of p) ≤ longest_frame → length (frame_of q) ≤ longest_frame
-        → frame_of p ++ more ≡ frame_of q → more ≡ [] }
+    ensures { (m n : Payload) (one other more : List ℕ) → IsFrameOf one m → IsFrameOf other n → length one ≤ longest_frame
+        → length other ≤ longest_frame → one ++ more ≡ other → more ≡ [] }
 {}
 
 /// The length field in a frame's first nine bytes or more is the length of the frame, whatever follows it.
 pub fn length_is_told_early()
-    ensures { (p : Parcel) (front back more : List ℕ) → length (frame_of p) ≤ longest_frame → 9 ≤ length front
-        → front ++ back ≡ frame_of p ++ more → length_field front ≡ length (frame_of p) }
+    ensures { (m : Payload) (frame front back more : List ℕ) → IsFrameOf frame m → length frame ≤ longest_frame → 9 ≤ length front
+        → front ++ back ≡ frame ++ more → length_field front ≡ length frame }
 {}

@@ -1,9 +1,14 @@
 //! How many bytes a frame has.
-ghost use Rattle.std.specs.Prelude.{◌≡◌, ◌<◌, ◌≤◌, ◌+◌, length, Some, MatchOption};
+ghost use Rattle.std.specs.Prelude.{◌≡◌, ◌<◌, ◌≤◌, ◌+◌, length, Some, MatchOption, option_map};
+ghost use Rattle.std.specs.Option.{IfSome};
 ghost use Rattle.geo_stamp.specs.Stamps.{Moment};
-ghost use Rattle.geo_frame.specs.Spelling.{body_bytes, expiry_bytes, record_bytes, frame_of, longest_frame};
+ghost use Rattle.geo_records.specs.Lengths.{longest_value};
+ghost use Rattle.geo_frame.specs.Payloads.{Wanted, PayloadInRange, payload_of};
+ghost use Rattle.geo_frame.specs.Payloads.Payload.{Tells, Asks, Offers};
+ghost use Rattle.geo_frame.specs.Spelling.{body_bytes, expiry_bytes, record_bytes, offered_bytes, frame_of, longest_frame};
 
-use crate::limits::{BESIDE_RECORDS, LONGEST_FRAME};
+use crate::limits::{BESIDE_KEY, BESIDE_RECORDS, LONGEST_FRAME};
+use crate::message::Message;
 use geo_delta::Parcel;
 use geo_lattice::Lww;
 use geo_stamp::Stamp;
@@ -49,8 +54,8 @@ fn record_length(entry: &(Key, Rec)) -> usize
 }
 
 /// The length of a parcel's frame, None where it would be above [`LONGEST_FRAME`].
-pub(crate) fn frame_length(parcel: &Parcel) -> Option<usize>
-    ensures { MatchOption result (longest_frame < length (frame_of parcel.now)) (λ n. (n ≡ length (frame_of parcel.now))
+fn parcel_length(parcel: &Parcel) -> Option<usize>
+    ensures { MatchOption result (longest_frame < length (frame_of (Tells parcel.now))) (λ n. (n ≡ length (frame_of (Tells parcel.now)))
         × (n ≤ longest_frame)) }
 {
     let mut size = BESIDE_RECORDS + 8 * (parcel.base.sites() + parcel.upto.sites());
@@ -61,4 +66,48 @@ pub(crate) fn frame_length(parcel: &Parcel) -> Option<usize>
         }
     }
     Some(size)
+}
+
+/// The length of the frame of an ask for a key.
+fn ask_length(key: &Key) -> usize
+    ensures exact { (w : Wanted) → w.key ≡ key.now → length w.digest ≡ 32 → result ≡ length (frame_of (Asks w)) }
+    ensures most { result ≤ 328 }
+{
+    BESIDE_KEY + key.bytes().len()
+}
+
+/// How many bytes stand behind the digest of an offer.
+#[tactic(auto, using(crate::proofs::Lengths::offered_none, crate::proofs::Lengths::offered_some))]
+fn offered_length(bytes: &Option<Vec<u8>>) -> usize
+    requires { IfSome (option_map (λ b. b.items) bytes.now) (λ b. length b ≤ longest_value) }
+    ensures exact { result ≡ length (offered_bytes (option_map (λ b. b.items) bytes.now)) }
+    ensures most { result ≤ 5 + longest_value }
+{
+    match bytes {
+        None => 1,
+        Some(bytes) => 5 + bytes.len(),
+    }
+}
+
+/// The length of the frame of an offer for a key.
+fn offer_length(key: &Key, bytes: &Option<Vec<u8>>) -> usize
+    requires { IfSome (option_map (λ b. b.items) bytes.now) (λ b. length b ≤ longest_value) }
+    ensures exact { (w : Wanted) → w.key ≡ key.now → length w.digest ≡ 32
+        → result ≡ length (frame_of (Offers w (option_map (λ b. b.items) bytes.now))) }
+    ensures most { result ≤ 333 + longest_value }
+{
+    ask_length(key) + offered_length(bytes)
+}
+
+/// The length of a message's frame, None where it would be above [`LONGEST_FRAME`].
+pub(crate) fn frame_length(message: &Message) -> Option<usize>
+    requires { PayloadInRange (payload_of message.now) }
+    ensures { MatchOption result (longest_frame < length (frame_of (payload_of message.now)))
+        (λ n. (n ≡ length (frame_of (payload_of message.now))) × (n ≤ longest_frame)) }
+{
+    match message {
+        Message::Parcel(parcel) => parcel_length(parcel),
+        Message::Ask { key, .. } => Some(ask_length(key)),
+        Message::Offer { key, bytes, .. } => Some(offer_length(key, bytes)),
+    }
 }

@@ -1,13 +1,19 @@
 //! The parts of a frame, written at the end of its bytes. Where memory was refused a part may stand there.
-ghost use Rattle.std.specs.Prelude.{◌≡◌, ◌<◌, ◌^◌, ◌++◌, length, OnOk};
+ghost use Rattle.std.specs.Prelude.{◌≡◌, ◌<◌, ◌≤◌, ◌^◌, ◌++◌, length, option_map, OnOk};
+ghost use Rattle.std.specs.Option.{IfSome};
 ghost use Rattle.std.specs.List.{flat_map};
-ghost use Rattle.geo_frame.specs.Spelling.{four, eight, stamp_bytes, vector_bytes, floor_bytes, body_bytes, expiry_bytes, key_bytes, rec_bytes, record_bytes, records_bytes, sites_bytes, fields_of, head_bytes};
+ghost use Rattle.geo_frame.specs.Spelling.{four, eight, stamp_bytes, vector_bytes, floor_bytes, body_bytes, expiry_bytes, key_bytes, rec_bytes, record_bytes, records_bytes, sites_bytes, parcel_bytes, wanted_bytes, offered_bytes, fields_of, head_bytes, frame_of, longest_frame};
+ghost use Rattle.geo_frame.specs.Payloads.{PayloadInRange, payload_of};
+ghost use Rattle.geo_frame.specs.Payloads.Payload.{Tells, Asks, Offers};
+ghost use Rattle.geo_records.specs.Lengths.{longest_value};
 
-use crate::limits::{MAGIC, VERSION};
+use crate::limits::{ASK, MAGIC, OFFER, PARCEL, VERSION};
+use crate::message::Message;
+use crate::route::Route;
 use geo_delta::Parcel;
 use geo_lattice::Lww;
 use geo_stamp::{Stamp, Vector};
-use geo_versions::{Body, Key, Rec};
+use geo_versions::{Body, Digest, Key, Rec};
 use std::alloc::AllocError;
 
 #[tactic(auto, unfolding(crate::specs::Spelling::four))]
@@ -155,23 +161,127 @@ fn push_sites(out: &mut Vec<u8>, from: u8, to: u8, sites: u8) -> Result<(), Allo
     out.extend_from_slice(&[from, to, sites])
 }
 
-/// The fields of a parcel.
-#[tactic(auto, unfolding(crate::specs::Spelling::fields_of))]
-pub(crate) fn push_fields(out: &mut Vec<u8>, parcel: &Parcel) -> Result<(), AllocError>
+/// The fields of a parcel, and none that has retired.
+#[tactic(auto, unfolding(crate::specs::Spelling::parcel_bytes, crate::specs::Spelling::retired_bytes))]
+fn push_parcel(out: &mut Vec<u8>, parcel: &Parcel) -> Result<(), AllocError>
     requires { length parcel.now.records < 2 ^ 32 }
-    ensures { OnOk result (out.new.items ≡ out.old.items ++ fields_of parcel.now) }
+    ensures { OnOk result (out.new.items ≡ out.old.items ++ parcel_bytes 2 parcel.now) }
 {
     push_sites(out, parcel.from, parcel.to, parcel.base.sites() as u8)?;
     push_vector(out, &parcel.base)?;
     push_vector(out, &parcel.upto)?;
+    push_u64(out, 0)?;
     push_floor(out, &parcel.floor)?;
     push_records(out, parcel.records.as_slice())
+}
+
+/// The sites, the key and the digest of an ask or an offer.
+#[tactic(auto, unfolding(crate::specs::Spelling::wanted_bytes))]
+fn push_wanted(
+    out: &mut Vec<u8>,
+    route: Route,
+    key: &Key,
+    digest: &Digest,
+) -> Result<(), AllocError>
+    ensures { OnOk result (out.new.items ≡ out.old.items ++ wanted_bytes (record { route = route; key = key.now; digest = digest.now })) }
+{
+    push_sites(out, route.from, route.to, route.sites)?;
+    push_key(out, key)?;
+    out.extend_from_slice(digest.bytes().as_slice())
+}
+
+/// What is offered.
+#[tactic(auto, unfolding(crate::specs::Spelling::offered_bytes))]
+fn push_offered(out: &mut Vec<u8>, bytes: &Option<Vec<u8>>) -> Result<(), AllocError>
+    requires { IfSome (option_map (λ b. b.items) bytes.now) (λ b. length b ≤ longest_value) }
+    ensures { OnOk result (out.new.items ≡ out.old.items ++ offered_bytes (option_map (λ b. b.items) bytes.now)) }
+{
+    match bytes {
+        None => {
+            out.push(0)?;
+            Ok(())
+        }
+        Some(bytes) => {
+            out.push(1)?;
+            push_u32(out, bytes.len() as u32)?;
+            out.extend_from_slice(bytes.as_slice())
+        }
+    }
+}
+/// A parcel behind its kind.
+#[tactic(auto, unfolding(crate::specs::Spelling::fields_of))]
+fn push_told(out: &mut Vec<u8>, parcel: &Parcel) -> Result<(), AllocError>
+    requires { length parcel.now.records < 2 ^ 32 }
+    ensures { OnOk result (out.new.items ≡ out.old.items ++ fields_of (Tells parcel.now)) }
+{
+    out.push(PARCEL)?;
+    push_parcel(out, parcel)
+}
+
+/// An ask behind its kind.
+#[tactic(auto, unfolding(crate::specs::Spelling::fields_of))]
+fn push_asked(out: &mut Vec<u8>, route: Route, key: &Key, digest: &Digest) -> Result<(), AllocError>
+    ensures { OnOk result (out.new.items ≡ out.old.items
+        ++ fields_of (Asks (record { route = route; key = key.now; digest = digest.now }))) }
+{
+    out.push(ASK)?;
+    push_wanted(out, route, key, digest)
+}
+
+/// An offer behind its kind.
+#[tactic(auto, unfolding(crate::specs::Spelling::fields_of))]
+fn push_offer(
+    out: &mut Vec<u8>,
+    route: Route,
+    key: &Key,
+    digest: &Digest,
+    bytes: &Option<Vec<u8>>,
+) -> Result<(), AllocError>
+    requires { IfSome (option_map (λ b. b.items) bytes.now) (λ b. length b ≤ longest_value) }
+    ensures { OnOk result (out.new.items ≡ out.old.items
+        ++ fields_of (Offers (record { route = route; key = key.now; digest = digest.now }) (option_map (λ b. b.items) bytes.now))) }
+{
+    out.push(OFFER)?;
+    push_wanted(out, route, key, digest)?;
+    push_offered(out, bytes)
+}
+
+fn route(from: u8, to: u8, sites: u8) -> Route
+    ensures { result ≡ record { from = from; to = to; sites = sites } }
+{
+    Route { from, to, sites }
+}
+
+/// The fields of a message.
+pub(crate) fn push_fields(out: &mut Vec<u8>, message: &Message) -> Result<(), AllocError>
+    requires range { PayloadInRange (payload_of message.now) }
+    requires most { length (frame_of (payload_of message.now)) ≤ longest_frame }
+    ensures { OnOk result (out.new.items ≡ out.old.items ++ fields_of (payload_of message.now)) }
+{
+    match message {
+        Message::Parcel(parcel) => push_told(out, parcel),
+        Message::Ask {
+            from,
+            to,
+            sites,
+            key,
+            digest,
+        } => push_asked(out, route(*from, *to, *sites), key, digest),
+        Message::Offer {
+            from,
+            to,
+            sites,
+            key,
+            digest,
+            bytes,
+        } => push_offer(out, route(*from, *to, *sites), key, digest, bytes),
+    }
 }
 
 /// The head of a frame of so many bytes.
 #[tactic(auto, unfolding(crate::specs::Spelling::head_bytes))]
 pub(crate) fn push_head(out: &mut Vec<u8>, size: u32) -> Result<(), AllocError>
-    ensures { OnOk result (out.new.items ≡ out.old.items ++ head_bytes size) }
+    ensures { OnOk result (out.new.items ≡ out.old.items ++ head_bytes 2 size) }
 {
     out.extend_from_slice(MAGIC.as_slice())?;
     out.push(VERSION)?;

@@ -3,13 +3,12 @@ use Rattle.std.proofs.Common.{◌≡◌, ℕ, ◌<◌, ◌≤◌, false, List, [
 use Rattle.std.specs.Io.KnownBytes.{Consumes, Keeps, IsAtEnd, prepend_known}
 use Rattle.std.specs.Result.{IsErrAnd}
 use Rattle.std.proofs.lemmas.List.{length-take}
-use Rattle.geo_delta.specs.Ranges.{InRange}
-use Rattle.geo_delta.specs.declared.parcel.Parcel.{Parcel}
+use Rattle.geo_frame.specs.Payloads.{Payload, PayloadInRange}
 use Rattle.geo_frame.specs.declared.fault.FrameFault.{FrameFault}
 use Rattle.geo_frame.specs.declared.fault.FrameFault.TheVariants.{Short, Magic, Version, Field, Order, Damaged, Trailing}
 use Rattle.geo_frame.specs.declared.fault.FrameFault.TheVariants as frame
 use Rattle.geo_frame.specs.Reading.{Fails, frame_in, size_in}
-use Rattle.geo_frame.specs.Spelling.{frame_of, longest_frame}
+use Rattle.geo_frame.specs.Spelling.{IsFrameOf, longest_frame}
 use Rattle.geo_link.specs.declared.fault.LinkError.{LinkError}
 use Rattle.geo_link.specs.declared.fault.LinkError.TheVariants.{Closed, Frame, Io, Memory, TooLong}
 use Rattle.geo_link.specs.Streams.{error_of, Incoming, ReadsOn, RefusesFrame, TakesFrame, StopsFill, StopsNext, left_in}
@@ -99,15 +98,17 @@ whole_answers u v size Damaged s fits e works = (whole_stops v size Damaged s fi
 whole_answers u v size Trailing s fits e works = (whole_stops v size Trailing s fits e, works)
 whole_answers u v size frame.Memory s fits e works = works
 
--- the whole is a parcel's frame
-pub whole_taken : (u v : Incoming) (rest : List ℕ) (unread : Option (List ℕ)) (size : ℕ) (p : Parcel) → ReadsOn u v → rest ≡ drop size v.waiting → unread ≡ v.unread → InRange p → take size v.waiting ≡ frame_of p
-    → length (take size v.waiting) ≤ longest_frame → TakesFrame (left_in u) (prepend_known rest unread) p
-whole_taken u v rest unread size p r e same ranges is most =
+-- the whole is a message's frame
+pub whole_taken : (u v : Incoming) (rest : List ℕ) (unread : Option (List ℕ)) (size : ℕ) (m : Payload) → ReadsOn u v → rest ≡ drop size v.waiting → unread ≡ v.unread → PayloadInRange m → IsFrameOf (take size v.waiting) m
+    → length (take size v.waiting) ≤ longest_frame → TakesFrame (left_in u) (prepend_known rest unread) m
+whole_taken u v rest unread size m r e same ranges is most =
     let left : Option (List ℕ) = prepend_known rest unread in
     let here : prepend_known (drop size v.waiting) v.unread ≡ left = λ i. prepend_known (sym e i) (sym same i) in
     let part : Consumes (left_in v) left (take size v.waiting) = subst (λ (x : Option (List ℕ)). Consumes (left_in v) x (take size v.waiting)) here (part_is size v.waiting v.unread) in
     record {
-      taken = subst (λ (x : List ℕ). Consumes (left_in u) left x) is (kept_then (left_in u) (left_in v) left (take size v.waiting) (reads_keep u v r) part);
+      frame = take size v.waiting;
+      taken = kept_then (left_in u) (left_in v) left (take size v.waiting) (reads_keep u v r) part;
+      spelled = is;
       ranges = ranges;
-      most = subst (λ (x : List ℕ). length x ≤ longest_frame) is most;
+      most = most;
     }

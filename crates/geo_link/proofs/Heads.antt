@@ -1,13 +1,14 @@
 -- What the first bytes of a frame tell.
-use Rattle.std.proofs.Common.{◌≡◌, ◌≢◌, ℕ, ◌<◌, ◌≤◌, Bool, true, false, cond, not, ◌||◌, eqb, ltb, List, [], ◌∷◌, ◌++◌, length, get_or, take, drop, Result, Ok, Err, IfErr, refl, sym, ap, subst, ◌∙◌, take-append-drop, arith}
+use Rattle.std.proofs.Common.{◌≡◌, ◌≢◌, ℕ, ◌<◌, ◌≤◌, Bool, true, false, cond, not, ◌||◌, eqb, ltb, List, [], ◌∷◌, ◌++◌, length, take, drop, Result, Ok, Err, IfErr, refl, sym, ap, subst, ◌∙◌, take-append-drop, arith}
 use Rattle.std.specs.Prelude.{IsOk, codes}
 use Rattle.std.specs.Str.{bytes_eq}
 use Rattle.std.proofs.lemmas.Bool.{ltb-false, le-ltb, lt-ltb}
 use Rattle.std.proofs.lemmas.List.{length-take, length-append, take-take, take-append-le}
-use Rattle.geo_delta.specs.declared.parcel.Parcel.{Parcel}
+use Rattle.geo_frame.specs.Payloads.{payload_of}
+use Rattle.geo_frame.specs.declared.message.Message.{Message}
 use Rattle.geo_frame.specs.declared.fault.FrameFault.{FrameFault}
 use Rattle.geo_frame.specs.declared.fault.FrameFault.TheVariants.{Short, Magic, Version, Field, Order, Damaged, Trailing, Memory}
-use Rattle.geo_frame.specs.Reading.{Gives, length_field, size_in, fields_sized, fields_in, frame_in, first_key_in}
+use Rattle.geo_frame.specs.Reading.{Gives, version_field, is_version, shortest_frame, length_field, size_in, fields_sized, fields_in, frame_in, first_key_in}
 use Rattle.geo_frame.specs.Spelling.{longest_frame}
 
 -- ---- the head is told by nine bytes
@@ -32,25 +33,33 @@ neither false b h = (refl, h)
 pub record HasHead (bytes : List ℕ) (size : ℕ) : Type 0 where
   pub long : 9 ≤ length bytes
   pub field : size ≡ length_field bytes
-  pub least : 89 ≤ size
+  pub least : 79 ≤ size
   pub most : size ≤ longest_frame
+
+shortest_least : (version : ℕ) → 79 ≤ shortest_frame version
+shortest_least version = by (eqb version 1)
+  where
+    by : (old : Bool) → 79 ≤ cond old 89 79
+    by true = omega arith
+    by false = omega arith
 
 pub head_of : (bytes : List ℕ) (size : ℕ) → size_in bytes ≡ Ok size → HasHead bytes size
 unfolding size_in
 head_of bytes size e =
-    let last : Result ℕ FrameFault = cond (ltb (length_field bytes) 89 || ltb longest_frame (length_field bytes)) (Err Field) (Ok (length_field bytes)) in
-    let third : Result ℕ FrameFault = cond (not (eqb (get_or bytes 4 0) 1)) (Err Version) last in
+    let v = version_field bytes in
+    let last : Result ℕ FrameFault = cond (ltb (length_field bytes) (shortest_frame v) || ltb longest_frame (length_field bytes)) (Err Field) (Ok (length_field bytes)) in
+    let third : Result ℕ FrameFault = cond (not (is_version v)) (Err Version) last in
     let second : Result ℕ FrameFault = cond (not (bytes_eq (take 4 bytes) (codes "GCDS"))) (Err Magic) third in
     let a = passed (ltb (length bytes) 9) Short second size e in
     let b = passed (not (bytes_eq (take 4 bytes) (codes "GCDS"))) Magic third size a.1 in
-    let c = passed (not (eqb (get_or bytes 4 0) 1)) Version last size b.1 in
-    let d = passed (ltb (length_field bytes) 89 || ltb longest_frame (length_field bytes)) Field (Ok (length_field bytes)) size c.1 in
-    let f = neither (ltb (length_field bytes) 89) (ltb longest_frame (length_field bytes)) d.0 in
+    let c = passed (not (is_version v)) Version last size b.1 in
+    let d = passed (ltb (length_field bytes) (shortest_frame v) || ltb longest_frame (length_field bytes)) Field (Ok (length_field bytes)) size c.1 in
+    let f = neither (ltb (length_field bytes) (shortest_frame v)) (ltb longest_frame (length_field bytes)) d.0 in
     let is : length_field bytes ≡ size = let e = d.1 in cc in
     record {
       long = ltb-false _ _ a.0;
       field = sym is;
-      least = subst (λ (n : ℕ). 89 ≤ n) is (ltb-false _ _ f.0);
+      least = subst (λ (n : ℕ). 79 ≤ n) is (omega (arith, ltb-false _ _ f.0, shortest_least v));
       most = subst (λ (n : ℕ). n ≤ longest_frame) is (ltb-false _ _ f.1);
     }
 
@@ -58,13 +67,14 @@ head_of bytes size e =
 pub never_short : (bytes : List ℕ) → 9 ≤ length bytes → size_in bytes ≡ Err Short → ⊥
 unfolding size_in
 never_short bytes long e =
-    let last : Result ℕ FrameFault = cond (ltb (length_field bytes) 89 || ltb longest_frame (length_field bytes)) (Err Field) (Ok (length_field bytes)) in
-    let third : Result ℕ FrameFault = cond (not (eqb (get_or bytes 4 0) 1)) (Err Version) last in
+    let v = version_field bytes in
+    let last : Result ℕ FrameFault = cond (ltb (length_field bytes) (shortest_frame v) || ltb longest_frame (length_field bytes)) (Err Field) (Ok (length_field bytes)) in
+    let third : Result ℕ FrameFault = cond (not (is_version v)) (Err Version) last in
     let second : Result ℕ FrameFault = cond (not (bytes_eq (take 4 bytes) (codes "GCDS"))) (Err Magic) third in
     let a : second ≡ Err Short = sym (ap (λ (b : Bool). cond b (Err Short) second) (le-ltb _ _ long)) ∙ e in
     let b = other (not (bytes_eq (take 4 bytes) (codes "GCDS"))) Magic Short third (λ h. cc) a in
-    let c = other (not (eqb (get_or bytes 4 0) 1)) Version Short last (λ h. cc) b in
-    let d = other (ltb (length_field bytes) 89 || ltb longest_frame (length_field bytes)) Field Short (Ok (length_field bytes)) (λ h. cc) c in
+    let c = other (not (is_version v)) Version Short last (λ h. cc) b in
+    let d = other (ltb (length_field bytes) (shortest_frame v) || ltb longest_frame (length_field bytes)) Field Short (Ok (length_field bytes)) (λ h. cc) c in
     cc
 
 few : (bytes : List ℕ) → length bytes < 9 → size_in bytes ≡ Err Short
@@ -134,7 +144,7 @@ frame_few bytes h = head_refused bytes Short (few bytes h)
 -- ---- the answer to nine bytes
 
 -- what it says of the head
-abbrev pub TellsHead : Result Parcel FrameFault → List ℕ → Type 0
+abbrev pub TellsHead : Result Message FrameFault → List ℕ → Type 0
 TellsHead (Ok p) bytes = ⊥
 TellsHead (Err Short) bytes = size_in bytes ≡ Ok (length_field bytes)
 TellsHead (Err Magic) bytes = size_in bytes ≡ Err Magic
@@ -146,7 +156,7 @@ TellsHead (Err Trailing) bytes = size_in bytes ≡ Err Trailing
 TellsHead (Err Memory) bytes = ⊥
 
 -- a good head: only the bytes behind it lack
-tells_good : (bytes head : List ℕ) (r : Result Parcel FrameFault) → size_in bytes ≡ Ok (length_field bytes) → fields_in head ≡ Err Short → frame_in head ≡ Err Short → Gives (λ p. p) r (frame_in head)
+tells_good : (bytes head : List ℕ) (r : Result Message FrameFault) → size_in bytes ≡ Ok (length_field bytes) → fields_in head ≡ Err Short → frame_in head ≡ Err Short → Gives payload_of r (frame_in head)
     → IfErr r (λ e. e ≡ Memory → IsOk (first_key_in head)) → TellsHead r bytes
 tells_good bytes head (Ok p) s f e g m = cc
 tells_good bytes head (Err Short) s f e g m = s
@@ -158,7 +168,7 @@ tells_good bytes head (Err Damaged) s f e g m = absurd cc
 tells_good bytes head (Err Trailing) s f e g m = absurd cc
 tells_good bytes head (Err Memory) s f e g m = no_key head Short f (m refl)
 
-tells_bad : (bytes head : List ℕ) (fault : FrameFault) (r : Result Parcel FrameFault) → 9 ≤ length bytes → size_in bytes ≡ Err fault → fields_in head ≡ Err fault → frame_in head ≡ Err fault → Gives (λ p. p) r (frame_in head)
+tells_bad : (bytes head : List ℕ) (fault : FrameFault) (r : Result Message FrameFault) → 9 ≤ length bytes → size_in bytes ≡ Err fault → fields_in head ≡ Err fault → frame_in head ≡ Err fault → Gives payload_of r (frame_in head)
     → IfErr r (λ e. e ≡ Memory → IsOk (first_key_in head)) → TellsHead r bytes
 tells_bad bytes head fault (Ok p) long s f e g m = cc
 tells_bad bytes head fault (Err Short) long s f e g m = absurd (never_short bytes long cc)
@@ -170,7 +180,7 @@ tells_bad bytes head fault (Err Damaged) long s f e g m = cc
 tells_bad bytes head fault (Err Trailing) long s f e g m = cc
 tells_bad bytes head fault (Err Memory) long s f e g m = no_key head fault f (m refl)
 
-tells_by : (bytes : List ℕ) (s : Result ℕ FrameFault) (r : Result Parcel FrameFault) → 9 ≤ length bytes → size_in bytes ≡ s → Gives (λ p. p) r (frame_in (take 9 bytes))
+tells_by : (bytes : List ℕ) (s : Result ℕ FrameFault) (r : Result Message FrameFault) → 9 ≤ length bytes → size_in bytes ≡ s → Gives payload_of r (frame_in (take 9 bytes))
     → IfErr r (λ e. e ≡ Memory → IsOk (first_key_in (take 9 bytes))) → TellsHead r bytes
 tells_by bytes (Ok size) r long s g m =
     let head = head_of bytes size s in
@@ -182,7 +192,7 @@ tells_by bytes (Err fault) r long s g m =
     let refused : fields_in (take 9 bytes) ≡ Err fault = fields_refused (take 9 bytes) fault (size_front bytes long ∙ s) in
     tells_bad bytes (take 9 bytes) fault r long s refused (frame_refused _ _ refused) g m
 
-pub tells_head : (bytes : List ℕ) (r : Result Parcel FrameFault) → 9 ≤ length bytes → Gives (λ p. p) r (frame_in (take 9 bytes)) → IfErr r (λ e. e ≡ Memory → IsOk (first_key_in (take 9 bytes))) → TellsHead r bytes
+pub tells_head : (bytes : List ℕ) (r : Result Message FrameFault) → 9 ≤ length bytes → Gives payload_of r (frame_in (take 9 bytes)) → IfErr r (λ e. e ≡ Memory → IsOk (first_key_in (take 9 bytes))) → TellsHead r bytes
 tells_head bytes r long g m = tells_by bytes (size_in bytes) r long refl g m
 
 pub tells_fault : (bytes : List ℕ) (fault : FrameFault) → fault ≢ Short → TellsHead (Err fault) bytes → size_in bytes ≡ Err fault
@@ -195,5 +205,5 @@ tells_fault bytes Damaged n h = h
 tells_fault bytes Trailing n h = h
 tells_fault bytes Memory n h = absurd h
 
-pub tells_front : (bytes front : List ℕ) (r : Result Parcel FrameFault) → front ≡ take 9 bytes → 9 ≤ length bytes → Gives (λ p. p) r (frame_in front) → IfErr r (λ e. e ≡ Memory → IsOk (first_key_in front)) → TellsHead r bytes
-tells_front bytes front r is long g m = tells_head bytes r long (subst (λ (x : List ℕ). Gives (λ p. p) r (frame_in x)) is g) (subst (λ (x : List ℕ). IfErr r (λ e. e ≡ Memory → IsOk (first_key_in x))) is m)
+pub tells_front : (bytes front : List ℕ) (r : Result Message FrameFault) → front ≡ take 9 bytes → 9 ≤ length bytes → Gives payload_of r (frame_in front) → IfErr r (λ e. e ≡ Memory → IsOk (first_key_in front)) → TellsHead r bytes
+tells_front bytes front r is long g m = tells_head bytes r long (subst (λ (x : List ℕ). Gives payload_of r (frame_in x)) is g) (subst (λ (x : List ℕ). IfErr r (λ e. e ≡ Memory → IsOk (first_key_in x))) is m)

@@ -4,12 +4,12 @@ use mathlib.Core.Option.{some, some-ne-none}
 use lib.ListN.{get_elem?}
 use Rattle.crossbeam_channel.specs.Fifo.{Pushes, Pops, Forks, Merges, Learns}
 use Rattle.atomic_table.proofs.Lists.{at_set, at_snoc}
-use Rattle.geo_delta.specs.Ranges.{InRange}
-use Rattle.geo_delta.specs.declared.parcel.Parcel.{Parcel}
+use Rattle.geo_frame.specs.Payloads.{PayloadInRange, payload_of}
+use Rattle.geo_frame.specs.declared.message.Message.{Message}
 use Rattle.geo_link.specs.declared.rule.Log.{Log}
 use Rattle.geo_link.specs.Channels.{log, Puts, Gets, EachInRange, HasRole, KeepsOrder}
 
-each_and : (ps : List Parcel) (p : Parcel) → EachInRange ps → InRange p → EachInRange (ps ++ p ∷ [])
+each_and : (ps : List Message) (p : Message) → EachInRange ps → PayloadInRange (payload_of p) → EachInRange (ps ++ p ∷ [])
 each_and [] p h one = (one, tt)
 each_and (q ∷ ps) p h one = (h.0, each_and ps p h.1 one)
 
@@ -39,7 +39,7 @@ begins = record {
       (λ j u other e. absurd (other (last_is [] _ u j (λ x. some-ne-none u (sym x)) e)));
 }
 
-pub sends : (n pass : ℕ) (v : Log) (p : Parcel) → v.puts ≡ true → InRange p → Pushes KeepsOrder n pass v p (Puts v p)
+pub sends : (n pass : ℕ) (v : Log) (p : Message) → v.puts ≡ true → PayloadInRange (payload_of p) → Pushes KeepsOrder n pass v p (Puts v p)
 sends n pass v p may fits items views _ h at = let w : Log = log v.puts v.gets (v.put ++ p ∷ []) v.got in let mine = h.roles pass v at in let sent = h.put ++ p ∷ [] in (
   w,
   record {

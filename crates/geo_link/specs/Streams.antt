@@ -1,10 +1,10 @@
 -- A link over two streams of bytes, which carry frames.
 use Rattle.std.specs.Prelude.{◌≡◌, ◌≢◌, ◌⊎◌, ◌<◌, ◌≤◌, ℕ, Bool, true, false, List, [], ◌++◌, length, Option, Err}
 use Rattle.std.specs.Io.KnownBytes.{Keeps, Appends, Consumes, IsAtEnd, prepend_known}
-use Rattle.geo_delta.specs.Ranges.{InRange}
-use Rattle.geo_delta.specs.declared.parcel.Parcel.{Parcel}
+use Rattle.geo_frame.specs.Payloads.{Payload, PayloadInRange, payload_of}
 use Rattle.geo_frame.specs.Reading.{frame_in, length_field}
-use Rattle.geo_frame.specs.Spelling.{frame_of, longest_frame}
+use Rattle.geo_frame.specs.Spelling.{IsFrameOf, frame_of, longest_frame}
+use Rattle.geo_frame.specs.declared.message.Message.{Message}
 use Rattle.geo_frame.specs.declared.fault.FrameFault.{FrameFault}
 use Rattle.geo_frame.specs.declared.fault.FrameFault.TheVariants.{Short, Magic, Version, Field, Order, Damaged, Trailing}
 use Rattle.geo_frame.specs.declared.fault.FrameFault.TheVariants as frame
@@ -29,11 +29,13 @@ pub record ReadsOn (old new : Incoming) : Type 0 where
   pub waiting : new.waiting ≡ old.waiting ++ more
   pub unread : Consumes old.unread new.unread more
 
--- a frame of a parcel comes next, and is taken
-pub record TakesFrame (old new : Option (List ℕ)) (p : Parcel) : Type 0 where
-  pub taken : Consumes old new (frame_of p)
-  pub ranges : InRange p
-  pub most : length (frame_of p) ≤ longest_frame
+-- a frame of a message comes next, and is taken
+pub record TakesFrame (old new : Option (List ℕ)) (m : Payload) : Type 0 where
+  pub frame : List ℕ
+  pub taken : Consumes old new frame
+  pub spelled : IsFrameOf frame m
+  pub ranges : PayloadInRange m
+  pub most : length frame ≤ longest_frame
 
 -- a head alone, a whole frame, or a beginning at the end of all
 abbrev pub IsDue : List ℕ → FrameFault → Option (List ℕ) → Type 0
@@ -77,35 +79,35 @@ error_of Damaged = Frame Damaged
 error_of Trailing = Frame Trailing
 error_of frame.Memory = Memory
 
--- the frame of the parcel is written
-pub record PutsFrame (old : StreamView) (p : Parcel) (new : StreamView) : Type 0 where
+-- the frame of the message is written
+pub record PutsFrame (old : StreamView) (m : Message) (new : StreamView) : Type 0 where
   pub was_open : old.closed ≡ false
-  pub written : Appends old.written new.written (frame_of p)
-  pub most : length (frame_of p) ≤ longest_frame
+  pub written : Appends old.written new.written (frame_of (payload_of m))
+  pub most : length (frame_of (payload_of m)) ≤ longest_frame
   pub stays : new ≡ record old { written = new.written }
 
 -- a write failed, and a beginning of the frame is written
-pub record PutsPart (old : StreamView) (p : Parcel) (new : StreamView) : Type 0 where
+pub record PutsPart (old : StreamView) (m : Message) (new : StreamView) : Type 0 where
   pub was_open : old.closed ≡ false
   pub worked : old.write_failed ≡ false
   pub part : List ℕ
   pub rest : List ℕ
-  pub split : frame_of p ≡ part ++ rest
+  pub split : frame_of (payload_of m) ≡ part ++ rest
   pub written : Appends old.written new.written part
   pub stays : new ≡ record old { written = new.written; write_failed = true; closed = true }
 
 -- why nothing was put
-abbrev pub StopsPut : StreamView → Parcel → LinkError → StreamView → Type 0
-StopsPut old p Closed new = (old.closed ≡ true) × (new ≡ old)
-StopsPut old p (Frame fault) new = ⊥
-StopsPut old p Io new = PutsPart old p new
-StopsPut old p Memory new = (old.closed ≡ false) × (new ≡ old)
-StopsPut old p TooLong new = (old.closed ≡ false) × (longest_frame < length (frame_of p)) × (new ≡ old)
+abbrev pub StopsPut : StreamView → Message → LinkError → StreamView → Type 0
+StopsPut old m Closed new = (old.closed ≡ true) × (new ≡ old)
+StopsPut old m (Frame fault) new = ⊥
+StopsPut old m Io new = PutsPart old m new
+StopsPut old m Memory new = (old.closed ≡ false) × (new ≡ old)
+StopsPut old m TooLong new = (old.closed ≡ false) × (longest_frame < length (frame_of (payload_of m))) × (new ≡ old)
 
--- the frame of the parcel is taken from what comes
-pub record GetsFrame (old : StreamView) (p : Parcel) (new : StreamView) : Type 0 where
+-- a frame of the message is taken from what comes
+pub record GetsFrame (old : StreamView) (m : Message) (new : StreamView) : Type 0 where
   pub was_open : old.closed ≡ false
-  pub takes : TakesFrame old.left new.left p
+  pub takes : TakesFrame old.left new.left (payload_of m)
   pub stays : new ≡ record old { left = new.left }
 
 -- nothing of what will come is lost
@@ -140,6 +142,10 @@ StopsGet old Io new = GetsNoBytes old new
 StopsGet old Memory new = LosesNothing old new
 StopsGet old TooLong new = ⊥
 
+-- it has ended from now on
+abbrev pub Closes : StreamView → StreamView → Type 0
+Closes old new = new ≡ record old { closed = true }
+
 -- ---- one frame of what comes
 
 -- a read that brought nothing
@@ -169,16 +175,16 @@ StopsNext old TooLong new = ⊥
 
 -- ---- writing
 
-abbrev pub Encoded : Parcel → List ℕ → Type 0
-Encoded p frame = (frame ≡ frame_of p) × (length (frame_of p) ≤ longest_frame)
+abbrev pub Encoded : Message → List ℕ → Type 0
+Encoded m frame = (frame ≡ frame_of (payload_of m)) × (length (frame_of (payload_of m)) ≤ longest_frame)
 
--- why a parcel has no frame
-abbrev pub StopsEncode : Parcel → LinkError → Type 0
-StopsEncode p Closed = ⊥
-StopsEncode p (Frame fault) = ⊥
-StopsEncode p Io = ⊥
-StopsEncode p Memory = Unit {0}
-StopsEncode p TooLong = longest_frame < length (frame_of p)
+-- why a message has no frame
+abbrev pub StopsEncode : Message → LinkError → Type 0
+StopsEncode m Closed = ⊥
+StopsEncode m (Frame fault) = ⊥
+StopsEncode m Io = ⊥
+StopsEncode m Memory = Unit {0}
+StopsEncode m TooLong = longest_frame < length (frame_of (payload_of m))
 
 -- a beginning of the bytes is written
 pub record Writes (bytes : List ℕ) (before after : Option (List ℕ)) : Type 0 where

@@ -1,14 +1,14 @@
-//! Why a link did not carry a parcel.
+//! Why a link did not carry a message.
 ghost use Rattle.std.specs.Prelude.{◌≡◌};
 ghost use Rattle.geo_link.specs.Streams.{ends_link, error_of};
 
 use geo_frame::FrameFault;
 use thiserror::Error;
 
-/// Why a link did not carry a parcel.
+/// Why a link did not carry a message.
 #[derive(Clone, Copy, Debug, PartialEq, Eq, Error)]
 pub enum LinkError {
-    /// No more can be put or got: the other end is gone, what it sent is at its end, or the link has ended by a fault.
+    /// No more can be put or got: the other end is gone, what it sent is at its end, or the link was closed or has ended by a fault.
     #[error("the link is closed")]
     Closed,
     /// What came is no frame. The link has ended.
@@ -20,7 +20,7 @@ pub enum LinkError {
     /// Memory was refused. The link is as before.
     #[error("memory was refused")]
     Memory,
-    /// The parcel's frame would be too long. The link is as before.
+    /// The message's frame would be too long. The link is as before.
     #[error("the frame would be too long")]
     TooLong,
 }

@@ -1,13 +1,13 @@
 //! Frames out of the bytes of a reader.
 ghost use Rattle.std.specs.Prelude.{◌≡◌, ◌≤◌, ◌<◌, ◌+◌, [], false, length, vec_len, IfOk, IfErr, OnOk, Err, Ok};
 ghost use Rattle.std.specs.Io.KnownBytes.{IsAtEnd, Keeps};
+ghost use Rattle.geo_frame.specs.Payloads.{payload_of};
 ghost use Rattle.geo_frame.specs.Reading.{Says, size_in};
 ghost use Rattle.geo_link.specs.Streams.{ReadsOn, StopsRead, StopsFill, StopsNext, TakesFrame, left_in};
 
 use crate::fault::LinkError;
 use bytes::BytesMut;
-use geo_delta::Parcel;
-use geo_frame::{FrameFault, decode, wanted};
+use geo_frame::{FrameFault, Message, decode, wanted};
 use geo_grammar::Device;
 use std::alloc::{AllocError, Global};
 use std::io::Read;
@@ -133,9 +133,9 @@ impl<I: Read> Incoming<I> {
         Ok(size)
     }
 
-    /// The parcel of the next frame. Closed where nothing more comes. What waits stays, where memory is refused.
-    pub(crate) fn next(&mut self, alloc: Global) -> Result<Parcel, LinkError>
-        ensures ok { IfOk result (λ parcel. TakesFrame (left_in self.old) (left_in self.new) parcel) }
+    /// The message of the next frame. Closed where nothing more comes. What waits stays, where memory is refused.
+    pub(crate) fn next(&mut self, alloc: Global) -> Result<Message, LinkError>
+        ensures ok { IfOk result (λ message. TakesFrame (left_in self.old) (left_in self.new) (payload_of message)) }
         ensures works { OnOk result (self.old.failed ≡ false → self.new.failed ≡ false) }
         ensures kept { IfErr result (λ _. Keeps (left_in self.old) (left_in self.new)) }
         ensures err { IfErr result (λ error. StopsNext self.old error self.new) }
@@ -143,9 +143,9 @@ impl<I: Read> Incoming<I> {
         let size = self.collect(alloc)?;
         let (frame, _) = self.waiting.as_slice().split_at(size);
         match decode(alloc, frame) {
-            Ok(parcel) => {
+            Ok(message) => {
                 self.waiting.advance(size);
-                Ok(parcel)
+                Ok(message)
             }
             Err(fault) => Err(LinkError::of(fault)),
         }

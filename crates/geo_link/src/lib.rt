@@ -1,9 +1,9 @@
-//! Links: where parcels go to another site and come from one.
+//! Links: where messages go to another site and come from one.
 //!
-//! A [`Link`] puts parcels and gets them. A [`MemoryLink`] is one between two threads, over two channels; a [`StreamLink`] one over a
-//! reader and a writer, as the two directions of a socket, which carry the parcels' frames. A [`Tallied`] link counts the frames that
-//! are refused. `specs/` says what each call makes of a link: which parcels were put and got, which bytes were written and taken. The
-//! crate stands on parcels, frames, devices and tallies, and knows nothing of sites or sockets.
+//! A [`Link`] puts messages and gets them, until it is closed. A [`MemoryLink`] is one between two threads, over two channels; a
+//! [`StreamLink`] one over a reader and a writer, as the two directions of a socket, which carry the messages' frames. A [`Tallied`]
+//! link counts the frames that are refused. `specs/` says what each call makes of a link: which messages were put and got, which bytes
+//! were written and taken. The crate stands on frames, devices and tallies, and knows nothing of sites or sockets.
 #![tactic(auto)]
 
 mod fault;

@@ -1,5 +1,5 @@
 //! A link between two threads.
-ghost use Rattle.std.specs.Prelude.{◌≡◌, ◌<◌, ◌⊎◌, ◌↔◌, [], IfOk, IfErr, Err};
+ghost use Rattle.std.specs.Prelude.{◌≡◌, ◌<◌, ◌⊎◌, ◌↔◌, [], false, IfOk, IfErr, Err};
 ghost use Rattle.crossbeam_channel.specs.Claims.{IsSeatAt};
 ghost use Rattle.crossbeam_channel.specs.Ends.{sends_on, receives_on};
 ghost use Rattle.geo_link.specs.Memory.{most_waiting, put_by, got_by, Arrives, MayPut, MayGet};
@@ -8,23 +8,24 @@ use crate::fault::LinkError;
 use crate::link::Link;
 use crate::rule::{Got, InOrder, Log, Put, Roles, Together};
 use crossbeam_channel::{Pass, RuledReceiver, RuledSender, bounded_with};
-use geo_delta::Parcel;
+use geo_frame::Message;
 use std::alloc::{AllocError, Global};
 use std::marker::Model;
 use std::sync::Wait;
 
-/// How many parcels wait at most to be got.
+/// How many messages wait at most to be got.
 pub const MOST_WAITING: usize = 1_024;
 
 /// One end of a link between two threads. What it puts the other end gets, in the same order, and the other way round. To put
-/// waits while as many parcels wait as the link has room for. Where the other end was dropped, Closed is the answer: to each put,
-/// and to a get once all is got. Contracts see it as its two channels, what it put, and what it got.
+/// waits while as many messages wait as the link has room for. Where the other end was dropped, Closed is the answer: to each put,
+/// and to a get once all is got. Contracts see it as its two channels, what it put, what it got, and whether it was closed.
 #[derive(Drop)]
 pub struct MemoryLink {
-    to: RuledSender<Parcel, Log, InOrder>,
-    puts: Pass<Parcel, Log>,
-    from: RuledReceiver<Parcel, Log, InOrder>,
-    gets: Pass<Parcel, Log>,
+    to: RuledSender<Message, Log, InOrder>,
+    puts: Pass<Message, Log>,
+    from: RuledReceiver<Message, Log, InOrder>,
+    gets: Pass<Message, Log>,
+    closed: bool,
 }
 
 impl Model for MemoryLink {
@@ -39,6 +40,7 @@ impl Model for MemoryLink {
       gets_from = record { table = (receives_on l.from).stamps.shared.table_id; key = (receives_on l.from).stamps.shared.key };
       put = put_by l.puts;
       got = got_by l.gets;
+      closed = l.closed;
     } };
 
     ghost invariant = { λ l. (IsSeatAt (sends_on l.to) l.puts × MayPut l.puts) × (IsSeatAt (receives_on l.from) l.gets × MayGet l.gets) };
@@ -47,10 +49,10 @@ impl Model for MemoryLink {
 /// One direction of a link: its two ends, and who may use them.
 #[derive(Drop)]
 struct Lane {
-    to: RuledSender<Parcel, Log, InOrder>,
-    puts: Pass<Parcel, Log>,
-    from: RuledReceiver<Parcel, Log, InOrder>,
-    gets: Pass<Parcel, Log>,
+    to: RuledSender<Message, Log, InOrder>,
+    puts: Pass<Message, Log>,
+    from: RuledReceiver<Message, Log, InOrder>,
+    gets: Pass<Message, Log>,
 }
 
 fn one_way(alloc: Global, capacity: usize) -> Result<Lane, AllocError>
@@ -60,7 +62,7 @@ fn one_way(alloc: Global, capacity: usize) -> Result<Lane, AllocError>
     ensures one { IfOk result (λ l. sends_on l.to ≡ receives_on l.from) }
     ensures empty { IfOk result (λ l. (put_by l.puts ≡ []) × (got_by l.gets ≡ [])) }
 {
-    let (to, from, mut puts) = bounded_with::<Parcel, Log, InOrder, Global>(alloc, capacity)?;
+    let (to, from, mut puts) = bounded_with::<Message, Log, InOrder, Global>(alloc, capacity)?;
     let gets = to.another::<Roles>(&mut puts);
     Ok(Lane {
         to,
@@ -70,7 +72,7 @@ fn one_way(alloc: Global, capacity: usize) -> Result<Lane, AllocError>
     })
 }
 
-/// The two ends of a new link, with room for so many parcels in each direction, 1 to 1,024. Closed where it is another number,
+/// The two ends of a new link, with room for so many messages in each direction, 1 to 1,024. Closed where it is another number,
 /// Memory where memory was wanted and refused.
 pub fn memory_link(alloc: Global, capacity: usize) -> Result<(MemoryLink, MemoryLink), LinkError>
     ensures refused { (result ≡ Err LinkError.Closed) ↔ ((capacity < 1) ⊎ (most_waiting < capacity)) }
@@ -79,6 +81,7 @@ pub fn memory_link(alloc: Global, capacity: usize) -> Result<(MemoryLink, Memory
     ensures back { IfOk result (λ ends. ends.1.puts_on ≡ ends.0.gets_from) }
     ensures none_put { IfOk result (λ ends. (ends.0.put ≡ []) × (ends.1.put ≡ [])) }
     ensures none_got { IfOk result (λ ends. (ends.0.got ≡ []) × (ends.1.got ≡ [])) }
+    ensures opened { IfOk result (λ ends. (ends.0.closed ≡ false) × (ends.1.closed ≡ false)) }
 {
     if capacity < 1 || capacity > MOST_WAITING {
         return Err(LinkError::Closed);
@@ -91,21 +94,23 @@ pub fn memory_link(alloc: Global, capacity: usize) -> Result<(MemoryLink, Memory
         puts: forth.puts,
         from: back.from,
         gets: back.gets,
+        closed: false,
     };
     let other = MemoryLink {
         to: back.to,
         puts: back.puts,
         from: forth.from,
         gets: forth.gets,
+        closed: false,
     };
     Ok((one, other))
 }
 
 /// Takes what one pass got to the one that put, and looks.
 fn compare(
-    to: &RuledSender<Parcel, Log, InOrder>,
-    puts: &mut Pass<Parcel, Log>,
-    gets: Pass<Parcel, Log>,
+    to: &RuledSender<Message, Log, InOrder>,
+    puts: &mut Pass<Message, Log>,
+    gets: Pass<Message, Log>,
 )
     requires puts { IsSeatAt (sends_on to.now) puts.old × MayPut puts.old }
     requires gets { IsSeatAt (sends_on to.now) gets × MayGet gets }
@@ -117,7 +122,7 @@ fn compare(
 
 impl MemoryLink {
     /// Ends a link whose two ends are at hand: what each got is what the other put, in the same order, but for what waits.
-    pub fn close(self, other: MemoryLink)
+    pub fn end(self, other: MemoryLink)
         requires forth { self.puts_on ≡ other.gets_from }
         requires back { other.puts_on ≡ self.gets_from }
         ensures forth { Arrives self.put other.got }
@@ -141,28 +146,40 @@ impl MemoryLink {
 }
 
 impl Link for MemoryLink {
-    ghost use Rattle.std.specs.Prelude.{◌≡◌};
-    ghost use Rattle.geo_link.specs.Memory.{one_put, GetsOne, FindsClosed};
+    ghost use Rattle.std.specs.Prelude.{◌≡◌, true};
+    ghost use Rattle.geo_link.specs.Memory.{PutsOne, GetsOne, FindsClosed};
 
-    ghost puts = { λ old p new. new ≡ one_put p old };
+    ghost puts = { PutsOne };
 
     ghost gets = { GetsOne };
 
-    ghost put_fails = { λ old p error new. FindsClosed old error new };
+    ghost put_fails = { λ old m error new. FindsClosed old error new };
 
     ghost get_fails = { FindsClosed };
 
-    fn put<R: Wait>(&mut self, rt: &R, _alloc: Global, parcel: Parcel) -> Result<(), LinkError> {
-        match self.to.send_as::<Put, R>(rt, &mut self.puts, parcel) {
+    ghost closes = { λ old new. new ≡ record old { closed = true } };
+
+    fn put<R: Wait>(&mut self, rt: &R, _alloc: Global, message: Message) -> Result<(), LinkError> {
+        if self.closed {
+            return Err(LinkError::Closed);
+        }
+        match self.to.send_as::<Put, R>(rt, &mut self.puts, message) {
             Ok(()) => Ok(()),
             Err(_) => Err(LinkError::Closed),
         }
     }
 
-    fn get<R: Wait>(&mut self, rt: &R, _alloc: Global) -> Result<Parcel, LinkError> {
+    fn get<R: Wait>(&mut self, rt: &R, _alloc: Global) -> Result<Message, LinkError> {
+        if self.closed {
+            return Err(LinkError::Closed);
+        }
         match self.from.recv_as::<Got, R>(rt, &mut self.gets) {
-            Ok(parcel) => Ok(parcel),
+            Ok(message) => Ok(message),
             Err(_) => Err(LinkError::Closed),
         }
+    }
+
+    fn close(&mut self) {
+        self.closed = true;
     }
 }

@@ -1,7 +1,7 @@
-//! The rule of a channel of parcels: what was put is what was got, and then what waits.
+//! The rule of a channel of messages: what was put is what was got, and then what waits.
 
 use crossbeam_channel::protocol::{Join, Lesson, Outcome, Protocol, Split};
-use geo_delta::Parcel;
+use geo_frame::Message;
 use std::collections::LinkedList;
 
 /// What the holder of a pass may do, what it has put, and what it has got. Contracts see it; no value of it is made.
@@ -9,14 +9,14 @@ use std::collections::LinkedList;
 pub struct Log {
     pub puts: bool,
     pub gets: bool,
-    pub put: LinkedList<Parcel>,
-    pub got: LinkedList<Parcel>,
+    pub put: LinkedList<Message>,
+    pub got: LinkedList<Message>,
 }
 
 /// What was put comes out in the same order.
 pub struct InOrder;
 
-impl Protocol<Parcel, Log> for InOrder {
+impl Protocol<Message, Log> for InOrder {
     ghost use Rattle.std.specs.Prelude.{true, []};
     ghost use Rattle.geo_link.specs.Channels.{log, KeepsOrder};
 
@@ -37,29 +37,29 @@ impl Split<Log> for Roles {
     ghost right = { λ v. log false true [] v.got };
 }
 
-/// A parcel is put.
+/// A message is put.
 pub struct Put;
 
-impl Outcome<Parcel, Log> for Put {
+impl Outcome<Message, Log> for Put {
     ghost use Rattle.geo_link.specs.Channels.{Puts};
 
     ghost then = { Puts };
 }
 
-impl Lesson<Parcel, Log> for Put {
+impl Lesson<Message, Log> for Put {
     ghost fact = { λ v items. Unit {0} };
 }
 
-/// A parcel is got.
+/// A message is got.
 pub struct Got;
 
-impl Outcome<Parcel, Log> for Got {
+impl Outcome<Message, Log> for Got {
     ghost use Rattle.geo_link.specs.Channels.{Gets};
 
     ghost then = { Gets };
 }
 
-impl Lesson<Parcel, Log> for Got {
+impl Lesson<Message, Log> for Got {
     ghost fact = { λ v items. Unit {0} };
 }
 
@@ -75,7 +75,7 @@ impl Join<Log> for Together {
     ghost spent = { log false false [] [] };
 }
 
-impl Lesson<Parcel, Log> for Together {
+impl Lesson<Message, Log> for Together {
     ghost use Rattle.std.specs.Prelude.{◌≡◌, ◌++◌};
 
     ghost fact = { λ v waits. v.put ≡ v.got ++ waits };

@@ -1,14 +1,13 @@
 //! A link over a reader and a writer.
 ghost use Rattle.std.specs.Prelude.{◌≡◌, ◌++◌, [], true, false, IfOk, IfErr, OnOk, OnErr, List, ℕ};
 ghost use Rattle.std.specs.Io.KnownBytes.{Appends};
-ghost use Rattle.geo_delta.specs.Ranges.{InRange};
+ghost use Rattle.geo_frame.specs.Payloads.{PayloadInRange, payload_of};
 ghost use Rattle.geo_link.specs.Streams.{Encoded, StopsEncode, Writes, ends_link, started};
 
 use crate::fault::LinkError;
 use crate::incoming::Incoming;
 use crate::link::Link;
-use geo_delta::Parcel;
-use geo_frame::{EncodeFault, encode};
+use geo_frame::{EncodeFault, Message, encode};
 use geo_grammar::Device;
 use std::alloc::{AllocError, Global};
 use std::io::{Read, Write};
@@ -42,13 +41,13 @@ impl<I: Read, O: Write> Model for StreamLink<I, O> {
     ghost invariant = { λ s. Works s.closed s.incoming.failed s.writer.failed };
 }
 
-/// The frame of a parcel.
-fn frame_of_parcel(alloc: Global, parcel: &Parcel) -> Result<Vec<u8>, LinkError>
-    requires { InRange parcel.now }
-    ensures ok { IfOk result (λ frame. Encoded parcel.now frame.items) }
-    ensures err { IfErr result (λ error. StopsEncode parcel.now error) }
+/// The frame of a message.
+fn frame_of_message(alloc: Global, message: &Message) -> Result<Vec<u8>, LinkError>
+    requires { PayloadInRange (payload_of message.now) }
+    ensures ok { IfOk result (λ frame. Encoded message.now frame.items) }
+    ensures err { IfErr result (λ error. StopsEncode message.now error) }
 {
-    match encode(alloc, parcel) {
+    match encode(alloc, message) {
         Ok(frame) => Ok(frame),
         Err(EncodeFault::TooLong) => Err(LinkError::TooLong),
         Err(EncodeFault::Memory) => Err(LinkError::Memory),
@@ -101,7 +100,7 @@ impl<I: Read + Drop, O: Write + Drop> StreamLink<I, O> {
 }
 
 impl<I: Read, O: Write> Link for StreamLink<I, O> {
-    ghost use Rattle.geo_link.specs.Streams.{PutsFrame, StopsPut, GetsFrame, StopsGet};
+    ghost use Rattle.geo_link.specs.Streams.{PutsFrame, StopsPut, GetsFrame, StopsGet, Closes};
 
     ghost puts = { PutsFrame };
 
@@ -111,26 +110,32 @@ impl<I: Read, O: Write> Link for StreamLink<I, O> {
 
     ghost get_fails = { StopsGet };
 
-    fn put<R: Wait>(&mut self, _rt: &R, alloc: Global, parcel: Parcel) -> Result<(), LinkError> {
+    ghost closes = { Closes };
+
+    fn put<R: Wait>(&mut self, _rt: &R, alloc: Global, message: Message) -> Result<(), LinkError> {
         if self.closed {
             return Err(LinkError::Closed);
         }
-        let frame = frame_of_parcel(alloc, &parcel)?;
+        let frame = frame_of_message(alloc, &message)?;
         let written = write_whole(&mut self.writer, frame.as_slice());
         self.closed = written.is_err();
         written
     }
 
-    fn get<R: Wait>(&mut self, _rt: &R, alloc: Global) -> Result<Parcel, LinkError> {
+    fn get<R: Wait>(&mut self, _rt: &R, alloc: Global) -> Result<Message, LinkError> {
         if self.closed {
             return Err(LinkError::Closed);
         }
         match self.incoming.next(alloc) {
-            Ok(parcel) => Ok(parcel),
+            Ok(message) => Ok(message),
             Err(error) => {
                 self.closed = error.ends_link();
                 Err(error)
             }
         }
+    }
+
+    fn close(&mut self) {
+        self.closed = true;
     }
 }

@@ -4,7 +4,7 @@ ghost use Rattle.geo_link.specs.Tallies.{CountsError};
 
 use crate::fault::LinkError;
 use crate::link::Link;
-use geo_delta::Parcel;
+use geo_frame::Message;
 use geo_tally::{Counter, Tally, TallySeat};
 use std::alloc::Global;
 use std::sync::Wait;
@@ -52,16 +52,18 @@ impl<L: Link> Link for Tallied<'_, L> {
     ghost use Rattle.std.specs.Prelude.{◌≡◌};
     ghost use Rattle.geo_link.specs.Tallies.{CountsError};
 
-    ghost puts = { λ old parcel new. L.puts old.link parcel new.link × (new.seat ≡ old.seat) };
+    ghost puts = { λ old message new. L.puts old.link message new.link × (new.seat ≡ old.seat) };
 
-    ghost gets = { λ old parcel new. L.gets old.link parcel new.link × (new.seat ≡ old.seat) };
+    ghost gets = { λ old message new. L.gets old.link message new.link × (new.seat ≡ old.seat) };
 
-    ghost put_fails = { λ old parcel error new. L.put_fails old.link parcel error new.link × CountsError error old.seat new.seat };
+    ghost put_fails = { λ old message error new. L.put_fails old.link message error new.link × CountsError error old.seat new.seat };
 
     ghost get_fails = { λ old error new. L.get_fails old.link error new.link × CountsError error old.seat new.seat };
 
-    fn put<R: Wait>(&mut self, rt: &R, alloc: Global, parcel: Parcel) -> Result<(), LinkError> {
-        match self.link.put(rt, alloc, parcel) {
+    ghost closes = { λ old new. L.closes old.link new.link × (new.seat ≡ old.seat) };
+
+    fn put<R: Wait>(&mut self, rt: &R, alloc: Global, message: Message) -> Result<(), LinkError> {
+        match self.link.put(rt, alloc, message) {
             Ok(()) => Ok(()),
             Err(error) => {
                 self.count(error);
@@ -70,13 +72,17 @@ impl<L: Link> Link for Tallied<'_, L> {
         }
     }
 
-    fn get<R: Wait>(&mut self, rt: &R, alloc: Global) -> Result<Parcel, LinkError> {
+    fn get<R: Wait>(&mut self, rt: &R, alloc: Global) -> Result<Message, LinkError> {
         match self.link.get(rt, alloc) {
-            Ok(parcel) => Ok(parcel),
+            Ok(message) => Ok(message),
             Err(error) => {
                 self.count(error);
                 Err(error)
             }
         }
+    }
+
+    fn close(&mut self) {
+        self.link.close();
     }
 }

@@ -1,5 +1,5 @@
 use Rattle.std.proofs.lemmas.Result.{err_from_is_err_and}
-use Rattle.geo_frame.proofs.Memory.{clean_floor, clean_sites, clean_vector, not_memory}
+use Rattle.geo_frame.proofs.Memory.{clean_floor, clean_retired, clean_sites, clean_vector, not_memory}
 use Rattle.geo_frame.proofs.reading.parcel_of.Goals as goal
 
 pub returns-in_err-route-clause-memory : goal.returns-in_err-route-clause-memory
@@ -21,3 +21,8 @@ pub returns-in_err-floor-clause-memory : goal.returns-in_err-floor-clause-memory
 returns-in_err-floor-clause-memory c =
     let p = err_from_is_err_and c.from_residual-in_err-floor.result c.from_residual-in_err-floor.ensures.1 in
     rw (p.1, p.2) (λ m. absurd (not_memory _ c.in_err-floor.field-0.0 (clean_floor _ _) c.in_err-floor.ensures m))
+
+pub returns-in_err-take_retired-clause-memory : goal.returns-in_err-take_retired-clause-memory
+returns-in_err-take_retired-clause-memory c =
+    let p = err_from_is_err_and c.from_residual-in_err-take_retired.result c.from_residual-in_err-take_retired.ensures.1 in
+    rw (p.1, p.2) (λ m. absurd (not_memory _ c.in_err-take_retired.field-0.0 (clean_retired _ _) c.in_err-take_retired.ensures m))

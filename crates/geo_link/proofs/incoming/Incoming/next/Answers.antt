@@ -1,6 +1,7 @@
 use Rattle.std.proofs.Common.{◌≤◌, List, ℕ, take, drop, length, sym, ap, subst, ◌∙◌}
 use Rattle.geo_frame.specs.Reading.{Fails, frame_in}
-use Rattle.geo_frame.specs.Spelling.{longest_frame}
+use Rattle.geo_frame.specs.Payloads.{payload_of}
+use Rattle.geo_frame.specs.Spelling.{IsFrameOf, longest_frame}
 use Rattle.geo_link.specs.Streams.{Incoming, StopsNext}
 use Rattle.geo_link.specs.declared.fault.LinkError.{LinkError}
 use Rattle.geo_link.proofs.Coming.{whole_taken, whole_answers}
@@ -11,8 +12,8 @@ returns-in-Ok-clause-ok g c =
     let size = c.in_ok-size.size in
     let waits = ap (λ (v : Incoming). v.waiting) c.self.view_is in
     let front = c.split_at.ensures.front ∙ ap (λ (x : List ℕ). take size x) (c.as_slice.ensures ∙ waits) in
-    whole_taken c.args.self.now c.collect.new.self _ _ size c.in-Ok.parcel c.collect.ensures.reads (c.advance.ensures.items ∙ ap (λ (x : List ℕ). drop size x) waits) (ap (λ (v : Incoming). v.unread) c.self.view_is) c.in-Ok.ensures.found.0
-    (sym front ∙ c.in-Ok.ensures.found.1) (subst (λ (x : List ℕ). length x ≤ longest_frame) front c.in-Ok.ensures.found.2)
+    whole_taken c.args.self.now c.collect.new.self _ _ size (payload_of c.in-Ok.message) c.collect.ensures.reads (c.advance.ensures.items ∙ ap (λ (x : List ℕ). drop size x) waits) (ap (λ (v : Incoming). v.unread) c.self.view_is) c.in-Ok.ensures.found.0
+    (subst (λ (x : List ℕ). IsFrameOf x (payload_of c.in-Ok.message)) front c.in-Ok.ensures.found.1) (subst (λ (x : List ℕ). length x ≤ longest_frame) front c.in-Ok.ensures.found.2)
 
 pub returns-in-Err-clause-err : goal.returns-in-Err-clause-err
 returns-in-Err-clause-err g c =
