@@ -1,6 +1,6 @@
--- What a document says of the numbers, the link and the sites of a configuration.
+-- What a document says of the numbers, the link, the switch and the sites of a configuration.
 use Rattle.std.specs.Prelude.{ℕ, ℤ, pos, ◌≡◌, Bool, true, false, Option, Some, None, option_and_then, option_map, List, [], ◌∷◌, map, IsPermutation, codes, string_bytes}
-use Rattle.toml.specs.Data.{Data, array, table, Items, no_items, item, Members, as_integer, as_str, get_member}
+use Rattle.toml.specs.Data.{Data, array, table, Items, no_items, item, Members, as_bool, as_integer, as_str, get_member}
 use Rattle.geo_config.specs.declared.settings.Config.{Config}
 use Rattle.geo_config.specs.declared.settings.SiteConfig.{SiteConfig}
 use Rattle.geo_config.specs.declared.settings.LinkKind.{LinkKind}
@@ -17,6 +17,15 @@ number_or default (Some value) = as_integer value
 -- the number that a document says at a key
 abbrev pub number_at : Members → List ℕ → Option ℤ → Option ℤ
 number_at document key default = number_or default (get_member key document)
+
+-- what a value is as a switch, and what stands for one that isn't there
+abbrev pub switch_or : Bool → Option Data → Option Bool
+switch_or default None = Some default
+switch_or default (Some value) = as_bool value
+
+-- whether a document says that something is on
+abbrev pub switch_at : Members → List ℕ → Bool → Option Bool
+switch_at document key default = switch_or default (get_member key document)
 
 -- the text that a document says at a key
 abbrev pub text_at : Members → List ℕ → Option (List ℕ)
@@ -79,7 +88,7 @@ pub record SitesAreOf (document : Members) (c : Config) : Type 0 where
   pub say : SitesSay document (is_tcp c.link) (map row_of written)
   pub same : IsPermutation written c.sites.items
 
--- the numbers and the link are those of the document, or their defaults
+-- the numbers, the link and the switch are those of the document, or their defaults
 pub record IsOf (document : Members) (c : Config) : Type 0 where
   pub pages : number_at document (codes "pages") (Some (pos 64)) ≡ Some (pos c.pages)
   pub max_records : number_at document (codes "max_records") (Some (pos 100000)) ≡ Some (pos c.max_records)
@@ -89,6 +98,7 @@ pub record IsOf (document : Members) (c : Config) : Type 0 where
   pub era : number_at document (codes "era") (Some (pos 1000000)) ≡ Some (pos c.era)
   pub era_bytes : number_at document (codes "era_bytes") (Some (pos 268435456)) ≡ Some (pos c.era_bytes)
   pub sessions : number_at document (codes "sessions") None ≡ Some (pos c.sessions)
+  pub fills : switch_at document (codes "fills") false ≡ Some c.fills
 
 -- the same of a draft, whose link may be none
 pub record DraftIsOf (document : Members) (d : Draft) : Type 0 where
@@ -100,3 +110,4 @@ pub record DraftIsOf (document : Members) (d : Draft) : Type 0 where
   pub era : number_at document (codes "era") (Some (pos 1000000)) ≡ Some d.era
   pub era_bytes : number_at document (codes "era_bytes") (Some (pos 268435456)) ≡ Some d.era_bytes
   pub sessions : number_at document (codes "sessions") None ≡ Some d.sessions
+  pub fills : switch_at document (codes "fills") false ≡ Some d.fills

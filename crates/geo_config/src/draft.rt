@@ -7,7 +7,7 @@ ghost use Rattle.geo_config.specs.Draft.{DraftIsTied, SiteDraftIsTied, asks_for_
 ghost use Rattle.geo_config.specs.Lawful.{IsInRange, SiteIsInRange};
 
 use crate::fault::ConfigFault;
-use crate::keys::{NumberKey, link_of, text_at};
+use crate::keys::{NumberKey, fills_of, link_of, text_at};
 use crate::settings::{Config, LinkKind, SiteConfig};
 use std::alloc::Global;
 use toml::{Table, Value};
@@ -90,6 +90,7 @@ pub struct Draft {
     era: i64,
     era_bytes: i64,
     sessions: i64,
+    fills: bool,
     sites: Vec<SiteDraft>,
 }
 
@@ -117,6 +118,7 @@ impl Draft {
         let era = ERA.read(document)?;
         let era_bytes = ERA_BYTES.read(document)?;
         let sessions = SESSIONS.read(document)?;
+        let fills = fills_of(document)?;
         let sites = site_drafts(alloc, document, asks_for_tcp(link))?;
         Ok(Draft {
             pages,
@@ -127,6 +129,7 @@ impl Draft {
             era,
             era_bytes,
             sessions,
+            fills,
             sites,
         })
     }
@@ -160,6 +163,7 @@ impl Draft {
             era,
             era_bytes,
             sessions,
+            fills: self.fills,
             sites,
         })
     }

@@ -1,8 +1,8 @@
 //! The keys of a configuration.
-ghost use Rattle.std.specs.Prelude.{◌≡◌, ◌≤◌, pos, codes, string_bytes, IfOk, IfSome};
+ghost use Rattle.std.specs.Prelude.{◌≡◌, ◌≤◌, pos, codes, string_bytes, IfOk, IfSome, false};
 ghost use Rattle.toml.specs.Data.{get_member};
 ghost use Rattle.toml.specs.View.{table_view};
-ghost use Rattle.geo_config.specs.Document.{LinkIs, link_text, number_at, text_at as text_said};
+ghost use Rattle.geo_config.specs.Document.{LinkIs, link_text, number_at, switch_at, text_at as text_said};
 
 use crate::fault::ConfigFault;
 use crate::settings::LinkKind;
@@ -71,6 +71,16 @@ pub fn link_of(document: &Table) -> Result<Option<LinkKind>, ConfigFault>
             None => Err(ConfigFault::WrongType("link")),
         },
         None => Ok(Some(LinkKind::Memory)),
+    }
+}
+
+/// Whether a document asks for fills: not where it says nothing of them.
+pub fn fills_of(document: &Table) -> Result<bool, ConfigFault>
+    ensures { IfOk result (λ fills. switch_at (table_view document.now) (codes "fills") false ≡ Some fills) }
+{
+    match document.get("fills") {
+        Some(value) => value.as_bool().ok_or(ConfigFault::WrongType("fills")),
+        None => Ok(false),
     }
 }
 
@@ -152,6 +162,7 @@ fn is_known(name: &str) -> bool {
             | "era"
             | "era_bytes"
             | "sessions"
+            | "fills"
             | "site"
     )
 }

@@ -28,6 +28,8 @@ pub struct Config {
     pub era_bytes: u64,
     /// How many connections each site accepts before it stops, 1 to 1,048,576.
     pub sessions: u64,
+    /// Whether each site asks the others for the bytes of values that it knows of and doesn't hold; not where nothing is said.
+    pub fills: bool,
     /// The sites, 1 to 16. Site `k` stands at index `k - 1`.
     pub sites: Vec<SiteConfig>,
 }

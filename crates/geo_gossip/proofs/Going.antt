@@ -2,13 +2,13 @@
 use Rattle.std.proofs.Common.{◌≡◌, ℕ, ◌+◌, ◌<◌, ◌≤◌, Bool, true, false, cond, List, [], ◌∷◌, ◌++◌, length, take, drop, refl, sym, ◌∙◌, subst, ap, arith}
 use Rattle.std.proofs.Math.ListN.{set, get_or}
 use Rattle.std.proofs.lemmas.List.{take_more, take_more_set, drop_more, drop-set-lt, length-set, get_or-drop}
-use Rattle.geo_delta.specs.declared.parcel.Parcel.{Parcel}
+use Rattle.geo_frame.specs.declared.message.Message.{Message}
 use Rattle.geo_gossip.specs.Rounds.{Served, ServedAll}
 use Rattle.geo_gossip.specs.declared.rounds.Peer.{Peer}
 use Rattle.geo_link.specs.declared.fault.LinkError.{LinkError}
 use Rattle.geo_station.specs.Seats.{Seated}
 
-pub served_next : {K : Type 0} (puts : K → Parcel → K → Type 0) (put_fails : K → Parcel → LinkError → K → Type 0) (olds news : List (Peer K)) (old new : Peer K) (seat mid after : Seated) (count : ℕ) (put : Bool)
+pub served_next : {K : Type 0} (puts : K → Message → K → Type 0) (put_fails : K → Message → LinkError → K → Type 0) (olds news : List (Peer K)) (old new : Peer K) (seat mid after : Seated) (count : ℕ) (put : Bool)
     → ServedAll puts put_fails olds news seat mid count → Served puts put_fails put old new mid after
     → ServedAll puts put_fails (olds ++ old ∷ []) (news ++ new ∷ []) seat after (count + cond put 1 0)
 unfolding ServedAll
@@ -20,7 +20,7 @@ served_next puts put_fails [] (n ∷ news) old new seat mid after count put none
 served_next puts put_fails (o ∷ olds) [] old new seat mid after count put none last = absurd none
 
 -- no more parcels are put than there are peers
-pub served_few : {K : Type 0} (puts : K → Parcel → K → Type 0) (put_fails : K → Parcel → LinkError → K → Type 0) (olds news : List (Peer K)) (seat after : Seated) (count : ℕ)
+pub served_few : {K : Type 0} (puts : K → Message → K → Type 0) (put_fails : K → Message → LinkError → K → Type 0) (olds news : List (Peer K)) (seat after : Seated) (count : ℕ)
     → ServedAll puts put_fails olds news seat after count → count ≤ length olds
 unfolding ServedAll
 served_few puts put_fails [] [] seat after count (same, none) = omega (arith, none)
@@ -30,7 +30,7 @@ served_few puts put_fails [] (n ∷ news) seat after count none = absurd none
 served_few puts put_fails (o ∷ olds) [] seat after count none = absurd none
 
 -- the first peers of a round are served, and the others stay
-pub record Goes {K : Type 0} (puts : K → Parcel → K → Type 0) (put_fails : K → Parcel → LinkError → K → Type 0) (first now : List (Peer K)) (seat : Seated) (at : ℕ) (mid : Seated) (count : ℕ) : Type 0 where
+pub record Goes {K : Type 0} (puts : K → Message → K → Type 0) (put_fails : K → Message → LinkError → K → Type 0) (first now : List (Peer K)) (seat : Seated) (at : ℕ) (mid : Seated) (count : ℕ) : Type 0 where
   pub long : length now ≡ length first
   pub done : ServedAll puts put_fails (take at first) (take at now) seat mid count
   pub rest : drop at now ≡ drop at first
@@ -40,7 +40,7 @@ pub waits : {K : Type 0} (first now : List (Peer K)) (at : ℕ) (old : Peer K) �
 waits first now at old rest is =
     ap (λ i. get_or first i old) (omega arith) ∙ sym (get_or-drop at first 0 old) ∙ ap (λ l. get_or l 0 old) (sym rest) ∙ get_or-drop at now 0 old ∙ ap (λ i. get_or now i old) (omega arith) ∙ sym is
 
-pub goes_on : {K : Type 0} (puts : K → Parcel → K → Type 0) (put_fails : K → Parcel → LinkError → K → Type 0) (first now : List (Peer K)) (seat mid after : Seated) (at count more : ℕ) (put : Bool) (old new : Peer K)
+pub goes_on : {K : Type 0} (puts : K → Message → K → Type 0) (put_fails : K → Message → LinkError → K → Type 0) (first now : List (Peer K)) (seat mid after : Seated) (at count more : ℕ) (put : Bool) (old new : Peer K)
     → more ≡ count + cond put 1 0 → Goes puts put_fails first now seat at mid count → at < length now → old ≡ get_or now at old → Served puts put_fails put (get_or now at old) new mid after
     → Goes puts put_fails first (set now at new) seat (at + 1) after more
 goes_on {K = K} puts put_fails first now seat mid after at count more put old new counted goes lt is served =

@@ -1,2 +1,4 @@
 pub mod Going
 pub mod Hearing
+pub mod Asking
+pub mod Fetched

@@ -3,6 +3,7 @@ ghost use Rattle.std.specs.Prelude.{◌≡◌, IfOk, IfErr};
 ghost use Rattle.geo_gossip.specs.Rounds.{Served, ServedAll, Unserved, StopsEarly};
 
 use crate::fault::GossipFault;
+use geo_frame::Message;
 use geo_link::Link;
 use geo_site::SendError;
 use geo_station::{CallError, Seat, Station};
@@ -33,7 +34,7 @@ fn serve<R: Wait, L: Ledger, K: Link>(
     // A parcel may be as large as all that the site knows.
     seat.forget();
     match station.send(rt, alloc, seat, peer.site) {
-        Ok(parcel) => Ok(peer.link.put(rt, alloc, parcel).is_ok()),
+        Ok(parcel) => Ok(peer.link.put(rt, alloc, Message::Parcel(parcel)).is_ok()),
         Err(CallError::Site(SendError::NoSuchSite)) => Ok(false),
         Err(CallError::Site(SendError::Memory)) => Err(GossipFault::Memory),
         Err(CallError::SeatSpent) => Err(GossipFault::SeatSpent),

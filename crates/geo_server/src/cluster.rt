@@ -252,6 +252,7 @@ fn run<
         stop: &stop,
         every: Duration::from_millis(config.every),
         era: config.era,
+        fills: config.fills,
     };
     let mut clients = Vec::new(alloc);
     let mut ports = Vec::new(alloc);

@@ -1,12 +1,13 @@
 //! What each thread of a site does.
 ghost use Rattle.std.specs.Prelude.{◌≡◌};
 
+use crate::answering::Answering;
 use crate::clock::SystemClock;
 use crate::counting::{Clerk, Counting, Named, Rested};
 use crate::site::Shared;
 use crate::worker::Worker;
 use geo_crowd::Passed;
-use geo_gossip::{Peer, receive, round};
+use geo_gossip::{Peer, fetch, receive, round};
 use geo_link::{Link, Tallied};
 use geo_session::Gate;
 use geo_session::clock::Clock;
@@ -62,7 +63,8 @@ fn serve_clients<R: Wait + rt::Clock, L: Ledger, N: Named, G: Gate>(
     unreachable!()
 }
 
-/// Sends rounds until the cluster stops, and then lets go of the links, by which those who receive at their ends learn of it.
+/// Sends rounds, and behind each asks for what the site lacks where that is to be, until the cluster stops, and then lets go of the links,
+/// by which those who receive at their ends learn of it.
 fn gossip<R: Wait + rt::Clock, L: Ledger, N: Named, K: Link + Drop, G: Gate>(
     rt: &R,
     alloc: Global,
@@ -77,6 +79,10 @@ fn gossip<R: Wait + rt::Clock, L: Ledger, N: Named, K: Link + Drop, G: Gate>(
     }
     for _ in rt.forever() {
         let _ = round(rt, alloc, station, &mut seat, peers.as_mut_slice());
+        if shared.fills {
+            let now = SystemClock.now(rt);
+            let _filled = fetch(rt, alloc, station, &mut seat, now, peers.as_mut_slice());
+        }
         counting.count(Counter::Rounds);
         if shared.stops_within(rt) {
             return counting.into_rested(seat);
@@ -106,19 +112,37 @@ fn maintain<R: Wait + rt::Clock, L: Ledger, G: Gate>(
     unreachable!()
 }
 
-/// Takes what comes over a link until it is closed, and gives back the seat that counts what the link refused.
+/// Takes and answers what comes over a link, until it is closed or there was no memory for an answer. The seat that counts what the link
+/// refused stays one of its tally.
 fn hear<R: Wait, L: Ledger, K: Link + Drop>(
     rt: &R,
     alloc: Global,
     station: &Station<L>,
     seat: &mut Seat<L>,
-    mut link: Tallied<'_, K>,
-) -> TallySeat
-    ensures { result.tally ≡ link.entry.seat.tally }
+    link: &mut Answering<'_, K>,
+)
+    ensures { link.new.link.seat.tally ≡ link.old.link.seat.tally }
 {
-    let _ = receive(rt, alloc, station, seat, &mut link);
-    let (_link, counts) = link.into_parts();
-    counts
+    let _ = receive(rt, alloc, station, seat, link);
+}
+
+/// Takes and answers what comes over a link until it is closed, and gives back the seat that counts what the link refused.
+fn hear_all<R: Wait, L: Ledger, K: Link + Drop>(
+    rt: &R,
+    alloc: Global,
+    station: &Station<L>,
+    seat: &mut Seat<L>,
+    mut link: Answering<'_, K>,
+) -> TallySeat
+    ensures { result.tally ≡ link.entry.link.seat.tally }
+{
+    for _ in rt.forever() {
+        hear(rt, alloc, station, seat, &mut link);
+        if link.is_over() {
+            return link.into_counts();
+        }
+    }
+    unreachable!()
 }
 
 /// Takes what another site tells until it tells no more.
@@ -139,8 +163,8 @@ fn hear_out<R: Wait, L: Ledger, N: Named, K: Link + Drop, G: Gate>(
         seat: counts,
         ..
     } = counting;
-    let link = Tallied::new(from, tally, counts);
-    let counts = hear(rt, alloc, station, &mut seat, link);
+    let link = Answering::new(Tallied::new(from, tally, counts));
+    let counts = hear_all(rt, alloc, station, &mut seat, link);
     Rested::new(seat, counts)
 }
 

@@ -1,17 +1,13 @@
 //! A connection at a peer port that is not the port's own link.
+use crate::frames::Frames;
 use crate::socket::Socket;
-use bytes::BytesMut;
-use geo_crowd::{Given, Stream};
-use geo_delta::Parcel;
-use geo_frame::{FrameFault, decode, wanted};
+use geo_crowd::{Accepted, Given, Stream};
+use geo_frame::{FrameFault, Message};
 use std::alloc::Global;
 use std::rt::Clock;
 use std::time::{Duration, Instant};
 
-/// The bytes by which a frame's length is known.
-const HEAD: usize = 9;
-
-/// In how many milliseconds a guest has to bring its first frame, from its connection to the last byte.
+/// In how many milliseconds a guest has to bring its first frame, from its connection to the last byte, and to take what it is offered.
 const PATIENCE: u64 = 5000;
 
 /// How often a guest is read before others have their turn.
@@ -20,8 +16,8 @@ const TURNS: usize = 16;
 /// What a look at a guest brings.
 #[derive(Drop)]
 pub(crate) enum Brought {
-    /// A parcel, and there may be more.
-    Parcel(Parcel),
+    /// A message, and there may be more.
+    Message(Message),
     /// No whole frame yet, and more may be there at once.
     More,
     /// No whole frame yet.
@@ -35,14 +31,18 @@ pub(crate) enum Brought {
 }
 
 /// A connection at a peer port: a site whose link was cut and that comes again, or a stranger. It has a time in which to bring one whole
-/// frame; whoever has brought one may stay.
+/// frame; whoever has brought one may stay. One answer at a time is written to it, as it takes it.
 #[derive(Drop)]
 pub(crate) struct Guest {
     socket: Socket,
-    /// What came and no frame has taken. Room is made by what came, never by what a length field says.
-    waiting: BytesMut<Global>,
+    frames: Frames,
+    /// When it came, or was answered last.
     since: Option<Instant>,
-    /// The site whose parcels it brings, once it has brought one.
+    /// The frame that is written to it.
+    answer: Vec<u8>,
+    /// How many bytes of that it has taken.
+    taken: usize,
+    /// The site whose messages it brings, once it has brought one.
     from: Option<u8>,
 }
 
@@ -50,8 +50,10 @@ impl Guest {
     pub(crate) fn new<R: Clock>(rt: &R, alloc: Global, socket: Socket) -> Guest {
         Guest {
             socket,
-            waiting: BytesMut::new(alloc),
+            frames: Frames::new(alloc),
             since: Instant::now(rt).ok(),
+            answer: Vec::new(alloc),
+            taken: 0,
             from: None,
         }
     }
@@ -61,69 +63,85 @@ impl Guest {
         self.from.is_none()
     }
 
-    /// Whether it brings the parcels of this site.
+    /// Whether it brings the messages of this site.
     pub(crate) fn is_from(&self, site: u8) -> bool {
         self.from == Some(site)
     }
 
-    /// Whether it has had its time, and brought no frame in it.
+    /// Whether something is waited for: its first frame, or that it takes an answer.
+    fn owes(&self) -> bool {
+        self.is_stranger() || !self.answer.is_empty()
+    }
+
+    /// Whether it has had its time, and in it neither brought a frame nor taken its answer.
     pub(crate) fn is_late<R: Clock>(&self, rt: &R) -> bool {
         let Some(since) = self.since else {
-            return self.is_stranger();
+            return self.owes();
         };
         match since.elapsed(rt) {
-            Ok(passed) => self.is_stranger() && passed >= Duration::from_millis(PATIENCE),
-            Err(_) => self.is_stranger(),
+            Ok(passed) => self.owes() && passed >= Duration::from_millis(PATIENCE),
+            Err(_) => self.owes(),
         }
     }
 
     /// What a guest leaves that goes: a frame that is cut off, if some of one came.
     pub(crate) fn left(&self) -> Brought {
-        if self.waiting.is_empty() {
+        if self.frames.is_empty() {
             Brought::Over
         } else {
             Brought::Refused(FrameFault::Short)
         }
     }
 
-    /// How many bytes the next frame has, once they are known.
-    fn size(&self, alloc: Global) -> Result<Option<usize>, FrameFault> {
-        let bytes = self.waiting.as_slice();
-        if bytes.len() < HEAD {
-            return Ok(None);
+    /// Writes of its answer what it takes. False where the connection has failed.
+    pub(crate) fn writes(&mut self, alloc: Global) -> bool {
+        for _turn in 0..TURNS {
+            if self.taken >= self.answer.len() {
+                break;
+            }
+            let (_, rest) = self.answer.as_slice().split_at(self.taken);
+            match self.socket.write(rest) {
+                Accepted::Bytes(count) => self.taken = self.taken.saturating_add(count),
+                Accepted::Later => return true,
+                Accepted::Failed => return false,
+            }
         }
-        let (head, _) = bytes.split_at(HEAD);
-        match decode(alloc, head) {
-            Err(FrameFault::Short) => Ok(wanted(head)),
-            Err(fault) => Err(fault),
-            Ok(_) => Ok(None),
+        if !self.answer.is_empty() && self.taken >= self.answer.len() {
+            self.answer = Vec::new(alloc);
+            self.taken = 0;
         }
+        true
     }
 
-    /// The parcel of the next frame, if all of it has come.
-    fn next(&mut self, alloc: Global) -> Result<Option<Parcel>, FrameFault> {
-        let Some(size) = self.size(alloc)? else {
-            return Ok(None);
-        };
-        if self.waiting.len() < size {
-            return Ok(None);
+    /// Answers it by a frame. False where it has not taken the one before, or the connection has failed.
+    pub(crate) fn answer<R: Clock>(&mut self, rt: &R, alloc: Global, frame: Vec<u8>) -> bool {
+        if !self.answer.is_empty() {
+            return false;
         }
-        let (frame, _) = self.waiting.as_slice().split_at(size);
-        let parcel = decode(alloc, frame)?;
-        self.waiting.advance(size);
-        self.from = Some(parcel.from);
-        Ok(Some(parcel))
+        self.answer = frame;
+        self.taken = 0;
+        self.since = Instant::now(rt).ok();
+        self.writes(alloc)
+    }
+
+    /// The message of the next frame, if all of it has come.
+    fn next(&mut self, alloc: Global) -> Result<Option<Message>, FrameFault> {
+        let next = self.frames.next(alloc)?;
+        if let Some(message) = &next {
+            self.from = Some(message.sender());
+        }
+        Ok(next)
     }
 
     /// Reads once. None where bytes came.
     fn read(&mut self, buffer: &mut [u8]) -> Option<Brought> {
-        if self.waiting.reserve(buffer.len()).is_err() {
+        if self.frames.waiting.reserve(buffer.len()).is_err() {
             return Some(Brought::Memory);
         }
         match self.socket.read(buffer) {
             Given::Bytes(count) => {
                 let (came, _) = buffer.split_at(count);
-                self.waiting.extend_reserved(came);
+                self.frames.waiting.extend_reserved(came);
                 None
             }
             Given::Later => Some(Brought::Later),
@@ -131,11 +149,11 @@ impl Guest {
         }
     }
 
-    /// Reads what is there, and gives the next parcel.
+    /// Reads what is there, and gives the next message.
     pub(crate) fn brings(&mut self, alloc: Global, buffer: &mut [u8]) -> Brought {
         for _turn in 0..TURNS {
             match self.next(alloc) {
-                Ok(Some(parcel)) => return Brought::Parcel(parcel),
+                Ok(Some(message)) => return Brought::Message(message),
                 Ok(None) => {}
                 Err(FrameFault::Memory) => return Brought::Memory,
                 Err(fault) => return Brought::Refused(fault),

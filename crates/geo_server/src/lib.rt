@@ -7,17 +7,20 @@
 #![tactic(auto)]
 
 mod accept;
+mod answering;
 mod clock;
 mod cluster;
 mod counting;
 mod duty;
 mod fault;
+mod frames;
 mod guest;
 mod leaving;
 mod mailbox;
 mod porter;
 mod putting;
 mod report;
+mod road;
 mod site;
 mod socket;
 mod start;

@@ -1,8 +1,10 @@
 //! Who connects to a peer port once its links stand.
+ghost use Rattle.geo_frame.specs.Payloads.{PayloadInRange, payload_of};
+
 use crate::fault::ClusterFault;
 use crate::guest::{Brought, Guest};
 use crate::socket::Socket;
-use geo_delta::Parcel;
+use geo_frame::{EncodeFault, Message, encode};
 use geo_link::LinkError;
 use mio::net::TcpListener as Listener;
 use mio::{Events, Interest, Poll, Token};
@@ -27,7 +29,8 @@ const EVENTS: usize = 32;
 const PAUSE: u64 = 50;
 
 /// Hears who connects to a peer port once its links stand: a site whose link was cut, or a stranger. All are heard side by side, and no
-/// link waits for them. Whoever brings a frame within its time stays, one for each site that parcels come from.
+/// link waits for them. Whoever brings a frame within its time stays, one for each site that messages come from. What a guest is answered
+/// is written as it takes it, and nobody waits for that either.
 #[derive(Drop)]
 pub(crate) struct Porter<'a, N> {
     net: &'a N,
@@ -42,6 +45,7 @@ pub(crate) struct Porter<'a, N> {
     turn: usize,
     /// Whether somebody may have more at once.
     is_busy: bool,
+    is_closed: bool,
 }
 
 /// A listener that never waits, and what tells that somebody has come.
@@ -52,6 +56,14 @@ fn watched<N: Net>(net: &N, port: &TcpListener) -> io::Result<(Listener, Poll)> 
     poll.registry()
         .register(&mut listener, Token(0), Interest::READABLE)?;
     Ok((listener, poll))
+}
+
+/// The site to which a message goes.
+fn addressee(message: &Message) -> u8 {
+    match message {
+        Message::Parcel(parcel) => parcel.to,
+        Message::Ask { to, .. } | Message::Offer { to, .. } => *to,
+    }
 }
 
 impl<'a, N: Net + Clock> Porter<'a, N> {
@@ -75,11 +87,17 @@ impl<'a, N: Net + Clock> Porter<'a, N> {
             guests: Vec::new(alloc),
             turn: 0,
             is_busy: false,
+            is_closed: false,
         })
     }
 
     fn stops(&self) -> bool {
-        self.stop.load(Ordering::SeqCst) != 0
+        self.is_closed || self.stop.load(Ordering::SeqCst) != 0
+    }
+
+    /// No guest is heard any more.
+    pub(crate) fn close(&mut self) {
+        self.is_closed = true;
     }
 
     /// Lets a guest go.
@@ -110,10 +128,11 @@ impl<'a, N: Net + Clock> Porter<'a, N> {
             let Ok((mut stream, _)) = self.listener.accept() else {
                 return;
             };
-            let told = self
-                .poll
-                .registry()
-                .register(&mut stream, Token(1), Interest::READABLE);
+            let told = self.poll.registry().register(
+                &mut stream,
+                Token(1),
+                Interest::READABLE | Interest::WRITABLE,
+            );
             if told.is_err() {
                 continue;
             }
@@ -126,7 +145,7 @@ impl<'a, N: Net + Clock> Porter<'a, N> {
         }
     }
 
-    /// A guest has brought a parcel of a site: whoever brought parcels of that site before it goes.
+    /// A guest has brought a message of a site: whoever brought messages of that site before it goes.
     fn is_known(&mut self, at: usize, site: u8) {
         for other in 0..self.guests.len() {
             let Some(guest) = self.guests.get(other) else {
@@ -139,11 +158,14 @@ impl<'a, N: Net + Clock> Porter<'a, N> {
         }
     }
 
-    /// What the guest whose turn it is brings. One that is late goes.
+    /// What the guest whose turn it is brings. One that is late goes, and so does one that nothing can be written to.
     fn brought(&mut self, alloc: Global) -> Brought {
         let Some(guest) = self.guests.get_mut(self.turn) else {
             return Brought::Later;
         };
+        if !guest.writes(alloc) {
+            return guest.left();
+        }
         let brought = guest.brings(alloc, self.buffer.as_mut_slice());
         let waits = matches!(&brought, Brought::More | Brought::Later | Brought::Memory);
         if waits && guest.is_late(self.net) {
@@ -154,7 +176,7 @@ impl<'a, N: Net + Clock> Porter<'a, N> {
     }
 
     /// Hears the guest whose turn it is, and what it brings, unless it is to be waited for.
-    fn hear(&mut self, alloc: Global) -> Option<Result<Parcel, LinkError>> {
+    fn hear(&mut self, alloc: Global) -> Option<Result<Message, LinkError>> {
         let at = self.turn;
         let brought = self.brought(alloc);
         self.is_busy = self.is_busy || matches!(&brought, Brought::More);
@@ -162,9 +184,9 @@ impl<'a, N: Net + Clock> Porter<'a, N> {
             self.turn = at.saturating_add(1);
         }
         match brought {
-            Brought::Parcel(parcel) => {
-                self.is_known(at, parcel.from);
-                Some(Ok(parcel))
+            Brought::Message(message) => {
+                self.is_known(at, message.sender());
+                Some(Ok(message))
             }
             Brought::More | Brought::Later => None,
             Brought::Memory => Some(Err(LinkError::Memory)),
@@ -180,7 +202,7 @@ impl<'a, N: Net + Clock> Porter<'a, N> {
     }
 
     /// Hears each guest once, up to one that brings something.
-    fn hear_all(&mut self, alloc: Global) -> Option<Result<Parcel, LinkError>> {
+    fn hear_all(&mut self, alloc: Global) -> Option<Result<Message, LinkError>> {
         for _guest in 0..self.guests.len() {
             if self.turn >= self.guests.len() {
                 self.turn = 0;
@@ -193,8 +215,8 @@ impl<'a, N: Net + Clock> Porter<'a, N> {
         None
     }
 
-    /// The next parcel, or frame that is refused. Closed once the cluster stops.
-    pub(crate) fn get<R: Wait>(&mut self, rt: &R, alloc: Global) -> Result<Parcel, LinkError> {
+    /// The next message, or frame that is refused. Closed once the cluster stops, or it was closed.
+    pub(crate) fn get<R: Wait>(&mut self, rt: &R, alloc: Global) -> Result<Message, LinkError> {
         for _ in rt.forever() {
             if self.stops() {
                 self.guests.clear();
@@ -217,5 +239,39 @@ impl<'a, N: Net + Clock> Porter<'a, N> {
                 .poll(&mut self.events, Some(Duration::from_millis(most)));
         }
         unreachable!()
+    }
+
+    /// Answers the guest that brings the messages of the site to which this one goes. A guest that has not taken its last answer goes.
+    pub(crate) fn put(&mut self, alloc: Global, message: Message) -> Result<(), LinkError>
+        requires { PayloadInRange (payload_of message) }
+    {
+        let to = addressee(&message);
+        let frame = match encode(alloc, &message) {
+            Ok(frame) => frame,
+            Err(EncodeFault::TooLong) => return Err(LinkError::TooLong),
+            Err(EncodeFault::Memory) => return Err(LinkError::Memory),
+        };
+        let Some(at) = self.place_of(to) else {
+            return Err(LinkError::Closed);
+        };
+        let Some(guest) = self.guests.get_mut(at) else {
+            return Err(LinkError::Closed);
+        };
+        if guest.answer(self.net, alloc, frame) {
+            return Ok(());
+        }
+        self.let_go(at);
+        Err(LinkError::Io)
+    }
+
+    /// Where the guest stands that brings the messages of a site.
+    fn place_of(&self, site: u8) -> Option<usize> {
+        for at in 0..self.guests.len() {
+            let guest = self.guests.get(at)?;
+            if guest.is_from(site) {
+                return Some(at);
+            }
+        }
+        None
     }
 }

@@ -1,8 +1,9 @@
 //! The putting end of a link over a socket, which comes back where it was cut.
-ghost use Rattle.geo_delta.specs.Ranges.{InRange};
+ghost use Rattle.geo_frame.specs.Payloads.{PayloadInRange, payload_of};
 
-use crate::tcp::{PATIENCE, TcpLink, link_over};
-use geo_delta::Parcel;
+use crate::road::Road;
+use crate::tcp::PATIENCE;
+use geo_frame::Message;
 use geo_link::{Link, LinkError};
 use std::alloc::Global;
 use std::io;
@@ -25,15 +26,16 @@ pub(crate) struct Way {
     pub(crate) to: u8,
 }
 
-/// The putting end of a link. Where a write fails the link is cut, which is told on standard error, and a later put connects to the
-/// peer's port again. What was put and lost is told again by the next parcel.
+/// The putting end of a link. Where a write fails, or what is waited for does not come, or the link is closed, the connection is let go,
+/// which is told on standard error, and a later put connects to the peer's port again. What was put and lost is told again by the next
+/// parcel.
 #[derive(Drop)]
 pub(crate) struct Putting<'a, N> {
     net: &'a N,
     stop: &'a AtomicU64,
     way: Way,
     address: SocketAddr,
-    link: Option<TcpLink>,
+    road: Option<Road>,
     /// When the link was cut, or connected last.
     tried: Option<Instant>,
     /// In milliseconds.
@@ -47,14 +49,14 @@ impl<'a, N: Net<Stream = TcpStream, Listener = TcpListener> + Clock + Eprint> Pu
         stop: &'a AtomicU64,
         way: Way,
         address: SocketAddr,
-        link: TcpLink,
+        road: Road,
     ) -> Putting<'a, N> {
         Putting {
             net,
             stop,
             way,
             address,
-            link: Some(link),
+            road: Some(road),
             tried: None,
             pause: FIRST_PAUSE,
             is_told: false,
@@ -77,7 +79,7 @@ impl<'a, N: Net<Stream = TcpStream, Listener = TcpListener> + Clock + Eprint> Pu
 
     /// The link is cut.
     fn is_cut(&mut self) {
-        self.link = None;
+        self.road = None;
         self.tried = Instant::now(self.net).ok();
         self.tell();
     }
@@ -99,21 +101,21 @@ impl<'a, N: Net<Stream = TcpStream, Listener = TcpListener> + Clock + Eprint> Pu
         }
     }
 
-    fn connect(&self, alloc: Global) -> io::Result<TcpLink> {
+    fn connect(&self, alloc: Global) -> io::Result<Road> {
         let stream = TcpStream::connect_timeout(
             self.net,
             &self.address,
             Duration::from_millis(PATIENCE),
         )?;
-        link_over(alloc, stream)
+        Road::over(alloc, stream)
     }
 
     /// Connects again, where that is due and the cluster goes on.
     fn come_back(&mut self, alloc: Global) {
-        if self.link.is_some() || self.stops() || !self.is_due() {
+        if self.road.is_some() || self.stops() || !self.is_due() {
             return;
         }
-        self.link = self.connect(alloc).ok();
+        self.road = self.connect(alloc).ok();
         self.tried = Instant::now(self.net).ok();
         self.pause = self.pause.saturating_mul(2).min(LONGEST_PAUSE);
     }
@@ -129,12 +131,14 @@ impl<N: Net<Stream = TcpStream, Listener = TcpListener> + Clock + Eprint> Link f
 
     ghost get_fails = { λ _ _ _. Unit {0} };
 
-    fn put<R: Wait>(&mut self, rt: &R, alloc: Global, parcel: Parcel) -> Result<(), LinkError> {
+    ghost closes = { λ _ _. Unit {0} };
+
+    fn put<R: Wait>(&mut self, rt: &R, alloc: Global, message: Message) -> Result<(), LinkError> {
         self.come_back(alloc);
-        let Some(link) = &mut self.link else {
+        let Some(road) = &mut self.road else {
             return Err(LinkError::Closed);
         };
-        match link.put(rt, alloc, parcel) {
+        match road.put(rt, alloc, message) {
             Ok(()) => {
                 self.works();
                 Ok(())
@@ -148,7 +152,22 @@ impl<N: Net<Stream = TcpStream, Listener = TcpListener> + Clock + Eprint> Link f
         }
     }
 
-    fn get<R: Wait>(&mut self, _rt: &R, _alloc: Global) -> Result<Parcel, LinkError> {
-        Err(LinkError::Closed)
+    fn get<R: Wait>(&mut self, _rt: &R, alloc: Global) -> Result<Message, LinkError> {
+        let net = self.net;
+        let Some(road) = &mut self.road else {
+            return Err(LinkError::Closed);
+        };
+        match road.get(net, alloc) {
+            Ok(message) => Ok(message),
+            Err(error) => {
+                // whatever comes later is no answer to what is asked next
+                self.is_cut();
+                Err(error)
+            }
+        }
+    }
+
+    fn close(&mut self) {
+        self.is_cut();
     }
 }

@@ -45,6 +45,8 @@ pub(crate) struct Shared<'a, G> {
     pub(crate) every: Duration,
     /// After how many steps a site's history begins anew.
     pub(crate) era: u64,
+    /// Whether sites ask each other for bytes that they lack.
+    pub(crate) fills: bool,
 }
 
 impl<G> Shared<'_, G> {

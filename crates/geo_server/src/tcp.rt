@@ -1,10 +1,11 @@
 //! Links between sites over sockets.
-ghost use Rattle.geo_delta.specs.Ranges.{InRange};
+ghost use Rattle.geo_frame.specs.Payloads.{PayloadInRange, payload_of};
 
 use crate::fault::ClusterFault;
 use crate::porter::Porter;
 use crate::putting::{Putting, Way};
-use geo_delta::Parcel;
+use crate::road::Road;
+use geo_frame::Message;
 use geo_grammar::Device;
 use geo_link::{Link, LinkError, StreamLink};
 use std::alloc::Global;
@@ -18,17 +19,23 @@ use std::time::Duration;
 /// For how many milliseconds a link is left alone where memory was refused for what comes.
 const PAUSE: u64 = 50;
 
-/// For how many milliseconds a peer may take to make room for more, and to be connected to.
+/// For how many milliseconds a peer may take to make room for more, to bring what it is waited for, and to be connected to.
 pub(crate) const PATIENCE: u64 = 5000;
 
-/// Parcels over a socket.
+/// Messages that come over a socket, and what is answered on it.
 pub(crate) type TcpLink = StreamLink<TcpStream, TcpStream>;
 
-/// A link over a socket. A write to a peer that takes nothing for long fails.
-pub(crate) fn link_over(alloc: Global, stream: TcpStream) -> io::Result<TcpLink> {
-    // a small parcel is not to wait for a larger one
+/// A socket of which a write to a peer that takes nothing for long fails.
+pub(crate) fn prepared(stream: TcpStream) -> io::Result<TcpStream> {
+    // a small message is not to wait for a larger one
     let _ = stream.set_nodelay(true);
     stream.set_write_timeout(Some(Duration::from_millis(PATIENCE)))?;
+    Ok(stream)
+}
+
+/// A link over a socket that is let in.
+fn link_over(alloc: Global, stream: TcpStream) -> io::Result<TcpLink> {
+    let stream = prepared(stream)?;
     let reader = Device::new(stream.try_clone()?);
     match StreamLink::new(alloc, reader, Device::new(stream)) {
         Ok(link) => Ok(link),
@@ -53,14 +60,14 @@ fn connected<R: Net<Stream = TcpStream, Listener = TcpListener>>(
     Err(io::Error::from(io::ErrorKind::AddrNotAvailable))
 }
 
-/// The links over both ends of a connection to a peer port.
+/// Both ends of a connection to a peer port.
 fn joined<R: Net<Stream = TcpStream, Listener = TcpListener>>(
     rt: &R,
     alloc: Global,
     port: &TcpListener,
-) -> io::Result<(TcpLink, TcpLink)> {
+) -> io::Result<(Road, TcpLink)> {
     let (putting, getting) = connected(rt, port)?;
-    Ok((link_over(alloc, putting)?, link_over(alloc, getting)?))
+    Ok((Road::over(alloc, putting)?, link_over(alloc, getting)?))
 }
 
 /// Both ends of a link that leads to a peer port: for the site that puts, and for the one whose port it is.
@@ -107,7 +114,7 @@ impl Own<'_> {
         LinkError::Memory
     }
 
-    fn get<R: Wait>(&mut self, rt: &R, alloc: Global) -> Result<Parcel, LinkError> {
+    fn get<R: Wait>(&mut self, rt: &R, alloc: Global) -> Result<Message, LinkError> {
         match self.link.get(rt, alloc) {
             Err(LinkError::Memory) => Err(self.wants_memory(rt)),
             answer => answer,
@@ -132,14 +139,26 @@ impl<N: Net + Clock> Link for Getting<'_, N> {
 
     ghost get_fails = { λ _ _ _. Unit {0} };
 
-    fn put<R: Wait>(&mut self, _rt: &R, _alloc: Global, _parcel: Parcel) -> Result<(), LinkError> {
-        Err(LinkError::Closed)
+    ghost closes = { λ _ _. Unit {0} };
+
+    fn put<R: Wait>(&mut self, rt: &R, alloc: Global, message: Message) -> Result<(), LinkError> {
+        match self {
+            Getting::Own(own) => own.link.put(rt, alloc, message),
+            Getting::Guests(porter) => porter.put(alloc, message),
+        }
     }
 
-    fn get<R: Wait>(&mut self, rt: &R, alloc: Global) -> Result<Parcel, LinkError> {
+    fn get<R: Wait>(&mut self, rt: &R, alloc: Global) -> Result<Message, LinkError> {
         match self {
             Getting::Own(own) => own.get(rt, alloc),
             Getting::Guests(porter) => porter.get(rt, alloc),
+        }
+    }
+
+    fn close(&mut self) {
+        match self {
+            Getting::Own(own) => own.link.close(),
+            Getting::Guests(porter) => porter.close(),
         }
     }
 }

@@ -9,7 +9,7 @@ use std::net::{Net, TcpListener, TcpStream};
 use std::rt::Clock;
 use std::sync::atomic::AtomicU64;
 
-/// How many parcels may wait on a link in memory: each tells all that its site wrote since the one before, so that a few do, and a
+/// How many messages may wait on a link in memory: a parcel tells all that its site wrote since the one before, so that a few do, and a
 /// site that is behind holds no more memory.
 const WAITING: usize = 2;
 

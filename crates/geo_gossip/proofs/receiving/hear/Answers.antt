@@ -7,5 +7,5 @@ returns-in_default g c = record {
   heard = (Missed c.in-Err.why, (c.in-Err.ensures.err, c.in_default.not-Closed, refl), refl);
   steps = omega arith;
   last = inl refl;
-  closed = tt;
+  ends = tt;
 }

@@ -14,7 +14,7 @@ loop-preserved-then-took g c =
       tt,
       omega (arith, i.2, one, counted),
       keeps_on _ _ _ i.3 taken.last,
-      hears_on _ _ _ _ _ _ _ _ c.loop.count _ c.in-Some-hear.took i.4 taken.heard (counted ∙ sym (ap (λ (b : Bool). if b then min (c.loop.count + 1) most_counted else c.loop.count) c.if-took.true)),
+      hears_on _ _ _ _ _ _ _ _ _ _ c.loop.count _ c.in-Some-hear.took i.4 taken.heard (counted ∙ sym (ap (λ (b : Bool). if b then min (c.loop.count + 1) most_counted else c.loop.count) c.if-took.true)),
     )
 
 pub loop-preserved : goal.loop-preserved
@@ -26,5 +26,5 @@ loop-preserved g c =
       tt,
       omega (arith, i.2, none),
       keeps_on _ _ _ i.3 taken.last,
-      hears_on _ _ _ _ _ _ _ _ c.loop.count _ c.in-Some-hear.took i.4 taken.heard (sym (ap (λ (b : Bool). if b then min (c.loop.count + 1) most_counted else c.loop.count) c.if-took.false)),
+      hears_on _ _ _ _ _ _ _ _ _ _ c.loop.count _ c.in-Some-hear.took i.4 taken.heard (sym (ap (λ (b : Bool). if b then min (c.loop.count + 1) most_counted else c.loop.count) c.if-took.false)),
     )

@@ -9,4 +9,4 @@ invariant-loop g l =
     (goal.iterator-loop g).can_next l.iterator' × (goal.iterator-loop g).is_finite l.iterator'
     × (l.fn.seat.steps + l.count ≤ l.seat.steps)
     × KeepsLast l.fn.seat l.seat
-    × HearsSome g.K.Link.gets g.K.Link.get_fails l.fn.link l.link l.fn.seat l.seat l.count
+    × HearsSome g.K.Link.puts g.K.Link.gets g.K.Link.put_fails g.K.Link.get_fails l.fn.link l.link l.fn.seat l.seat l.count
