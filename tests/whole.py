@@ -5,7 +5,9 @@ With an allocation refused a script's output is a beginning of that, with status
 answers each request with what is owed or that it is out of memory, or closes the connection, and counts that as a fault or doesn't count
 the session; where one allocation alone is refused, the next request, or the next client, is answered; it ends by itself.
 """
+import itertools
 import os
+import re
 import socket
 import subprocess
 import tempfile
@@ -16,10 +18,16 @@ PATIENCE = 30
 OUT_OF_MEMORY = b"out of memory\n"
 REFUSED = b"SERVER_ERROR out of memory\r\n"
 SESSIONS = 6
+CUT = re.compile(rb"the link from site \d to site \d is cut\n")
+# Below those that the system gives to whoever connects: so no client has one, and no two runs beside each other.
+PORTS = itertools.cycle(range(10_000, 32_000))
 # How often a server is started whose port another program took meanwhile.
 STARTS = 3
 # Worked scripts, of crates/geo_worked/data.
 SCRIPTS = [
+    "a_fill_is_told_to_no_site",
+    "a_fill_of_an_evicted_value",
+    "a_fill_of_what_the_version_names",
     "append_and_incr",
     "flush_at_a_moment",
     "gats_touches_what_it_shows",
@@ -154,11 +162,18 @@ def conversation(key):
 
 
 def free_ports(count):
-    held = [socket.create_server(("127.0.0.1", 0)) for _ in range(count)]
-    ports = [one.getsockname()[1] for one in held]
-    for one in held:
-        one.close()
-    return ports
+    """Ports that no other run has had lately, and that nobody listens at."""
+    found = []
+    while len(found) < count:
+        port = next(PORTS)
+        with socket.socket() as one:
+            one.setsockopt(socket.SOL_SOCKET, socket.SO_REUSEADDR, 1)
+            try:
+                one.bind(("127.0.0.1", port))
+            except OSError:
+                continue
+        found.append(port)
+    return found
 
 
 class Talk:
@@ -183,10 +198,11 @@ class Talk:
 
 
 class Server:
-    """Two sites, and a client that tries each command at the first while the second is told of it."""
+    """Two sites, and a client that tries each command at the first while the second is told of it, and fetches the bytes where it is to."""
 
-    def __init__(self, program, library, link):
-        self.program, self.library, self.link, self.name = program, library, link, f"serve over {link}"
+    def __init__(self, program, library, link, fills):
+        self.program, self.library, self.link, self.fills = program, library, link, fills
+        self.name = f"serve over {link}{' with fills' if fills else ''}"
         (counted, refused), wrong, talk = self.run(0, False)
         is_well = wrong is None and refused == 0 and talk.is_done and talk.closed + talk.refused == 0
         self.counted = counted if is_well else 0
@@ -194,6 +210,8 @@ class Server:
     def started(self, number, later, report):
         ports = free_ports(4)
         lines = [f"pages = 15\nsessions = {SESSIONS}\nevery = 1\nlink = \"{self.link}\"\n"]
+        if self.fills:
+            lines.append("fills = true\n")
         for site in (1, 2):
             peer = f'peer = "127.0.0.1:{ports[site + 1]}"\n' if self.link == "tcp" else ""
             lines.append(f'[[site]]\nnumber = {site}\nclient = "127.0.0.1:{ports[site - 1]}"\nworkers = 1\n{peer}')
@@ -279,7 +297,9 @@ class Server:
         # Threads make as many allocations as their turns come to, so that the last of a run may be none of another.
         if (refused > 0) != (0 < number <= counted):
             return f"{refused} of {counted} allocations were refused"
-        if not is_told(status, errors):
+        # a link on which there was no memory for what was asked for is cut, and comes back
+        others = [line for line in errors.splitlines(True) if not (self.fills and CUT.fullmatch(line))]
+        if not is_told(status, b"".join(others)):
             return f"status {status}, {errors!r}"
         if number > 0 and refused > 0 and status in (3, 4) and not output:
             return None
@@ -302,5 +322,8 @@ def is_told(status, errors):
 
 def subjects(program, library):
     """All that is run with an allocation refused: the name of each, and what makes it."""
-    scripts = [(f"script {name}", lambda name=name: Script(program, library, name)) for name in SCRIPTS]
-    return scripts + [(f"serve over {link}", lambda link=link: Server(program, library, link)) for link in ("memory", "tcp")]
+    found = [(f"script {name}", lambda name=name: Script(program, library, name)) for name in SCRIPTS]
+    for link in ("memory", "tcp"):
+        for fills, words in ((False, ""), (True, " with fills")):
+            found.append((f"serve over {link}{words}", lambda link=link, fills=fills: Server(program, library, link, fills)))
+    return found

@@ -6,7 +6,7 @@ use crate::hall::{Fresh, add_maintained};
 use crate::sum::Sum;
 use anyhow::{Result, anyhow};
 use geo_delta::Parcel;
-use geo_frame::{decode, encode};
+use geo_frame::{Message, decode, encode};
 use geo_grammar::{Request, push_reply};
 use geo_history::History;
 use geo_station::{Seat, Station};
@@ -105,7 +105,7 @@ impl<L: Ledger> Place<L> {
     /// The frame of a parcel for another site.
     pub fn frame<R: Wait>(&mut self, rt: &R, to: u8) -> Result<Vec<u8>> {
         let parcel = self.send(rt, to)?;
-        let Ok(frame) = encode(self.alloc, &parcel) else {
+        let Ok(frame) = encode(self.alloc, &Message::Parcel(parcel)) else {
             return Err(anyhow!("no frame"));
         };
         self.sum.add_bytes(frame.as_slice());
@@ -132,7 +132,8 @@ impl<L: Ledger> Place<L> {
     /// Takes the parcel of a frame.
     pub fn arrive<R: Wait>(&mut self, rt: &R, frame: &[u8]) -> Result<()> {
         match decode(self.alloc, frame) {
-            Ok(parcel) => self.take(rt, parcel),
+            Ok(Message::Parcel(parcel)) => self.take(rt, parcel),
+            Ok(_) => Err(anyhow!("another message than a parcel")),
             Err(_) => Err(anyhow!("a damaged frame")),
         }
     }

@@ -1,6 +1,6 @@
 //! Links over readers and writers that fail.
 use geo_delta::Parcel;
-use geo_frame::{encode, fits};
+use geo_frame::{Message, encode, fits};
 use geo_lattice::Items;
 use geo_link::{Link, LinkError, StreamLink};
 use geo_scenes::texts::word;
@@ -21,18 +21,18 @@ fn link_over(
     StreamLink::new(alloc, reader, writer)
 }
 
-/// A parcel without records, whose frame has 89 bytes.
-fn parcel(alloc: Global) -> Parcel {
+/// A parcel without records, whose frame has 98 bytes.
+fn parcel(alloc: Global) -> Message {
     let mut upto = Vector::new(2);
     upto.raise(1, 1);
-    Parcel {
+    Message::Parcel(Parcel {
         from: 1,
         to: 2,
         base: Vector::new(2),
         upto,
         floor: None,
         records: Items::of(Vec::new(alloc)),
-    }
+    })
 }
 
 /// The frames of two parcels.
@@ -163,7 +163,7 @@ const ANNOUNCED: &[u8] = b"GCDS\x01\x40\x00\x00\x00\x01";
 pub fn tell_all<R: Wait>(rt: &R, alloc: Global, out: &mut Vec<u8>) -> Result<(), Stop> {
     out.extend_from_slice(b"devices\n")?;
     let frames = two_frames(alloc)?;
-    for calls in 0..11usize {
+    for calls in 0..12usize {
         word(out, b"reads ", calls as u64)?;
         out.extend_from_slice(b": ")?;
         read_behind(rt, alloc, frames.as_slice(), calls, out)?;

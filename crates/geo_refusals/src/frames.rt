@@ -1,6 +1,6 @@
 //! Frames of which a bit or a field is another, or whose end is missing, and what is told of each.
 use crate::lines::{Line, Sites, frame_of};
-use geo_frame::{FrameFault, decode};
+use geo_frame::{FrameFault, Message, decode};
 use geo_scenes::texts::word;
 use geo_scenes::{Scene, Stop};
 use geo_versions::Digest;
@@ -52,9 +52,11 @@ impl Counts {
     /// Counts what is told of a frame that comes to sites. One that is read is taken, which changes the site that it names.
     fn count(&mut self, alloc: Global, sites: &mut Sites, frame: &[u8]) {
         match decode(alloc, frame) {
-            Ok(parcel) => {
+            Ok(message) => {
                 self.read = self.read.saturating_add(1);
-                sites.hand(alloc, parcel);
+                if let Message::Parcel(parcel) = message {
+                    sites.hand(alloc, parcel);
+                }
             }
             Err(fault) => {
                 if let Some(count) = self.faults.get_mut(place_of(fault)) {
@@ -205,50 +207,56 @@ pub fn tell_spoiled<R: Wait + Clock + RandomSource>(
 /// A byte in the place of another, and what is wrong with it.
 type Patch = (&'static str, usize, u8);
 
-/// In the frame of one record: from 9 on from, to and the number of sites, from 12 and 28 on the vectors, from 44 on the floor,
-/// from 53 on the count, from 57 on the key, from 59 on the body with its stamp, digest, flags and length, from 109 on the expiry.
+/// In the frame of one record: at 9 the kind, from 10 on from, to and the number of sites, from 13 and 29 on the vectors, from 45 on the
+/// retired sites, from 53 on the floor, from 62 on the count, from 66 on the key, from 68 on the body with its stamp, digest, flags and
+/// length, from 118 on the expiry.
 const PATCHES: &[Patch] = &[
-    ("from no site", 9, 0),
-    ("from a third of two", 9, 3),
-    ("to no site", 10, 0),
-    ("to the sender", 10, 1),
-    ("to a third of two", 10, 3),
-    ("of no sites", 11, 0),
-    ("of one site", 11, 1),
-    ("of seventeen", 11, 17),
-    ("a base beyond the last clock", 12, 1),
-    ("a clock beyond the last", 28, 1),
-    ("a floor beyond the last clock", 44, 1),
-    ("a floor of no site", 51, 1),
-    ("a floor of no time", 52, 1),
-    ("no record, and bytes", 56, 0),
-    ("one record of two", 56, 2),
-    ("a key without bytes", 57, 0),
-    ("a space in a key", 58, 0x20),
-    ("a delete character in a key", 58, 0x7f),
-    ("no body, and bytes", 59, 0),
-    ("another kind of body", 59, 3),
-    ("a body beyond the last clock", 60, 1),
-    ("a body of no time", 67, 0),
-    ("a body of no site", 68, 0),
-    ("a body of a third site", 68, 3),
-    ("a value too long", 105, 1),
-    ("no expiry, and bytes", 109, 0),
-    ("another kind of expiry", 109, 2),
-    ("an expiry beyond the last clock", 110, 1),
-    ("an expiry of no time", 117, 0),
-    ("an expiry of no site", 118, 0),
-    ("an expiry of a third site", 118, 3),
-    ("other flags", 104, 6),
-    ("another end", 126, 1),
+    ("of no kind", 9, 0),
+    ("an ask, and more", 9, 2),
+    ("an offer, and more", 9, 3),
+    ("of a fourth kind", 9, 4),
+    ("from no site", 10, 0),
+    ("from a third of two", 10, 3),
+    ("to no site", 11, 0),
+    ("to the sender", 11, 1),
+    ("to a third of two", 11, 3),
+    ("of no sites", 12, 0),
+    ("of one site", 12, 1),
+    ("of seventeen", 12, 17),
+    ("a base beyond the last clock", 13, 1),
+    ("a clock beyond the last", 29, 1),
+    ("a site that has retired", 52, 1),
+    ("a floor beyond the last clock", 53, 1),
+    ("a floor of no site", 60, 1),
+    ("a floor of no time", 61, 1),
+    ("no record, and bytes", 65, 0),
+    ("one record of two", 65, 2),
+    ("a key without bytes", 66, 0),
+    ("a space in a key", 67, 0x20),
+    ("a delete character in a key", 67, 0x7f),
+    ("no body, and bytes", 68, 0),
+    ("another kind of body", 68, 3),
+    ("a body beyond the last clock", 69, 1),
+    ("a body of no time", 76, 0),
+    ("a body of no site", 77, 0),
+    ("a body of a third site", 77, 3),
+    ("a value too long", 114, 1),
+    ("no expiry, and bytes", 118, 0),
+    ("another kind of expiry", 118, 2),
+    ("an expiry beyond the last clock", 119, 1),
+    ("an expiry of no time", 126, 0),
+    ("an expiry of no site", 127, 0),
+    ("an expiry of a third site", 127, 3),
+    ("other flags", 113, 6),
+    ("another end", 135, 1),
 ];
 
-/// In the frame of two records, `a` and `b`, whose keys stand at 58 and 128.
+/// In the frame of two records, `a` and `b`, whose keys stand at 67 and 137.
 const ORDERS: &[Patch] = &[
-    ("a key again", 58, b'b'),
-    ("a key before the one before", 58, b'c'),
-    ("a key that is none, and before", 128, 0x20),
-    ("another second key", 128, b'c'),
+    ("a key again", 67, b'b'),
+    ("a key before the one before", 67, b'c'),
+    ("a key that is none, and before", 137, 0x20),
+    ("another second key", 137, b'c'),
 ];
 
 /// The frame with another byte, and the SHA-256 that is then right.

@@ -2,7 +2,7 @@
 use geo_delta::Parcel;
 use geo_equal::Equal;
 use geo_fixtures::opened;
-use geo_frame::{EncodeFault, FrameFault, decode, encode, fits};
+use geo_frame::{EncodeFault, FrameFault, Message, decode, encode, fits};
 use geo_grammar::{Request, ValueBytes, Verb, push_reply};
 use geo_history::{BoxedParcel, Kept};
 use geo_lattice::Twin;
@@ -13,6 +13,7 @@ use geo_scenes::texts::{key, request, word};
 use geo_scenes::{Scene, Stop};
 use geo_site::{LAST_MOMENT, ReapError, SendError, TakeError};
 use geo_slabs::CLASSES;
+use geo_versions::Digest;
 use std::alloc::{AllocError, Global};
 use std::random::RandomSource;
 use std::rt::Clock;
@@ -31,6 +32,8 @@ pub enum Line {
     Take(u8, usize),
     /// The parcel of this number, as a frame that is read again.
     Frame(usize),
+    /// An offer of bytes for a key, as a frame that is read again.
+    Offer(&'static [u8], &'static [u8]),
     Remove(u8),
     Evict(u8, &'static [u8]),
     Tick(u8, u64),
@@ -138,12 +141,17 @@ fn take(alloc: Global, kept: &mut Kept, parcel: &Parcel, out: &mut Vec<u8>) -> R
     }
 }
 
-/// The frame of a parcel.
+/// The frame of a copy of a parcel.
 pub fn frame_of(alloc: Global, parcel: &Parcel) -> Result<Vec<u8>, Stop> {
-    if !fits(parcel) {
-        return Err(Stop::Wrong("a parcel out of range"));
+    spelled(alloc, &Message::Parcel(parcel.twin(alloc)?))
+}
+
+/// The frame of a message.
+fn spelled(alloc: Global, message: &Message) -> Result<Vec<u8>, Stop> {
+    if !fits(message) {
+        return Err(Stop::Wrong("a message out of range"));
     }
-    match encode(alloc, parcel) {
+    match encode(alloc, message) {
         Ok(frame) => Ok(frame),
         Err(EncodeFault::Memory) => Err(Stop::Memory),
         Err(EncodeFault::TooLong) => Err(Stop::Wrong("a frame too long")),
@@ -154,12 +162,34 @@ pub fn frame_of(alloc: Global, parcel: &Parcel) -> Result<Vec<u8>, Stop> {
 fn frame(alloc: Global, parcel: &Parcel, out: &mut Vec<u8>) -> Result<(), Stop> {
     let frame = frame_of(alloc, parcel)?;
     let read = match decode(alloc, frame.as_slice()) {
-        Ok(read) => read,
+        Ok(Message::Parcel(read)) => read,
         Err(FrameFault::Memory) => return Err(Stop::Memory),
-        Err(_) => return Err(Stop::Wrong("no parcel was read")),
+        Ok(_) | Err(_) => return Err(Stop::Wrong("no parcel was read")),
     };
     if !read.equals(parcel) {
         return Err(Stop::Wrong("another parcel was read"));
+    }
+    Ok(word(out, b"bytes ", frame.len() as u64)?)
+}
+
+/// Spells an offer of site 2 as a frame, reads it again, and spells what was read.
+fn offer(alloc: Global, name: &[u8], bytes: &[u8], out: &mut Vec<u8>) -> Result<(), Stop> {
+    let offer = Message::Offer {
+        from: 2,
+        to: 1,
+        sites: 2,
+        key: key(alloc, name)?,
+        digest: Digest::of(bytes),
+        bytes: Some(Vec::from_slice(alloc, bytes)?),
+    };
+    let frame = spelled(alloc, &offer)?;
+    let read = match decode(alloc, frame.as_slice()) {
+        Ok(read) => read,
+        Err(FrameFault::Memory) => return Err(Stop::Memory),
+        Err(_) => return Err(Stop::Wrong("no offer was read")),
+    };
+    if spelled(alloc, &read)?.as_slice() != frame.as_slice() {
+        return Err(Stop::Wrong("another offer was read"));
     }
     Ok(word(out, b"bytes ", frame.len() as u64)?)
 }
@@ -253,6 +283,7 @@ fn exchange(
             Some(parcel) => frame(alloc, parcel, out),
             None => Err(Stop::Wrong("no such parcel")),
         },
+        Line::Offer(name, bytes) => offer(alloc, name, bytes, out),
         _ => Err(Stop::Wrong("another call")),
     }
 }
@@ -375,7 +406,7 @@ impl Scene for Sites {
     ) -> Result<(), Stop> {
         match self.lines.get(place) {
             None => Err(Stop::Wrong("no such call")),
-            Some(line @ (Line::Send(..) | Line::Take(..) | Line::Frame(_))) => {
+            Some(line @ (Line::Send(..) | Line::Take(..) | Line::Frame(_) | Line::Offer(..))) => {
                 exchange(alloc, &mut self.sites, &mut self.parcels, *line, out)
             }
             Some(line) => alone(alloc, &mut self.sites, *line, out),

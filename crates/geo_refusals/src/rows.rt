@@ -219,6 +219,7 @@ pub const DELTAS: &[Line] = &[
     Line::Send(1, 2),
     Line::Frame(2),
     Line::Take(2, 2),
+    Line::Offer(b"m_whose_name_is_too_long_to_stand_in_place", b"yo"),
 ];
 
 /// Each kind of command, and each call of a site and its history.

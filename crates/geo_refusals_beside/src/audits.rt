@@ -102,6 +102,10 @@ fn push_event(event: &Event, out: &mut Vec<u8>) -> Result<(), AllocError> {
             push_three(7, *site, *now, out)?;
             push_key(out, key)
         }
+        Event::Fill { site, key, .. } => {
+            push_three(8, *site, 0, out)?;
+            push_key(out, key)
+        }
     }
 }
 

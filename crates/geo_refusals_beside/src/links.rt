@@ -1,7 +1,7 @@
 //! Links, and the parcels that they carry.
 use geo_delta::Parcel;
 use geo_fixtures::setup_of;
-use geo_frame::fits;
+use geo_frame::{Message, fits};
 use geo_grammar::Reply;
 use geo_lattice::Twin;
 use geo_link::{Link, LinkError, MemoryLink, StreamLink, memory_link};
@@ -117,7 +117,7 @@ fn put<L: Link, R: Wait>(
     parcel: &Parcel,
     out: &mut Vec<u8>,
 ) -> Result<(), Stop> {
-    let copy = parcel.twin(alloc)?;
+    let copy = Message::Parcel(parcel.twin(alloc)?);
     if !fits(&copy) {
         return Err(Stop::Wrong("a parcel out of range"));
     }
@@ -137,11 +137,12 @@ fn get<L: Link, R: Wait>(
 ) -> Result<(), Stop> {
     got.reserve(1)?;
     match link.get(rt, alloc) {
-        Ok(parcel) => {
+        Ok(Message::Parcel(parcel)) => {
             word(out, b"records ", parcel.records.as_slice().len() as u64)?;
             got.push(parcel)?;
             Ok(())
         }
+        Ok(_) => Err(Stop::Wrong("another message than a parcel")),
         Err(why) => say(why, out),
     }
 }

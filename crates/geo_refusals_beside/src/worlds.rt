@@ -4,8 +4,8 @@ ghost use Rattle.geo_world.specs.There.{is_in_time};
 
 use geo_delta::Parcel;
 use geo_fixtures::setup_of;
-use geo_grammar::{Reply, push_reply};
-use geo_scenes::shown::{name_of_take, push_parcel, push_state, push_versions};
+use geo_grammar::{Reply, ValueBytes, push_reply};
+use geo_scenes::shown::{name_of_fill, name_of_take, push_parcel, push_state, push_versions};
 use geo_scenes::texts::{key, request, word};
 use geo_scenes::{Scene, Stop};
 use geo_site::{Event, LAST_MOMENT, ReapError, SendError, Setup, Site, TakeError, Trace};
@@ -26,9 +26,11 @@ enum Line {
     Evict(u8, &'static [u8]),
     Tick(u8, u64),
     Reap(u8, u64, &'static [u8]),
+    /// Bytes of a key, which need not be right.
+    Fill(u8, &'static [u8], &'static [u8]),
 }
 
-/// Each kind of event: a tie, a removal that both sites know, a flush, a reaping, and a send to the site itself.
+/// Each kind of event: a tie, a removal that both sites know, a flush, a reaping, a send to the site itself, and fills.
 const LINES: &[Line] = &[
     Line::Act(1, 100, b"set a 0 0 2\r\nhi\r\n"),
     Line::Act(2, 100, b"set a 0 0 2\r\nyo\r\n"),
@@ -64,6 +66,10 @@ const LINES: &[Line] = &[
         300,
         b"incr c_whose_name_is_too_long_to_stand_in_place 8\r\n",
     ),
+    Line::Evict(1, b"c_whose_name_is_too_long_to_stand_in_place"),
+    Line::Fill(1, b"c_whose_name_is_too_long_to_stand_in_place", b"1"),
+    Line::Fill(1, b"c_whose_name_is_too_long_to_stand_in_place", b"9"),
+    Line::Fill(1, b"c_whose_name_is_too_long_to_stand_in_place", b"9"),
 ];
 
 fn event_of(alloc: Global, line: Line) -> Result<Event, Stop> {
@@ -85,6 +91,11 @@ fn event_of(alloc: Global, line: Line) -> Result<Event, Stop> {
             site,
             now,
             key: key(alloc, name)?,
+        },
+        Line::Fill(site, name, bytes) => Event::Fill {
+            site,
+            key: key(alloc, name)?,
+            bytes: ValueBytes::of(Vec::from_slice(alloc, bytes)?),
         },
     })
 }
@@ -127,7 +138,8 @@ fn push_trace(trace: &Trace, out: &mut Vec<u8>) -> Result<(), Stop> {
         Trace::Replied(Reply::OutOfMemory, _)
         | Trace::SendRefused(SendError::Memory)
         | Trace::TakeRefused(TakeError::Memory)
-        | Trace::ReapRefused(ReapError::Memory) => return Err(Stop::Memory),
+        | Trace::ReapRefused(ReapError::Memory)
+        | Trace::FillRefused => return Err(Stop::Memory),
         Trace::Replied(reply, _victim) => return Ok(push_reply(out, reply)?),
         Trace::Removed { horizon, count } => {
             word(out, b"removed ", *count as u64)?;
@@ -136,6 +148,7 @@ fn push_trace(trace: &Trace, out: &mut Vec<u8>) -> Result<(), Stop> {
         Trace::Evicted(told) => tell(*told, b"evicted"),
         Trace::Ticked(told) => tell(*told, b"flushed"),
         Trace::Reaped(told) => tell(*told, b"reaped"),
+        Trace::Filled(filled) => name_of_fill(*filled),
         Trace::Sent => b"sent",
         Trace::Taken => b"taken",
         Trace::SendRefused(SendError::NoSuchSite) => b"no such site",
@@ -169,8 +182,11 @@ fn is_in_time(event: &Event) -> bool
         Event::Command { now, .. } | Event::Tick { now, .. } | Event::Reap { now, .. } => {
             *now <= LAST_MOMENT
         }
-        Event::Evict { .. } | Event::Send { .. } | Event::Take { .. } | Event::Remove { .. } =>
-            true,
+        Event::Evict { .. }
+        | Event::Send { .. }
+        | Event::Take { .. }
+        | Event::Remove { .. }
+        | Event::Fill { .. } => true,
     }
 }
 

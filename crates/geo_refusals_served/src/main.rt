@@ -4,6 +4,7 @@
 #![tactic(auto)]
 
 mod crowds;
+mod fills;
 mod rounds;
 mod rows;
 mod sessions;

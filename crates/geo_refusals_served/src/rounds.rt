@@ -1,6 +1,6 @@
 //! Rounds of gossip over links in memory.
 use geo_delta::Parcel;
-use geo_frame::fits;
+use geo_frame::{Message, fits};
 use geo_gossip::{GossipFault, Peer, receive, round};
 use geo_lattice::Twin;
 use geo_link::{Link, LinkError, MemoryLink, memory_link};
@@ -31,9 +31,12 @@ fn put_round<L: Ledger, R: Wait>(
     round(rt, alloc, station, seat, peers.as_mut_slice())
 }
 
-/// What came over a link whose other end is let go, if anything did.
+/// The parcel that came over a link whose other end is let go, if one did.
 fn came<R: Wait>(rt: &R, alloc: Global, mut link: MemoryLink) -> Option<Parcel> {
-    link.get(rt, alloc).ok()
+    match link.get(rt, alloc) {
+        Ok(Message::Parcel(parcel)) => Some(parcel),
+        Ok(_) | Err(_) => None,
+    }
 }
 
 /// Keeps what a whole round put, for which there is room.
@@ -82,7 +85,7 @@ pub fn tell_all<L: Ledger, R: Wait>(
 
 /// Puts a copy of a parcel on a link.
 fn put<R: Wait>(rt: &R, alloc: Global, link: &mut MemoryLink, parcel: &Parcel) -> Result<(), Stop> {
-    let copy = parcel.twin(alloc)?;
+    let copy = Message::Parcel(parcel.twin(alloc)?);
     if !fits(&copy) {
         return Err(Stop::Wrong("a parcel out of range"));
     }

@@ -10,6 +10,7 @@ pub enum Rows {
     Eras,
     Maintenance,
     Rounds,
+    Fills,
 }
 
 impl Rows {
@@ -22,6 +23,7 @@ impl Rows {
             "eras" => Rows::Eras,
             "maintenance" => Rows::Maintenance,
             "rounds" => Rows::Rounds,
+            "fills" => Rows::Fills,
             _ => return None,
         })
     }
@@ -29,7 +31,7 @@ impl Rows {
     /// How many sites there are. The station's is the first.
     pub fn sites(self) -> u8 {
         match self {
-            Rows::Taking | Rows::Station | Rows::Closing | Rows::Eras => 2,
+            Rows::Taking | Rows::Station | Rows::Closing | Rows::Eras | Rows::Fills => 2,
             Rows::Maintenance => 1,
             Rows::Rounds => 3,
         }
@@ -44,6 +46,7 @@ impl Rows {
             Rows::Eras => ERAS,
             Rows::Maintenance => MAINTENANCE,
             Rows::Rounds => ROUNDS,
+            Rows::Fills => FILLS,
         }
     }
 
@@ -52,7 +55,7 @@ impl Rows {
         match self {
             Rows::Taking | Rows::Station => Sight::Steps,
             Rows::Closing | Rows::Eras => Sight::Calls,
-            Rows::Maintenance | Rows::Rounds => Sight::State,
+            Rows::Maintenance | Rows::Rounds | Rows::Fills => Sight::State,
         }
     }
 }
@@ -155,4 +158,29 @@ const ROUNDS: &[Line] = &[
     Line::Act(0, 100, b"delete a\r\n"),
     Line::Round(0),
     Line::Forth(4),
+];
+
+/// What the second site wrote is missing, is offered by hand and then fetched, and nothing is missing behind it.
+const FILLS: &[Line] = &[
+    Line::Beside(b"set a 0 0 2\r\nyo\r\n"),
+    Line::Beside(b"set b_whose_name_is_too_long_to_stand_in_place 0 0 3\r\nyes\r\n"),
+    Line::Back,
+    Line::Missing,
+    Line::Take(0, 0),
+    Line::Missing,
+    Line::Fill(1, b"a", b"no"),
+    Line::Offer(b"a", b"yo"),
+    Line::Fill(1, b"a", b"yo"),
+    Line::Fill(0, b"a", b"yo"),
+    Line::Offer(b"a", b"yo"),
+    Line::Offer(b"a", b"no"),
+    Line::Missing,
+    Line::Fetch(0, 1),
+    Line::Act(
+        1,
+        100,
+        b"get a b_whose_name_is_too_long_to_stand_in_place\r\n",
+    ),
+    Line::Missing,
+    Line::Fetch(1, 0),
 ];

@@ -3,6 +3,7 @@ ghost use Rattle.std.specs.Prelude.{◌≡◌, ℕ, []};
 ghost use Rattle.geo_history.specs.Keeping.{opened_with};
 ghost use Rattle.geo_history.specs.Stories.{story_in};
 
+use crate::fills::{fetch_all, fill, miss, offer};
 use crate::rounds::{hear_all, tell_all};
 use crate::rows::Rows;
 use geo_delta::Parcel;
@@ -53,6 +54,14 @@ pub enum Line {
     Round(usize),
     /// The parcels from this number on come over a link.
     Receive(usize, usize),
+    /// Which key is missing first.
+    Missing,
+    /// What is held of a key and has the SHA-256 of these bytes.
+    Offer(&'static [u8], &'static [u8]),
+    /// The site is offered these bytes of a key.
+    Fill(usize, &'static [u8], &'static [u8]),
+    /// A fetch from the second site, which brings so many values.
+    Fetch(usize, usize),
 }
 
 /// What is seen of a station.
@@ -78,6 +87,8 @@ pub struct Post<L: Ledger> {
     ended: Vec<History>,
     /// What the parts of a maintenance did.
     done: Maintained,
+    /// How many values the parts of a fetch brought.
+    fetched: usize,
     rows: Rows,
 }
 
@@ -431,6 +442,45 @@ impl<L: Ledger> Post<L> {
         }
     }
 
+    /// Fills what the site lacks, or tells of it.
+    fn by_fill<R: Wait>(
+        &mut self,
+        rt: &R,
+        alloc: Global,
+        line: Line,
+        out: &mut Vec<u8>,
+    ) -> Result<(), Stop> {
+        let Some(station) = &self.station else {
+            return Err(Stop::Wrong("it is closed"));
+        };
+        match line {
+            Line::Missing => miss(rt, alloc, station, out),
+            Line::Offer(key, value) => offer(rt, alloc, station, key, value, out),
+            Line::Fill(seat, key, value) => {
+                fill(
+                    rt,
+                    alloc,
+                    station,
+                    seat_of(&mut self.seats, seat)?,
+                    key,
+                    value,
+                    out,
+                )
+            }
+            Line::Fetch(seat, due) => fetch_all(
+                rt,
+                alloc,
+                station,
+                seat_of(&mut self.seats, seat)?,
+                &self.beside,
+                &mut self.fetched,
+                due,
+                out,
+            ),
+            _ => Err(Stop::Wrong("another call")),
+        }
+    }
+
     fn begin_era<R: Wait>(
         &mut self,
         rt: &R,
@@ -484,6 +534,9 @@ impl<L: Ledger> Scene for Post<L> {
             Some(Line::Close) => self.close(alloc, out),
             Some(line @ (Line::Beside(_) | Line::Back | Line::Forth(_))) => {
                 self.by_second(alloc, line, out)
+            }
+            Some(line @ (Line::Missing | Line::Offer(..) | Line::Fill(..) | Line::Fetch(..))) => {
+                self.by_fill(rt, alloc, line, out)
             }
             Some(line) => self.by_seat(rt, alloc, line, out),
         }
@@ -567,6 +620,7 @@ fn post_at<L: Ledger, R: Wait>(
         parcels: Vec::new(alloc),
         ended: Vec::new(alloc),
         done: NOTHING_DONE,
+        fetched: 0,
         rows,
     })
 }

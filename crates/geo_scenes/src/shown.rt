@@ -4,7 +4,7 @@ use geo_delta::Parcel;
 use geo_grammar::push_reply;
 use geo_history::{Answer, Event, Step};
 use geo_lattice::Lww;
-use geo_site::{ReapError, SendError, SiteState, TakeError};
+use geo_site::{Filled, ReapError, SendError, SiteState, TakeError};
 use geo_stamp::{Acks, Stamp, Vector};
 use geo_versions::{Body, Digest, Key, Rec, Version};
 use std::alloc::AllocError;
@@ -183,6 +183,11 @@ pub fn push_event(out: &mut Vec<u8>, event: &Event) -> Result<(), AllocError> {
             push_number(out, *now)?;
             push_key(out, key)
         }
+        Event::Fill { key, bytes } => {
+            push_number(out, 8)?;
+            push_key(out, key)?;
+            push_number(out, bytes.len() as u64)
+        }
     }
 }
 
@@ -210,6 +215,16 @@ fn name_of_reap(why: ReapError) -> &'static [u8] {
     }
 }
 
+/// The word for what came of offered bytes.
+pub fn name_of_fill(filled: Filled) -> &'static [u8] {
+    match filled {
+        Filled::NotNamed => b"unnamed",
+        Filled::Held => b"held",
+        Filled::Full => b"full",
+        Filled::Done => b"filled",
+    }
+}
+
 /// What was answered.
 pub fn push_answer(out: &mut Vec<u8>, answer: &Answer) -> Result<(), AllocError> {
     match answer {
@@ -226,6 +241,7 @@ pub fn push_answer(out: &mut Vec<u8>, answer: &Answer) -> Result<(), AllocError>
             push_number(out, *told as u64)
         }
         Answer::ReapRefused(why) => out.extend_from_slice(name_of_reap(*why)),
+        Answer::Filled(filled) => out.extend_from_slice(name_of_fill(*filled)),
     }
 }
 

@@ -11,8 +11,8 @@ fn told(alloc: Global, text: &str) -> Result<String, AllocError> {
     }
 }
 
-/// The values in the order in which the format lists them, the era's length and bytes where they aren't the defaults, each site behind
-/// a semicolon.
+/// The values in the order in which the format lists them, the era's length and bytes and fills where they aren't the defaults, each
+/// site behind a semicolon.
 fn shown(alloc: Global, config: &Config) -> Result<String, AllocError> {
     let Config {
         pages,
@@ -22,6 +22,7 @@ fn shown(alloc: Global, config: &Config) -> Result<String, AllocError> {
         every,
         era,
         era_bytes,
+        fills,
         sessions,
         sites,
     } = config;
@@ -33,6 +34,9 @@ fn shown(alloc: Global, config: &Config) -> Result<String, AllocError> {
     }
     if *era_bytes != 268_435_456 {
         text.push_str(format!(in alloc; " bytes {era_bytes}")?.as_str())?;
+    }
+    if *fills {
+        text.push_str(" fills")?;
     }
     for site in sites.iter() {
         let peer = site.peer.as_ref().map_or("-", String::as_str);
@@ -239,6 +243,14 @@ fn told_of_sites(alloc: Global, count: u8) -> Result<String, AllocError> {
     told(alloc, text.as_str())
 }
 
+/// Lines that ask for fills or don't, and what is told.
+const FILLS: [(&str, &str); 4] = [
+    ("fills = true", "64 100000 60 Memory 100 5 fills; 1 a 4 -"),
+    ("fills = false", "64 100000 60 Memory 100 5; 1 a 4 -"),
+    ("fills = 1", "wrong type fills"),
+    ("fills = \"true\"", "wrong type fills"),
+];
+
 /// How many bytes the steps of an era may keep: a line at the top, what is told.
 const BYTES: [(&str, &str); 6] = [
     ("era_bytes = 1048575", "out of range era_bytes"),
@@ -258,6 +270,14 @@ const BYTES: [(&str, &str); 6] = [
 #[test]
 fn tells_of_the_bytes_of_an_era(rt: HostRuntime) -> Result<(), Fail> {
     for (top, want) in BYTES {
+        assert_eq!(rt; told_of_lines(rt.alloc(), top, "")?.as_str(), want, "{top}");
+    }
+    Ok(())
+}
+
+#[test]
+fn tells_whether_sites_fill_each_other(rt: HostRuntime) -> Result<(), Fail> {
+    for (top, want) in FILLS {
         assert_eq!(rt; told_of_lines(rt.alloc(), top, "")?.as_str(), want, "{top}");
     }
     Ok(())

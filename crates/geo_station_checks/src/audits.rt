@@ -9,6 +9,7 @@ use geo_fixtures::opened;
 use geo_grammar::{Reply, Request, ValueBytes, Verb};
 use geo_history::{Answer, BoxedParcel, Event, History, Kept, Step};
 use geo_lattice::{Items, Twin};
+use geo_site::Filled;
 use geo_versions::{Digest, Key};
 use std::alloc::Global;
 use std::process::Abort;
@@ -160,6 +161,10 @@ fn copied_event(alloc: Global, event: &Event) -> Option<Event> {
         Event::Take { parcel } => Some(Event::Take {
             parcel: BoxedParcel::copy_of(alloc, parcel.parcel()).ok()?,
         }),
+        Event::Fill { key, bytes } => Some(Event::Fill {
+            key: key.twin(alloc).ok()?,
+            bytes: bytes.twin(alloc).ok()?,
+        }),
         _ => None,
     }
 }
@@ -172,6 +177,7 @@ fn copied_answer(alloc: Global, answer: &Answer) -> Option<Answer> {
             parcel.parcel(),
         ).ok()?)),
         Answer::Taken(taken) => Some(Answer::Taken(*taken)),
+        Answer::Filled(filled) => Some(Answer::Filled(*filled)),
         _ => None,
     }
 }
@@ -208,31 +214,36 @@ fn without(alloc: Global, steps: &Chunks<Step>, place: usize) -> Option<Chunks<S
     Some(all)
 }
 
-/// The step at a place with another reply.
-fn replying(alloc: Global, step: &Step, reply: Reply, made: Option<(Digest, u32)>) -> Option<Step> {
+/// The step at a place with another answer.
+fn answering(
+    alloc: Global,
+    step: &Step,
+    answer: Answer,
+    made: Option<(Digest, u32)>,
+) -> Option<Step> {
     Some(Step {
         seat: step.seat,
         number: step.number,
         event: copied_event(alloc, &step.event)?,
-        answer: Answer::Replied(reply),
+        answer,
         victim: None,
         made,
     })
 }
 
-/// The steps with another reply at a place, and, where it is told, another digest of what was made.
+/// The steps with another answer at a place, and, where it is told, another digest of what was made.
 fn altered(
     alloc: Global,
     steps: &Chunks<Step>,
     place: usize,
-    reply: &Reply,
+    answer: &Answer,
     made: Option<(Digest, u32)>,
 ) -> Option<Chunks<Step>> {
     let mut all = Chunks::new(alloc).ok()?;
     for at in 0..steps.len() {
         let old = steps.get(at)?;
         let step = if at == place {
-            replying(alloc, old, reply.twin(alloc).ok()?, made)?
+            answering(alloc, old, copied_answer(alloc, answer)?, made)?
         } else {
             renumbered(alloc, old, old.number)?
         };
@@ -284,15 +295,15 @@ fn what_sites_did_is_sound(rt: HostRuntime) {
     check(&rt, alloc, counted(&rt, alloc).as_slice(), Told::Sound(12));
 }
 
-/// Puts another reply into the history of a site.
+/// Puts another answer into the history of a site.
 fn alter(
     alloc: Global,
     history: &mut History,
     place: usize,
-    reply: &Reply,
+    answer: &Answer,
     made: Option<(Digest, u32)>,
 ) -> Option<()> {
-    let steps = altered(alloc, &history.steps, place, reply, made)?;
+    let steps = altered(alloc, &history.steps, place, answer, made)?;
     history.steps = steps;
     Some(())
 }
@@ -300,7 +311,7 @@ fn alter(
 /// Puts `STORED` in the place of a get's values.
 fn answer_stored(alloc: Global, histories: &mut [History]) -> Option<()> {
     let second = histories.get_mut(1)?;
-    alter(alloc, second, 3, &Reply::Stored, None)
+    alter(alloc, second, 3, &Answer::Replied(Reply::Stored), None)
 }
 
 #[test]
@@ -315,7 +326,7 @@ fn another_reply_is_wrong(rt: HostRuntime) {
 fn answer_nine(alloc: Global, histories: &mut [History]) -> Option<()> {
     let first = histories.get_mut(0)?;
     let made = Some((Digest::of(b"9"), 1));
-    alter(alloc, first, 2, &Reply::Number(9), made)
+    alter(alloc, first, 2, &Answer::Replied(Reply::Number(9)), made)
 }
 
 #[test]
@@ -324,6 +335,62 @@ fn another_number_is_wrong(rt: HostRuntime) {
     let mut histories = counted(&rt, alloc);
     answer_nine(alloc, histories.as_mut_slice()).expect(&rt, "a third step");
     check(&rt, alloc, histories.as_slice(), Told::Wrong(1, 3));
+}
+
+fn offer(alloc: Global, kept: &mut Kept, bytes: &[u8]) -> Option<()> {
+    if kept.left(0) < 8 {
+        return None;
+    }
+    let bytes = ValueBytes::of(Vec::from_slice(alloc, bytes).ok()?);
+    kept.fill_for(alloc, 0, &key(alloc)?, bytes).ok()?;
+    Some(())
+}
+
+/// Both set one key and tell each other, and the first is offered what it doesn't name, and then what it names.
+fn fill(alloc: Global, one: &mut Kept, two: &mut Kept) -> Option<()> {
+    tie(alloc, one, two)?;
+    offer(alloc, one, b"no")?;
+    offer(alloc, one, b"yo")?;
+    get(alloc, one)
+}
+
+/// Puts another answer in the place of what came of the bytes that are named, or else of the others.
+fn answer_filled(
+    alloc: Global,
+    histories: &mut [History],
+    named: bool,
+    filled: Filled,
+) -> Option<()> {
+    let first = histories.get_mut(0)?;
+    let place = if named { 5 } else { 4 };
+    alter(alloc, first, place, &Answer::Filled(filled), None)
+}
+
+/// The histories of a site that was filled and of the one that wrote the bytes.
+fn filled(rt: &(impl Abort + RandomSource), alloc: Global) -> Vec<History> {
+    let (mut one, mut two) = sites(rt, alloc);
+    fill(alloc, &mut one, &mut two).expect(rt, "it is filled");
+    both(rt, alloc, one, two)
+}
+
+#[test]
+fn a_fill_is_sound_as_it_came(rt: HostRuntime) {
+    let alloc = rt.alloc();
+    check(&rt, alloc, filled(&rt, alloc).as_slice(), Told::Sound(11));
+    let wrong = [
+        (false, Filled::Held, 5),
+        (false, Filled::Full, 5),
+        (false, Filled::Done, 5),
+        (true, Filled::NotNamed, 6),
+        (true, Filled::Held, 6),
+        (true, Filled::Full, 6),
+    ];
+    for (named, answer, step) in wrong {
+        let mut histories = filled(&rt, alloc);
+        let all = histories.as_mut_slice();
+        answer_filled(alloc, all, named, answer).expect(&rt, "a fill");
+        check(&rt, alloc, histories.as_slice(), Told::Wrong(1, step));
+    }
 }
 
 fn other_key(alloc: Global) -> Option<Key> {

@@ -7,6 +7,8 @@ mod audits;
 #[cfg(test)]
 mod calls;
 #[cfg(test)]
+mod fetches;
+#[cfg(test)]
 mod histories;
 #[cfg(test)]
 mod links;

@@ -2,12 +2,13 @@
 ghost use Rattle.std.specs.Prelude.{◌≡◌, IfSome};
 
 use geo_delta::Parcel;
-use geo_frame::{FrameFault, fits};
+use geo_frame::{FrameFault, Message, fits};
 use geo_grammar::Device;
 use geo_lattice::Items;
 use geo_link::{Link, LinkError, MemoryLink, StreamLink, Tallied, memory_link};
 use geo_stamp::Vector;
 use geo_tally::{Tally, TallySeat};
+use geo_versions::{Digest, Key};
 use std::alloc::{AllocError, Global};
 use std::io::Read;
 use std::net::TcpStream;
@@ -17,49 +18,95 @@ use std::thread::Threads;
 use std::{io, thread};
 
 // The frames of two parcels between two sites, without records. Written out by hand, the SHA-256s by Python's hashlib.
-const FORTH: [u8; 89] = [
-    // the magic, the version, 89 bytes
-    0x47, 0x43, 0x44, 0x53, 0x01, 0x00, 0x00, 0x00, 0x59,
+const FORTH: [u8; 98] = [
+    // the magic, the version, 98 bytes; a parcel
+    0x47, 0x43, 0x44, 0x53, 0x02, 0x00, 0x00, 0x00, 0x62, 0x01,
     // from 1, to 2, of two sites
     0x01, 0x02, 0x02,
     // base
     0x00, 0x00, 0x00, 0x00, 0x00, 0x00, 0x00, 0x00, 0x00, 0x00, 0x00, 0x00, 0x00, 0x00, 0x00, 0x00,
     // upto
     0x00, 0x00, 0x00, 0x00, 0x00, 0x00, 0x00, 0x01, 0x00, 0x00, 0x00, 0x00, 0x00, 0x00, 0x00, 0x00,
+    // no site has retired
+    0x00, 0x00, 0x00, 0x00, 0x00, 0x00, 0x00, 0x00,
     // no floor, no records
     0x00, 0x00, 0x00, 0x00, 0x00, 0x00, 0x00, 0x00, 0x00, 0x00, 0x00, 0x00, 0x00,
     // the SHA-256 of all before
-    0x42, 0x42, 0x3d, 0xae, 0xb4, 0x7b, 0x15, 0x69, 0xcd, 0x66, 0xf6, 0x3f, 0x68, 0xcf, 0x9c, 0xae,
-    0xf7, 0x68, 0x3d, 0x4b, 0x51, 0xb5, 0x85, 0x49, 0x01, 0xe9, 0x22, 0xe2, 0x6e, 0x59, 0x43, 0xbf,
+    0x7a, 0xe4, 0xb4, 0xc3, 0x00, 0xfb, 0x35, 0x5b, 0x4c, 0xf1, 0x62, 0xc0, 0x09, 0x3a, 0x38, 0x20,
+    0x5b, 0x55, 0xed, 0xb9, 0x70, 0xd6, 0x82, 0xdb, 0xa7, 0xf5, 0xe6, 0xb4, 0x45, 0x8c, 0x5e, 0xfd,
 ];
 
 /// From 2, to 1.
 const BACK_DIGEST: [u8; 32] = [
-    0x7f, 0xd8, 0x0f, 0xae, 0x60, 0xc0, 0xd1, 0xef, 0x0b, 0x6c, 0x6d, 0xf8, 0x08, 0xc2, 0x0c, 0x94,
-    0xbc, 0x87, 0x36, 0x99, 0x5a, 0x8c, 0x15, 0x76, 0xd0, 0x4b, 0x8f, 0x08, 0xd6, 0xec, 0x4e, 0x7c,
+    0x6b, 0xc8, 0xb2, 0x73, 0xf3, 0x8c, 0x4b, 0x95, 0x43, 0x75, 0xb2, 0xb3, 0x46, 0xdc, 0x30, 0x76,
+    0xfb, 0xed, 0xce, 0x1e, 0xa7, 0x06, 0x5a, 0x32, 0xb4, 0x98, 0x63, 0x90, 0xed, 0xae, 0x90, 0xbe,
 ];
 
-fn parcel(alloc: Global, from: u8, to: u8) -> Parcel {
+/// The frame forth as version 1 has it, whose SHA-256 it is: without the kind and without the retired sites.
+const OLD_DIGEST: [u8; 32] = [
+    0x42, 0x42, 0x3d, 0xae, 0xb4, 0x7b, 0x15, 0x69, 0xcd, 0x66, 0xf6, 0x3f, 0x68, 0xcf, 0x9c, 0xae,
+    0xf7, 0x68, 0x3d, 0x4b, 0x51, 0xb5, 0x85, 0x49, 0x01, 0xe9, 0x22, 0xe2, 0x6e, 0x59, 0x43, 0xbf,
+];
+
+fn parcel(alloc: Global, from: u8, to: u8) -> Message {
     let mut upto = Vector::new(2);
     upto.raise(1, 1);
-    Parcel {
+    Message::Parcel(Parcel {
         from,
         to,
         base: Vector::new(2),
         upto,
         floor: None,
         records: Items::of(Vec::new(alloc)),
+    })
+}
+
+/// An ask of site 1, or the offer of site 2 that answers it.
+fn fill(alloc: Global, offers: bool) -> Result<Message, Fail> {
+    let key = Key::new(alloc, b"a")?.ok_or("no key")?;
+    let digest = Digest::of(b"yo");
+    if !offers {
+        return Ok(Message::Ask {
+            from: 1,
+            to: 2,
+            sites: 2,
+            key,
+            digest,
+        });
     }
+    Ok(Message::Offer {
+        from: 2,
+        to: 1,
+        sites: 2,
+        key,
+        digest,
+        bytes: Some(Vec::from_slice(alloc, b"yo")?),
+    })
 }
 
 /// The frame forth, and then the one back.
 fn both_frames(alloc: Global) -> Result<Vec<u8>, AllocError> {
     let mut frames = Vec::new(alloc);
-    let parts: [&[u8]; 5] = [&FORTH, &FORTH[..9], &[2, 1], &FORTH[11..57], &BACK_DIGEST];
+    let parts: [&[u8]; 5] = [&FORTH, &FORTH[..10], &[2, 1], &FORTH[12..66], &BACK_DIGEST];
     for part in parts {
         frames.extend_from_slice(part)?;
     }
     Ok(frames)
+}
+
+/// The frame forth as version 1 has it.
+fn old_frame(alloc: Global) -> Result<Vec<u8>, AllocError> {
+    let mut frame = Vec::new(alloc);
+    let parts: [&[u8]; 4] = [
+        b"GCDS\x01\x00\x00\x00\x59",
+        &FORTH[10..45],
+        &FORTH[53..66],
+        &OLD_DIGEST,
+    ];
+    for part in parts {
+        frame.extend_from_slice(part)?;
+    }
+    Ok(frame)
 }
 
 /// A reader that gives one byte a call.
@@ -87,24 +134,35 @@ fn say(out: &mut Vec<u8>, why: LinkError) -> Result<(), AllocError> {
     out.extend_from_slice(format!(in alloc; "{why:?}; ")?.as_bytes())
 }
 
-/// Puts a parcel, and writes down what is answered.
+/// Puts a message, and writes down what is answered.
 fn put<L: Link, R: Wait>(
     rt: &R,
     alloc: Global,
     link: &mut L,
-    parcel: Parcel,
+    message: Message,
     out: &mut Vec<u8>,
 ) -> Result<(), Fail> {
-    if !fits(&parcel) {
+    if !fits(&message) {
         return Err(Fail::new("not within the ranges"));
     }
-    match link.put(rt, alloc, parcel) {
+    match link.put(rt, alloc, message) {
         Ok(()) => Ok(out.extend_from_slice(b"put; ")?),
         Err(why) => Ok(say(out, why)?),
     }
 }
 
-/// Gets a parcel, and writes down from where to where it goes.
+/// What a message is, and from where to where it goes.
+fn name(out: &mut Vec<u8>, message: &Message) -> Result<(), AllocError> {
+    let alloc = *out.allocator();
+    let (what, from, to) = match message {
+        Message::Parcel(parcel) => ("to", parcel.from, parcel.to),
+        Message::Ask { from, to, .. } => ("asks", *from, *to),
+        Message::Offer { from, to, .. } => ("offers", *from, *to),
+    };
+    out.extend_from_slice(format!(in alloc; "{from} {what} {to}; ")?.as_bytes())
+}
+
+/// Gets a message, and writes down what it is.
 fn get<L: Link, R: Wait>(
     rt: &R,
     alloc: Global,
@@ -112,9 +170,7 @@ fn get<L: Link, R: Wait>(
     out: &mut Vec<u8>,
 ) -> Result<(), AllocError> {
     match link.get(rt, alloc) {
-        Ok(Parcel { from, to, .. }) => {
-            out.extend_from_slice(format!(in alloc; "{from} to {to}; ")?.as_bytes())
-        }
+        Ok(message) => name(out, &message),
         Err(why) => say(out, why),
     }
 }
@@ -223,6 +279,68 @@ fn got_of<R: Wait>(rt: &R, alloc: Global, bytes: &[u8]) -> Result<Vec<u8>, Fail>
     let count = link.into_writer().into_inner().len();
     out.extend_from_slice(format!(in alloc; "{count}")?.as_bytes())?;
     Ok(out)
+}
+
+/// What comes of a frame of version 1.
+fn got_of_old<R: Wait>(rt: &R, alloc: Global) -> Result<Vec<u8>, Fail> {
+    let mut out = Vec::new(alloc);
+    let frame = old_frame(alloc)?;
+    let mut link = link_over(alloc, frame.as_slice())?;
+    get(rt, alloc, &mut link, &mut out)?;
+    get(rt, alloc, &mut link, &mut out)?;
+    Ok(out)
+}
+
+#[test]
+fn frames_of_version_1_come(rt: HostRuntime) -> Result<(), Fail> {
+    let text = b"1 to 2; Closed; ".as_slice();
+    assert_eq!(rt; got_of_old(&rt, rt.alloc())?.as_slice(), text);
+    Ok(())
+}
+
+/// An ask forth and an offer back over a link in memory, and what is answered at an end that is closed, and at the other.
+fn filled<R: Wait>(rt: &R, alloc: Global) -> Result<Vec<u8>, Fail> {
+    let mut out = Vec::new(alloc);
+    let (mut here, mut there) = memory_link(alloc, 2)?;
+    put(rt, alloc, &mut here, fill(alloc, false)?, &mut out)?;
+    get(rt, alloc, &mut there, &mut out)?;
+    put(rt, alloc, &mut there, fill(alloc, true)?, &mut out)?;
+    get(rt, alloc, &mut here, &mut out)?;
+    put(rt, alloc, &mut there, fill(alloc, true)?, &mut out)?;
+    here.close();
+    get(rt, alloc, &mut here, &mut out)?;
+    put(rt, alloc, &mut here, fill(alloc, false)?, &mut out)?;
+    put(rt, alloc, &mut there, fill(alloc, true)?, &mut out)?;
+    Ok(out)
+}
+
+#[test]
+fn memory_links_carry_fills_until_they_are_closed(rt: HostRuntime) -> Result<(), Fail> {
+    let text = b"put; 1 asks 2; put; 2 offers 1; put; Closed; Closed; put; ".as_slice();
+    assert_eq!(rt; filled(&rt, rt.alloc())?.as_slice(), text);
+    Ok(())
+}
+
+/// What is answered by a link over bytes before it is closed and then, and how many bytes are written.
+fn closed_over_bytes<R: Wait>(rt: &R, alloc: Global) -> Result<Vec<u8>, Fail> {
+    let mut out = Vec::new(alloc);
+    let frames = both_frames(alloc)?;
+    let mut link = link_over(alloc, frames.as_slice())?;
+    get(rt, alloc, &mut link, &mut out)?;
+    put(rt, alloc, &mut link, fill(alloc, false)?, &mut out)?;
+    link.close();
+    get(rt, alloc, &mut link, &mut out)?;
+    put(rt, alloc, &mut link, fill(alloc, true)?, &mut out)?;
+    let count = link.into_writer().into_inner().len();
+    out.extend_from_slice(format!(in alloc; "{count}")?.as_bytes())?;
+    Ok(out)
+}
+
+#[test]
+fn a_closed_link_reads_and_writes_nothing(rt: HostRuntime) -> Result<(), Fail> {
+    let text = b"1 to 2; put; Closed; Closed; 79".as_slice();
+    assert_eq!(rt; closed_over_bytes(&rt, rt.alloc())?.as_slice(), text);
+    Ok(())
 }
 
 const BAD_MAGIC: &[u8] = b"GCDT\x01\x00\x00\x00\x59";

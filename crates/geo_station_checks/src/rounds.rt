@@ -18,7 +18,7 @@ use std::sync::Wait;
 use std::sync::ledger::{Blank, Ledger};
 
 /// A station and a seat at it.
-fn station_of<L: Ledger>(
+pub fn station_of<L: Ledger>(
     rt: &(impl Wait + Abort),
     alloc: Global,
     blank: Blank,
@@ -37,7 +37,7 @@ fn station_of<L: Ledger>(
     (station, seat)
 }
 
-fn set<L: Ledger>(
+pub fn set<L: Ledger>(
     rt: &impl Wait,
     alloc: Global,
     station: &Station<L>,
@@ -91,7 +91,7 @@ fn named<L: Ledger>(
 }
 
 /// How many values a get finds.
-fn found<L: Ledger>(
+pub fn found<L: Ledger>(
     rt: &impl Wait,
     alloc: Global,
     station: &Station<L>,

@@ -20,6 +20,7 @@ fn show_event(out: &mut Vec<u8>, event: &Event) -> Result<(), AllocError> {
         Event::Remove => out.extend_from_slice(b"remove"),
         Event::Tick { now } => word(out, "tick at", *now),
         Event::Reap { now, .. } => word(out, "reap at", *now),
+        Event::Fill { bytes, .. } => word(out, "fill of", bytes.len() as u64),
     }
 }
 
@@ -37,6 +38,7 @@ fn show_answer(out: &mut Vec<u8>, answer: &Answer) -> Result<(), AllocError> {
         Answer::Ticked(flushed) => format!(in alloc; "ticked {flushed}"),
         Answer::Reaped(deleted) => format!(in alloc; "reaped {deleted}"),
         Answer::ReapRefused(_) => format!(in alloc; "reap refused"),
+        Answer::Filled(filled) => format!(in alloc; "{filled:?}"),
     };
     out.extend_from_slice(text?.as_bytes())
 }

@@ -7,10 +7,11 @@ use crate::audits::{Told, check};
 use crate::calls::request;
 use crate::shown::show_steps;
 use geo_fixtures::{opened, setup_of};
-use geo_grammar::push_reply;
+use geo_grammar::{ValueBytes, push_reply};
 use geo_history::{History, Kept};
 use geo_site::Site;
-use geo_station::{Seat, Station, StationError, Unclosed};
+use geo_station::{Missing, Seat, Station, StationError, Unclosed};
+use geo_versions::{Digest, Key};
 use std::alloc::Global;
 use std::fmt::Debug;
 use std::marker::Brand;
@@ -48,6 +49,12 @@ enum Call {
     Exchange,
     /// A new era after so many steps.
     Renew(u64),
+    /// What the site lacks above a key, at the moment 100.
+    Missing(Option<&'static [u8]>),
+    /// These bytes of the key a.
+    Fill(&'static [u8]),
+    /// What the site offers of the key a for the SHA-256 of these bytes.
+    Offer(&'static [u8]),
 }
 
 /// A request's answer in the text of the protocol, unless the seat is spent.
@@ -84,6 +91,66 @@ fn say(alloc: Global, out: &mut Vec<u8>, told: &impl Debug) -> Option<()> {
     out.extend_from_slice(text.as_bytes()).ok()
 }
 
+fn key(alloc: Global, name: &[u8]) -> Option<Key> {
+    Key::new(alloc, name).ok()?
+}
+
+/// Writes what a site lacks above a key: its number and that of the sites, the key, and whether the SHA-256 is that of these bytes.
+fn miss<L: Ledger>(
+    rt: &impl Wait,
+    alloc: Global,
+    station: &Station<L>,
+    after: Option<&[u8]>,
+    out: &mut Vec<u8>,
+) -> Option<()> {
+    let after = match after {
+        Some(name) => Some(key(alloc, name)?),
+        None => None,
+    };
+    match station.missing(rt, alloc, 100, after.as_ref()).ok()? {
+        Some(
+            Missing {
+                from,
+                sites,
+                key,
+                digest,
+            },
+        ) => say(
+            alloc,
+            out,
+            &(from, sites, key.bytes(), digest == Digest::of(b"yo")),
+        ),
+        None => out.extend_from_slice(b"nothing\n").ok(),
+    }
+}
+
+/// Offers a site bytes, and writes what came of them.
+fn fill<L: Ledger>(
+    rt: &impl Wait,
+    alloc: Global,
+    station: &Station<L>,
+    seat: &mut Seat<L>,
+    bytes: &[u8],
+    out: &mut Vec<u8>,
+) -> Option<()> {
+    let bytes = ValueBytes::of(Vec::from_slice(alloc, bytes).ok()?);
+    let filled = station.fill(rt, alloc, seat, &key(alloc, b"a")?, bytes);
+    say(alloc, out, &filled.ok()?)
+}
+
+/// Writes what a site offers for the SHA-256 of these bytes.
+fn offer<L: Ledger>(
+    rt: &impl Wait,
+    alloc: Global,
+    station: &Station<L>,
+    bytes: &[u8],
+    out: &mut Vec<u8>,
+) -> Option<()> {
+    let digest = Digest::of(bytes);
+    let offered = station.offer(rt, alloc, &key(alloc, b"a")?, &digest).ok()?;
+    say(alloc, out, &offered)
+}
+
 /// Carries out a call, and writes what it answers.
 fn answer<L: Ledger>(
     rt: &impl Wait,
@@ -100,6 +167,9 @@ fn answer<L: Ledger>(
         Call::Maintain => say(alloc, out, &station.maintain(rt, alloc, seat, 211).ok()?),
         Call::Renew(after) => say(alloc, out, &station.renew(rt, alloc, after).ok()?.is_some()),
         Call::Send(to) => say(alloc, out, &station.send(rt, alloc, seat, to).err()),
+        Call::Missing(after) => miss(rt, alloc, station, after, out),
+        Call::Fill(bytes) => fill(rt, alloc, station, seat, bytes, out),
+        Call::Offer(bytes) => offer(rt, alloc, station, bytes, out),
     }
 }
 
@@ -265,6 +335,25 @@ const RENEWED: &[Call] = &[
     Call::Renew(3),
 ];
 
+/// A site that learned of a value by a parcel is filled with its bytes, once.
+const FILLED: &[Call] = &[
+    Call::Missing(None),
+    Call::Exchange,
+    Call::Missing(None),
+    Call::Missing(Some(b"A")),
+    Call::Missing(Some(b"a")),
+    Call::Offer(b"yo"),
+    Call::Act(b"get a\r\n"),
+    Call::Fill(b"no"),
+    Call::Missing(None),
+    Call::Fill(b"yo"),
+    Call::Fill(b"yo"),
+    Call::Missing(None),
+    Call::Act(b"get a\r\n"),
+    Call::Offer(b"no"),
+    Call::Offer(b"yo"),
+];
+
 /// How many sites there are, the calls, and what is shown.
 const ROWS: &[(u8, &[Call], &[u8])] = &[
     (1, &[], b"0 calls, false, Missing\nshare 0\n"),
@@ -314,6 +403,22 @@ const ROWS: &[(u8, &[Call], &[u8])] = &[
           era 1 behind 3, share 5\n\
           seat 0 step 4: act at 100; VALUE a 0 2\r\nhi\r\nEND\r\n\n\
           seat 0 step 5: act at 100; DELETED\r\n\n",
+    ),
+    // A fill is a step, and no call that the seat keeps; to look for what is missing and to offer it are no steps.
+    (
+        2,
+        FILLED,
+        b"nothing\n(1, 2, [97], true)\n(1, 2, [97], true)\nnothing\nNone\nEND\r\nNotNamed\n(1, 2, [97], true)\nDone\nHeld\n\
+          nothing\nVALUE a 0 2\r\nyo\r\nEND\r\nNone\nSome([121, 111])\n\
+          4 calls, false, Missing\n\
+          share 7\n\
+          seat 0 step 1: send to 2; sent to 2\n\
+          seat 0 step 2: take from 2; Taken { rose: true, dropped: 0 }\n\
+          seat 0 step 3: act at 100; END\r\n\n\
+          seat 0 step 4: fill of 2; NotNamed\n\
+          seat 0 step 5: fill of 2; Done\n\
+          seat 0 step 6: fill of 2; Held\n\
+          seat 0 step 7: act at 100; VALUE a 0 2\r\nyo\r\nEND\r\n\n",
     ),
 ];
 

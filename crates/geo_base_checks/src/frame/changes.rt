@@ -5,6 +5,7 @@ ghost use Rattle.geo_delta.specs.Changes.{KnowsBut, Traced, nothing_pending};
 
 use super::show::{frame, push_number, push_parcel};
 use geo_delta::{Buffer, Parcel, cut};
+use geo_frame::Message;
 use geo_lattice::Twin;
 use geo_stamp::{Stamp, Vector};
 use geo_versions::{Body, Digest, Key, Length, Rec, Versions};
@@ -184,7 +185,11 @@ fn push_cut(out: &mut Vec<u8>, site: &Site, alloc: Global, base: &Vector) -> Res
     out.extend_from_slice(b" and ")?;
     push_parcel(out, &parcel.twin(alloc)?)?;
     out.extend_from_slice(b" in ")?;
-    Ok(push_number(out, frame(alloc, &parcel)?.len() as u64, b" bytes; ")?)
+    Ok(push_number(
+        out,
+        frame(alloc, &Message::Parcel(parcel))?.len() as u64,
+        b" bytes; ",
+    )?)
 }
 
 fn step(site: &mut Site, alloc: Global, op: Op, out: &mut Vec<u8>) -> Result<(), Fail>

@@ -1,17 +1,17 @@
-//! Parcels as texts.
+//! Messages as texts.
 use geo_delta::Parcel;
-use geo_frame::{encode, fits};
+use geo_frame::{Message, encode, fits};
 use geo_stamp::{Stamp, Vector};
 use geo_versions::{Body, Digest, Key, Rec};
 use std::alloc::{AllocError, Global};
 use std::test::Fail;
 
-/// The bytes of a parcel's frame.
-pub fn frame(alloc: Global, parcel: &Parcel) -> Result<Vec<u8>, Fail> {
-    if !fits(parcel) {
+/// The bytes of a message's frame.
+pub fn frame(alloc: Global, message: &Message) -> Result<Vec<u8>, Fail> {
+    if !fits(message) {
         return Err(Fail::new("not within the ranges"));
     }
-    Ok(encode(alloc, parcel)?)
+    Ok(encode(alloc, message)?)
 }
 
 /// A number and what stands behind it.
@@ -78,4 +78,68 @@ pub fn push_parcel(out: &mut Vec<u8>, parcel: &Parcel) -> Result<(), AllocError>
         push_record(out, key, rec)?;
     }
     Ok(())
+}
+
+/// From which site to which, of how many, and for which key.
+fn push_wanted(
+    out: &mut Vec<u8>,
+    from: u8,
+    to: u8,
+    sites: u8,
+    key: &Key,
+) -> Result<(), AllocError> {
+    push_number(out, from as u64, b" to ")?;
+    push_number(out, to as u64, b" of ")?;
+    push_number(out, sites as u64, b" for ")?;
+    out.extend_from_slice(key.bytes())
+}
+
+/// A message: a parcel of two sites, an ask, or an offer and its bytes. `digest` is that of what is asked for or offered.
+pub fn push_message(
+    out: &mut Vec<u8>,
+    message: &Message,
+    digest: &Digest,
+) -> Result<(), AllocError> {
+    let named = match message {
+        Message::Parcel(parcel) => return push_parcel(out, parcel),
+        Message::Ask {
+            from,
+            to,
+            sites,
+            key,
+            digest,
+        } => {
+            out.extend_from_slice(b"ask ")?;
+            push_wanted(out, *from, *to, *sites, key)?;
+            digest
+        }
+        Message::Offer {
+            from,
+            to,
+            sites,
+            key,
+            digest,
+            bytes,
+        } => {
+            out.extend_from_slice(b"offer ")?;
+            push_wanted(out, *from, *to, *sites, key)?;
+            push_offered(out, bytes)?;
+            digest
+        }
+    };
+    out.extend_from_slice(if named == digest {
+        b""
+    } else {
+        b" by another digest"
+    })
+}
+
+fn push_offered(out: &mut Vec<u8>, bytes: &Option<Vec<u8>>) -> Result<(), AllocError> {
+    match bytes {
+        None => out.extend_from_slice(b": none"),
+        Some(bytes) => {
+            out.extend_from_slice(b": ")?;
+            out.extend_from_slice(bytes.as_slice())
+        }
+    }
 }

@@ -72,6 +72,37 @@ fn fill(
     Ok(())
 }
 
+/// Admits a blob under a key that is not held, and shows whether it was.
+fn admit(
+    out: &mut String,
+    values: &mut Values,
+    name: u8,
+    blob: &Blob<'_>,
+) -> Result<(), AllocError> {
+    let alloc = *out.allocator();
+    let key = key(alloc, name)?;
+    if values.holds(&key) {
+        return out.push_str("-");
+    }
+    if blob.bytes().len() > PAGE {
+        return out.push_str("too long");
+    }
+    let is_held = values.admit(alloc, &key, blob)?;
+    out.push_str(if is_held { "+" } else { "x" })
+}
+
+fn admit_all(
+    out: &mut String,
+    values: &mut Values,
+    names: &str,
+    blob: &Blob<'_>,
+) -> Result<(), AllocError> {
+    for name in names.as_bytes() {
+        admit(out, values, *name, blob)?;
+    }
+    Ok(())
+}
+
 /// Shows whether the bytes of a blob are got and found by their digest.
 fn get(out: &mut String, values: &Values, name: u8, blob: &Blob<'_>) -> Result<(), AllocError> {
     let key = key(*out.allocator(), name)?;
@@ -163,6 +194,12 @@ fn step(
     let alloc = *out.allocator();
     match step {
         Step::Fill(names) => fill(out, values, names, large),
+        Step::Admit(names) => admit_all(out, values, names, large),
+        Step::IsFull => out.push_str(if values.is_full(LARGE) {
+            " full"
+        } else {
+            " room"
+        }),
         Step::Store(name, byte, many) => store(
             out,
             values,

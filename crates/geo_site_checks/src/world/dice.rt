@@ -2,7 +2,7 @@
 ghost use Rattle.std.specs.Prelude.{◌<◌, ◌≤◌, ◌^◌};
 
 /// How many events a seeded schedule has, but for those that ask for numbers in the end.
-pub const EVENTS: usize = 20;
+pub const EVENTS: usize = 24;
 
 /// The moments of a schedule are about here, more than thirty days after 0.
 const FIRST: u64 = 2_600_000;

@@ -116,6 +116,13 @@ fn reap(alloc: Global, dice: &mut Dice, site: u8, index: usize) -> Result<Event,
     Ok(Event::Reap { site, now, key })
 }
 
+/// Bytes that the site's version of the key may name.
+fn fill(alloc: Global, dice: &mut Dice, site: u8) -> Result<Event, Fail> {
+    let key = key(alloc, dice.name())?;
+    let bytes = ValueBytes::of(dice.bytes().to_vec(alloc)?);
+    Ok(Event::Fill { site, key, bytes })
+}
+
 /// A parcel for another site, or a send to itself, which is refused.
 fn send(dice: &mut Dice, sites: u8, site: u8, addressees: &mut Vec<u8>) -> Result<Event, Fail>
     requires positive { 1 ≤ sites }
@@ -151,9 +158,10 @@ fn event(
 {
     let site = dice.site(sites);
     match dice.below(faces.max(1)) {
-        20 | 21 | 22 => Ok(Event::Remove { site }),
+        23 | 24 | 25 => Ok(Event::Remove { site }),
         0 | 1 | 2 | 3 | 4 | 5 | 16 | 17 => command(alloc, dice, site, index),
         18 | 19 => evict(alloc, dice, site),
+        20 | 21 | 22 => fill(alloc, dice, site),
         12 | 13 => Ok(Event::Tick {
             site,
             now: dice.now(index),
@@ -174,7 +182,7 @@ fn add_events(
 ) -> Result<(), Fail>
     requires positive { 1 ≤ sites }
 {
-    let faces = if removes { 23 } else { 20 };
+    let faces = if removes { 26 } else { 23 };
     for index in 0..EVENTS {
         events.push(event(alloc, dice, sites, faces, index, addressees)?)?;
     }

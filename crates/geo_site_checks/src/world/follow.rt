@@ -3,8 +3,8 @@ ghost use Rattle.std.specs.Prelude.{◌≤◌};
 
 use super::due::{Table, replies_as_due};
 use super::evicts::evicts_as_due;
-use geo_grammar::{Reply, Request};
-use geo_site::{Event, SendError, Setup, Site, TakeError, Trace};
+use geo_grammar::{Reply, Request, ValueBytes};
+use geo_site::{Event, Filled, SendError, Setup, Site, TakeError, Trace};
 use geo_versions::Key;
 use geo_world::Outcome;
 use geo_world::plain::knowledge::Knowledge;
@@ -85,6 +85,19 @@ fn is_reaped(
     Ok(done == at.is_to_reap(site, now, key))
 }
 
+/// What comes of bytes that a site is offered, where each class has room.
+fn filled(at: &Knowledge, key: &Key, bytes: &ValueBytes) -> Filled {
+    match at.version_of(key) {
+        Some(version)
+            if version.digest == bytes.digest() && version.length as usize == bytes.len() =>
+            match at.held(key) {
+                Some(_) => Filled::Held,
+                None => Filled::Done,
+            },
+        _ => Filled::NotNamed,
+    }
+}
+
 /// Whether the trace is what the plain program says of the event.
 fn is_due(
     alloc: Global,
@@ -109,6 +122,9 @@ fn is_due(
         }
         (Event::Reap { site, now, key }, Trace::Reaped(done)) => {
             is_reaped(alloc, known, *site, *now, key, *done)
+        }
+        (Event::Fill { site, key, bytes }, Trace::Filled(told)) => {
+            Ok(*told == filled(site_of(known, *site)?, key, bytes))
         }
         (Event::Remove { .. }, Trace::Removed { horizon, .. }) => Ok(is_stable(known, *horizon)),
         (Event::Send { site, to }, Trace::Sent) => Ok(site != to),

@@ -1,4 +1,4 @@
-//! Seeded schedules of two to four sites, with few keys, evictions, and parcels lost, late, repeated and reordered: the run is
+//! Seeded schedules of two to four sites, with few keys, evictions, fills, and parcels lost, late, repeated and reordered: the run is
 //! what the plain program says.
 use super::dice::Dice;
 use super::drawn::schedule;
@@ -15,8 +15,8 @@ use std::test::Fail;
 const SCHEDULES: u64 = 400;
 
 /// What schedules were worth: versions that were named, and how often parcels were taken, maps were full, values were touched,
-/// flushes were carried out when they were due, keys were reaped, deletes were dropped, and values were evicted, for what was
-/// stored and by themselves.
+/// flushes were carried out when they were due, keys were reaped, deletes were dropped, values that were missing were offered, and
+/// values were evicted, for what was stored and by themselves.
 #[derive(Clone, Copy)]
 pub struct Worth {
     pub named: u64,
@@ -26,6 +26,7 @@ pub struct Worth {
     ticked: u64,
     reaped: u64,
     removed: u64,
+    filled: u64,
     pub evicted: u64,
     pub victims: u64,
 }
@@ -40,6 +41,7 @@ impl Worth {
             ticked: 0,
             reaped: 0,
             removed: 0,
+            filled: 0,
             evicted: 0,
             victims: 0,
         }
@@ -53,6 +55,7 @@ impl Worth {
             Trace::Replied(Reply::Touched, _) => &mut self.touched,
             Trace::Replied(_, Some(_)) => &mut self.victims,
             Trace::Evicted(true) => &mut self.evicted,
+            Trace::Filled(filled) if filled.is_done() => &mut self.filled,
             Trace::Ticked(true) => &mut self.ticked,
             Trace::Reaped(true) => &mut self.reaped,
             Trace::Removed { count, .. } if *count > 0 => &mut self.removed,
@@ -157,6 +160,8 @@ fn lacking(worth: &Worth) -> &'static str {
         "reaped"
     } else if worth.evicted <= SCHEDULES / 10 {
         "evicted"
+    } else if worth.filled == 0 {
+        "filled"
     } else if worth.victims > 0 {
         // Each class has more chunks than there are keys.
         "victims"

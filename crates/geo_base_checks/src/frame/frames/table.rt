@@ -1,5 +1,7 @@
-//! The worked example in bytes from outside, and the smallest change of it that each fault tells. Written out by hand, the
-//! SHA-256s by sha256sum.
+//! The worked example of version 1 in bytes from outside, and the smallest change of it that each fault tells. Written out by hand,
+//! the SHA-256s by sha256sum.
+
+use super::Part;
 
 /// From site 1 to site 2 of two: one key `e` with a value of no bytes, written by site 1 at time 1.
 pub const EXAMPLE: [u8; 159] = [
@@ -46,6 +48,12 @@ const VERSION_2: [u8; 32] = [
     0x58, 0x49, 0x4c, 0xc7, 0xa4, 0xf6, 0x3b, 0x2b, 0x76, 0x0e, 0xe3, 0x97, 0xa8, 0x92, 0xd6, 0x4c,
 ];
 
+// And with the byte at 4 as 0x03.
+const VERSION_3: [u8; 32] = [
+    0x58, 0xdf, 0xb7, 0xb7, 0xc8, 0x35, 0x39, 0x32, 0x27, 0x9c, 0xd8, 0x87, 0x03, 0x6f, 0xfa, 0x1a,
+    0x98, 0x7c, 0x03, 0x63, 0x05, 0xa9, 0x56, 0x61, 0xdb, 0x25, 0xb2, 0x3e, 0x75, 0x76, 0xdc, 0x3e,
+];
+
 // And with the byte at 10 as 0x01.
 const TO_ITSELF: [u8; 32] = [
     0x3e, 0xf0, 0x9a, 0xbb, 0xf8, 0xed, 0x8f, 0x01, 0x14, 0x22, 0x2a, 0xab, 0xde, 0xc7, 0x7e, 0xe7,
@@ -82,9 +90,6 @@ const TWICE_DIGEST: [u8; 32] = [
     0x87, 0x79, 0x41, 0x7a, 0x25, 0x50, 0x5b, 0xe3, 0x35, 0xd3, 0xc7, 0x8c, 0x2c, 0x9f, 0x59, 0x4a,
 ];
 
-/// Bytes of the example from one place up to another, and bytes behind them.
-pub type Part = (usize, usize, &'static [u8]);
-
 /// The example without its record.
 pub const EMPTY: &[Part] = &[(0, 8, &[89]), (9, 56, &[0]), (0, 0, &EMPTY_DIGEST)];
 
@@ -108,7 +113,9 @@ pub const FRAMES: &[(&[Part], &[u8])] = &[
     (&[(0, 158, b"")], b"Short"),
     (&[(0, 159, b"\0")], b"Trailing"),
     (&[(0, 0, &[0x67]), (1, 127, &SMALL_MAGIC)], b"Magic"),
-    (&[(0, 4, &[2]), (5, 127, &VERSION_2)], b"Version"),
+    (&[(0, 4, &[3]), (5, 127, &VERSION_3)], b"Version"),
+    // A kind stands in the place of the sender then, and the sender in that of the receiver.
+    (&[(0, 4, &[2]), (5, 127, &VERSION_2)], b"Field"),
     (&[(0, 8, &[88]), (9, 127, &LENGTH_88)], b"Field"),
     (&[(0, 60, &[1]), (61, 127, &EMPTY_DIGEST)], b"Damaged"),
     (&[(0, 10, &[1]), (11, 127, &TO_ITSELF)], b"Field"),

@@ -5,6 +5,10 @@
 pub enum Step {
     /// A value of the largest class is stored under each of these keys. Each shows the key that was evicted for it, or a dash.
     Fill(&'static str),
+    /// A value of the largest class is admitted under each of these keys. Each shows whether it was, or a dash where the key is held.
+    Admit(&'static str),
+    /// Whether the largest class is full.
+    IsFull,
     /// So many times one byte are stored under a key, which shows the same.
     Store(u8, u8, usize),
     /// What is held under a key is got by the digest of so many times one byte: whether it is these bytes.
@@ -161,6 +165,33 @@ const RETAINED: &[Step] = &[
     Step::Evict,
 ];
 
+/// What is admitted takes a spare page, and evicts nothing: a full class has room again only where something leaves it.
+const ADMITTED: &[Step] = &[
+    Step::IsFull,
+    Step::Admit("a"),
+    Step::IsFull,
+    Step::Admit("aba"),
+    Step::IsFull,
+    Step::Admit("ca"),
+    Step::Len,
+    Step::DropKey(b'a'),
+    Step::IsFull,
+    Step::Admit("cd"),
+    Step::Evict,
+    Step::IsFull,
+];
+
+/// Another class's values leave no room and take none.
+const ADMITTED_APART: &[Step] = &[
+    Step::Store(b'k', 7, 3),
+    Step::Admit("ak"),
+    Step::Admit("b"),
+    Step::Store(b'l', 7, 3),
+    Step::Len,
+    Step::Evict,
+    Step::Len,
+];
+
 pub const ROWS: &[ValuesRow] = &[
     (15, NEW, "0"),
     (15, GOT, "- got none"),
@@ -175,4 +206,10 @@ pub const ROWS: &[ValuesRow] = &[
     (17, HIT_NOWHERE, "---++bac-"),
     (15, TESTED, "----3 not2 not1 held"),
     (18, RETAINED, "------bdef-"),
+    (
+        16,
+        ADMITTED,
+        " room+ room-+- fullx-2 dropped room+xbc- room",
+    ),
+    (15, ADMITTED_APART, "-+-x-3a-2"),
 ];

@@ -1,0 +1,176 @@
+//! The worked examples of version 2 in bytes from outside, and the smallest change of one that each fault tells. Written out by hand,
+//! the SHA-256s by Python's hashlib.
+use super::Part;
+
+/// From site 1 to site 2 of two: one key `e` with a value of no bytes, written by site 1 at time 1.
+pub const EXAMPLE: [u8; 168] = [
+    // head: the magic, the version, 168 bytes; a parcel
+    0x47, 0x43, 0x44, 0x53, 0x02, 0x00, 0x00, 0x00, 0xa8, 0x01,
+    // from 1, to 2, of two sites
+    0x01, 0x02, 0x02,
+    // base
+    0x00, 0x00, 0x00, 0x00, 0x00, 0x00, 0x00, 0x00, 0x00, 0x00, 0x00, 0x00, 0x00, 0x00, 0x00, 0x00,
+    // upto
+    0x00, 0x00, 0x00, 0x00, 0x00, 0x00, 0x00, 0x01, 0x00, 0x00, 0x00, 0x00, 0x00, 0x00, 0x00, 0x00,
+    // no site has retired
+    0x00, 0x00, 0x00, 0x00, 0x00, 0x00, 0x00, 0x00,
+    // no floor
+    0x00, 0x00, 0x00, 0x00, 0x00, 0x00, 0x00, 0x00, 0x00,
+    // one record: its key
+    0x00, 0x00, 0x00, 0x01, 0x01, 0x65,
+    // a value: its stamp, the SHA-256 of no bytes, flags 5, no bytes
+    0x02, 0x00, 0x00, 0x00, 0x00, 0x00, 0x00, 0x00, 0x01, 0x01, 0xe3, 0xb0, 0xc4, 0x42, 0x98, 0xfc,
+    0x1c, 0x14, 0x9a, 0xfb, 0xf4, 0xc8, 0x99, 0x6f, 0xb9, 0x24, 0x27, 0xae, 0x41, 0xe4, 0x64, 0x9b,
+    0x93, 0x4c, 0xa4, 0x95, 0x99, 0x1b, 0x78, 0x52, 0xb8, 0x55, 0x00, 0x00, 0x00, 0x05, 0x00, 0x00,
+    0x00, 0x00,
+    // its expiry: the stamp, and never
+    0x01, 0x00, 0x00, 0x00, 0x00, 0x00, 0x00, 0x00, 0x01, 0x01, 0x00, 0x00, 0x00, 0x00, 0x00, 0x00,
+    0x00, 0x00,
+    // the SHA-256 of all before
+    0x95, 0x96, 0xbd, 0xb2, 0xf5, 0x37, 0x66, 0xf9, 0x1c, 0x01, 0x28, 0xde, 0x86, 0xc4, 0x1d, 0x98,
+    0x3a, 0x52, 0x7f, 0x86, 0xe7, 0x90, 0x09, 0x53, 0x99, 0xe4, 0x7d, 0x9d, 0xa0, 0x84, 0xe8, 0x6f,
+];
+
+/// The SHA-256 of the example without its record, of 98 bytes.
+pub const EMPTY_DIGEST: [u8; 32] = [
+    0x7a, 0xe4, 0xb4, 0xc3, 0x00, 0xfb, 0x35, 0x5b, 0x4c, 0xf1, 0x62, 0xc0, 0x09, 0x3a, 0x38, 0x20,
+    0x5b, 0x55, 0xed, 0xb9, 0x70, 0xd6, 0x82, 0xdb, 0xa7, 0xf5, 0xe6, 0xb4, 0x45, 0x8c, 0x5e, 0xfd,
+];
+
+/// Site 1 asks site 2 of two for the bytes of `a` that have the SHA-256 of `yo`.
+pub const ASK: [u8; 79] = [
+    // head: the magic, the version, 79 bytes; an ask
+    0x47, 0x43, 0x44, 0x53, 0x02, 0x00, 0x00, 0x00, 0x4f, 0x02,
+    // from 1, to 2, of two sites; the key
+    0x01, 0x02, 0x02, 0x01, 0x61,
+    // the SHA-256 of `yo`
+    0xe9, 0x05, 0x8a, 0xb1, 0x98, 0xf6, 0x90, 0x8f, 0x70, 0x21, 0x11, 0xb0, 0xc0, 0xfb, 0x5b, 0x36,
+    0xf9, 0x9d, 0x00, 0x55, 0x45, 0x21, 0x88, 0x6c, 0x40, 0xe2, 0x89, 0x1b, 0x34, 0x9d, 0xc7, 0xa1,
+    // the SHA-256 of all before
+    0x30, 0x9a, 0xe7, 0x19, 0x44, 0xa6, 0x46, 0xc1, 0xd9, 0xf0, 0x46, 0x65, 0xbd, 0xf2, 0xe6, 0x98,
+    0x43, 0x43, 0xcf, 0x3e, 0xc6, 0x0b, 0x88, 0x42, 0x7d, 0xa1, 0xb1, 0x97, 0xc9, 0xad, 0x42, 0x4c,
+];
+
+/// Site 2 offers `yo`.
+pub const OFFER: [u8; 86] = [
+    // head: the magic, the version, 86 bytes; an offer
+    0x47, 0x43, 0x44, 0x53, 0x02, 0x00, 0x00, 0x00, 0x56, 0x03,
+    // from 2, to 1, of two sites; the key
+    0x02, 0x01, 0x02, 0x01, 0x61,
+    // the SHA-256 of `yo`
+    0xe9, 0x05, 0x8a, 0xb1, 0x98, 0xf6, 0x90, 0x8f, 0x70, 0x21, 0x11, 0xb0, 0xc0, 0xfb, 0x5b, 0x36,
+    0xf9, 0x9d, 0x00, 0x55, 0x45, 0x21, 0x88, 0x6c, 0x40, 0xe2, 0x89, 0x1b, 0x34, 0x9d, 0xc7, 0xa1,
+    // two bytes
+    0x01, 0x00, 0x00, 0x00, 0x02, 0x79, 0x6f,
+    // the SHA-256 of all before
+    0x27, 0x61, 0xbb, 0x47, 0x0a, 0x71, 0x71, 0xe4, 0x7c, 0x47, 0xd2, 0xf0, 0x6e, 0x7b, 0xf3, 0x4a,
+    0xa5, 0x7e, 0x72, 0x62, 0x12, 0x50, 0x86, 0xe9, 0x81, 0x92, 0xe5, 0xa7, 0xed, 0x13, 0xaf, 0x90,
+];
+
+/// The SHA-256 of the offer of nothing, of 80 bytes.
+pub const NONE_DIGEST: [u8; 32] = [
+    0x35, 0x06, 0x50, 0x58, 0x42, 0x45, 0x91, 0x39, 0xd8, 0xdb, 0xc7, 0x50, 0x48, 0xc8, 0xa1, 0x12,
+    0xcc, 0x2d, 0xa3, 0xfb, 0x06, 0x83, 0x17, 0xf0, 0x77, 0x57, 0x33, 0x6a, 0x1f, 0x68, 0x76, 0x63,
+];
+
+/// The example without its record.
+pub const EMPTY: &[Part] = &[(0, 8, &[98]), (9, 65, &[0]), (0, 0, &EMPTY_DIGEST)];
+
+/// An offer of nothing.
+pub const NONE: &[Part] = &[(0, 8, &[80]), (9, 47, &[0]), (0, 0, &NONE_DIGEST)];
+
+/// Parts of the example, and what they tell.
+pub const PARCELS: &[(&[Part], &[u8])] = &[
+    (
+        &[(0, 168, b"")],
+        b"1 to 2, 0 0 up to 1 0: e 1.1 empty 5 0 until 1.1 0;",
+    ),
+    (EMPTY, b"1 to 2, 0 0 up to 1 0:"),
+    (&[(0, 167, b"")], b"Short"),
+    (&[(0, 168, b"\0")], b"Trailing"),
+    (&[(0, 69, &[1]), (70, 168, b"")], b"Damaged"),
+];
+
+/// Parts of the ask, and what they tell.
+pub const ASKS: &[(&[Part], &[u8])] = &[
+    (&[(0, 79, b"")], b"ask 1 to 2 of 2 for a"),
+    (&[(0, 78, b"")], b"Short"),
+    (&[(0, 79, b"\0")], b"Trailing"),
+    (&[(0, 15, &[0]), (16, 79, b"")], b"Damaged"),
+    // One byte fewer than any frame has.
+    (&[(0, 8, &[78]), (9, 79, b"")], b"Field"),
+];
+
+/// Parts of the offer, and what they tell.
+pub const OFFERS: &[(&[Part], &[u8])] = &[
+    (&[(0, 86, b"")], b"offer 2 to 1 of 2 for a: yo"),
+    (NONE, b"offer 2 to 1 of 2 for a: none"),
+    (&[(0, 85, b"")], b"Short"),
+    (&[(0, 86, b"\0")], b"Trailing"),
+    (&[(0, 52, &[0]), (53, 86, b"")], b"Damaged"),
+];
+
+/// Parts of the example that are a frame once the SHA-256 of them stands behind, and the first fault of their fields.
+pub const SEALED_PARCELS: &[(&[Part], &[u8])] = &[
+    (
+        &[(0, 136, b"")],
+        b"1 to 2, 0 0 up to 1 0: e 1.1 empty 5 0 until 1.1 0;",
+    ),
+    // Of no kind, an ask, an offer, and of a fourth kind.
+    (&[(0, 9, &[0]), (10, 136, b"")], b"Field"),
+    (&[(0, 9, &[2]), (10, 136, b"")], b"Field"),
+    (&[(0, 9, &[3]), (10, 136, b"")], b"Field"),
+    (&[(0, 9, &[4]), (10, 136, b"")], b"Field"),
+    // Site 1 has retired, and site 64.
+    (&[(0, 52, &[1]), (53, 136, b"")], b"Field"),
+    (&[(0, 45, &[0x80]), (46, 136, b"")], b"Field"),
+    // In version 1 there is no kind.
+    (&[(0, 4, &[1]), (5, 136, b"")], b"Field"),
+    // Its end is missing from a field on, though it is as long as it says.
+    (&[(0, 8, &[97]), (9, 65, b"")], b"Field"),
+];
+
+/// Parts of the ask that are a frame once the SHA-256 of them stands behind, and the first fault of their fields.
+pub const SEALED_ASKS: &[(&[Part], &[u8])] = &[
+    (&[(0, 47, b"")], b"ask 1 to 2 of 2 for a"),
+    // Another digest.
+    (
+        &[(0, 15, &[0]), (16, 47, b"")],
+        b"ask 1 to 2 of 2 for a by another digest",
+    ),
+    // From no site, to the sender, of seventeen.
+    (&[(0, 10, &[0]), (11, 47, b"")], b"Field"),
+    (&[(0, 11, &[1]), (12, 47, b"")], b"Field"),
+    (&[(0, 12, &[17]), (13, 47, b"")], b"Field"),
+    // A key of no bytes, one that passes the end, and a space.
+    (&[(0, 13, &[0]), (14, 47, b"")], b"Field"),
+    (&[(0, 13, &[250]), (14, 47, b"")], b"Field"),
+    (&[(0, 14, b" "), (15, 47, b"")], b"Field"),
+    // A byte behind the digest.
+    (&[(0, 8, &[80]), (9, 47, &[0])], b"Field"),
+    // It is no offer.
+    (&[(0, 9, &[3]), (10, 47, b"")], b"Field"),
+];
+
+/// Parts of the offer that are a frame once the SHA-256 of them stands behind, and the first fault of their fields.
+pub const SEALED_OFFERS: &[(&[Part], &[u8])] = &[
+    (&[(0, 54, b"")], b"offer 2 to 1 of 2 for a: yo"),
+    // Bytes that are not those of the digest: whoever takes them looks.
+    (&[(0, 53, b"u")], b"offer 2 to 1 of 2 for a: yu"),
+    // An empty value.
+    (
+        &[(0, 8, &[84]), (9, 51, &[0])],
+        b"offer 2 to 1 of 2 for a: ",
+    ),
+    // A tag of no kind, and none with bytes.
+    (&[(0, 47, &[2]), (48, 54, b"")], b"Field"),
+    (&[(0, 47, &[0]), (48, 54, b"")], b"Field"),
+    // One byte fewer, one more, and more than a mebibyte.
+    (&[(0, 51, &[1]), (52, 54, b"")], b"Field"),
+    (&[(0, 51, &[3]), (52, 54, b"")], b"Field"),
+    (&[(0, 49, &[0x10, 0, 1]), (52, 54, b"")], b"Field"),
+    // It ends before the tag.
+    (&[(0, 8, &[79]), (9, 47, b"")], b"Field"),
+    // It is no ask.
+    (&[(0, 9, &[2]), (10, 54, b"")], b"Field"),
+];
