@@ -1,5 +1,0 @@
-use Rattle.geo_frame.proofs.Frames.{frame_again}
-use Rattle.geo_frame.proofs.laws.frame_gives_its_parcel.Goals as goal
-
-pub returns : goal.returns
-returns c = frame_again
