@@ -8,7 +8,7 @@ use Rattle.geo_site.specs.declared.event.Event.{Event as Happening}
 use Rattle.geo_history.specs.declared.history.History.{History}
 use Rattle.geo_history.specs.declared.step.Event.TheVariants.{Take}
 use Rattle.geo_history.specs.declared.step.Answer.{Answer}
-use Rattle.geo_history.specs.declared.step.Answer.TheVariants.{Replied, Evicted, Sent, SendRefused, Taken as Took, TakeRefused, Removed, Ticked, Reaped, ReapRefused, Filled as FilledAs}
+use Rattle.geo_history.specs.declared.step.Answer.TheVariants.{Replied, Evicted, Sent, SendRefused, Taken as Took, TakeRefused, Removed, Ticked, Reaped, ReapRefused, Filled as FilledAs, Retired, RetireRefused}
 use Rattle.geo_history.specs.declared.step.Step.{Step}
 use Rattle.geo_audit.specs.Runs.{Turn, steps_at, parcel_in, listed, sent_in, TakesNumbered, EachTakesNumbered, IsOneOf, Interleaves}
 use Rattle.geo_audit.specs.Verdicts.{HasMore, Waits}
@@ -74,6 +74,8 @@ answer_sent (Ticked done) parcel e = absurd (none_some parcel e)
 answer_sent (Reaped done) parcel e = absurd (none_some parcel e)
 answer_sent (ReapRefused why) parcel e = absurd (none_some parcel e)
 answer_sent (FilledAs filled) parcel e = absurd (none_some parcel e)
+answer_sent (Retired fresh) parcel e = absurd (none_some parcel e)
+answer_sent (RetireRefused why) parcel e = absurd (none_some parcel e)
 
 all_at : {X : Type 0} (P : X → Type 0) (xs : List X) (i : ℕ) (x : X) → All P xs → slice_get xs i ≡ Some x → P x
 all_at P xs i x all at = subst P (get_or_from_slice_get xs i x x at) (all i x (slice_get_within xs i x at))

@@ -1,6 +1,7 @@
 -- What comes of an event is one thing alone, where memory is at hand, but for whose bytes went.
-use Rattle.std.proofs.Common.{◌≡◌, ◌≢◌, ◌⊎◌, inl, inr, ℕ, Bool, true, false, List, Option, None, Some, refl, sym, ap, ◌∙◌, subst, arith, true≢false}
+use Rattle.std.proofs.Common.{◌≡◌, ◌≢◌, ◌⊎◌, inl, inr, ◌==◌, ℕ, Bool, true, false, not, eq-eqb, List, Option, None, Some, refl, sym, ap, ◌∙◌, subst, arith, true≢false}
 use Rattle.std.specs.Prelude.{is_some}
+use Rattle.std.proofs.lemmas.Bool.{ne_eqb}
 use Rattle.std.proofs.lemmas.Cmp.{nat_list_eq_equiv}
 use Rattle.std.proofs.lemmas.Map.Made.{length-from_same_keys}
 use Rattle.geo_records.specs.Operations.{Record, latest, version_of}
@@ -14,15 +15,17 @@ use Rattle.geo_site.specs.declared.event.Trace.TheVariants as came
 use Rattle.geo_site.specs.declared.refusal.SendError.TheVariants as send_errors
 use Rattle.geo_site.specs.declared.refusal.TakeError.TheVariants as take_errors
 use Rattle.geo_site.specs.declared.refusal.ReapError.TheVariants as reap_errors
+use Rattle.geo_site.specs.declared.refusal.RetireError.TheVariants as retire_errors
+use Rattle.geo_stamp.specs.Retired.{is_in}
 use Rattle.geo_site.specs.Entries.{names, flushes_due, is_stuck, is_reapable, lacks, owed}
 use Rattle.geo_site.specs.declared.fill.Filled.{Filled}
 use Rattle.geo_site.specs.declared.fill.Filled.TheVariants.{NotNamed, Full, Done}
 use Rattle.geo_site.specs.declared.fill.Filled.TheVariants as filled
 use Rattle.geo_site.specs.Fills.{FillsAs, filled_by}
 use Rattle.geo_site.specs.Machine.{IsCount}
-use Rattle.geo_site.specs.Schedule.{Known, Lawful, FilledIn, basis, flushed, reaps_on, addressee}
+use Rattle.geo_site.specs.Schedule.{Known, Lawful, FilledIn, basis, flushed, reaps_on, sender, addressee}
 use Rattle.geo_history.specs.declared.step.Answer.{Answer}
-use Rattle.geo_history.specs.declared.step.Answer.TheVariants.{Replied, Evicted, Sent, SendRefused, Taken as Took, TakeRefused, Removed, Ticked, Reaped, ReapRefused, Filled as FilledAs}
+use Rattle.geo_history.specs.declared.step.Answer.TheVariants.{Replied, Evicted, Sent, SendRefused, Taken as Took, TakeRefused, Removed, Ticked, Reaped, ReapRefused, Filled as FilledAs, Retired, RetireRefused}
 use Rattle.geo_world.specs.Tables.{Tables, flushed_at, horizon_at, remove_at, OwesBy, CountsDropped, Tallies}
 use Rattle.geo_audit.specs.Runs.{IsSaid, IsToldBy}
 use Rattle.geo_audit.specs.Misses.{IsOwnVictim, IsOwnRoom, NoneTells}
@@ -79,6 +82,8 @@ evict_one w site key (came.Reaped done) l = absurd l
 evict_one w site key (came.ReapRefused why) l = absurd l
 evict_one w site key (came.Filled f) l = absurd l
 evict_one w site key came.FillRefused l = absurd l
+evict_one w site key (came.Retired fresh) l = absurd l
+evict_one w site key (came.RetireRefused why) l = absurd l
 
 tick_one : (w : Known) (site now : ℕ) (t : Trace) → Lawful w (at.Tick site now) t → t ≡ came.Ticked (flushes_due (w.waiting site) (latest (w.at site)) now)
 tick_one w site now (came.Replied reply victim) l = absurd l
@@ -93,12 +98,26 @@ tick_one w site now (came.Reaped done) l = absurd l
 tick_one w site now (came.ReapRefused why) l = absurd l
 tick_one w site now (came.Filled f) l = absurd l
 tick_one w site now came.FillRefused l = absurd l
+tick_one w site now (came.Retired fresh) l = absurd l
+tick_one w site now (came.RetireRefused why) l = absurd l
 
-send_one : (w : Known) (site to : ℕ) (t : Trace) → Lawful w (at.Send site to) t → IsSaid t → ((t ≡ came.Sent) × (to ≢ site)) ⊎ ((t ≡ came.SendRefused send_errors.NoSuchSite) × (to ≡ site))
+-- what a send tells, by whether it is to the site itself and to a retired one
+abbrev send_told : Bool → Bool → Trace
+send_told true retired = came.SendRefused send_errors.NoSuchSite
+send_told false true = came.SendRefused send_errors.Retired
+send_told false false = came.Sent
+
+send_same : (own retired : Bool) → Same (send_told own retired) (send_told own retired)
+send_same true retired = refl
+send_same false true = refl
+send_same false false = refl
+
+send_one : (w : Known) (site to : ℕ) (t : Trace) → Lawful w (at.Send site to) t → IsSaid t → t ≡ send_told (to == site) (is_in (w.sets site) to)
 send_one w site to (came.Replied reply victim) l said = absurd l
 send_one w site to (came.Evicted done) l said = absurd l
-send_one w site to came.Sent l said = inl (refl, l)
-send_one w site to (came.SendRefused send_errors.NoSuchSite) l said = inr (refl, l)
+send_one w site to came.Sent l said = sym (λ i. send_told (ne_eqb to site l.0 i) (l.1 i))
+send_one w site to (came.SendRefused send_errors.NoSuchSite) l said = sym (ap (λ b. send_told b (is_in (w.sets site) to)) (eq-eqb to site l))
+send_one w site to (came.SendRefused send_errors.Retired) l said = sym (λ i. send_told (ne_eqb to site l.0 i) (l.1 i))
 send_one w site to (came.SendRefused send_errors.Memory) l said = absurd (said refl)
 send_one w site to came.Taken l said = absurd l
 send_one w site to (came.TakeRefused why) l said = absurd l
@@ -108,15 +127,29 @@ send_one w site to (came.Reaped done) l said = absurd l
 send_one w site to (came.ReapRefused why) l said = absurd l
 send_one w site to (came.Filled f) l said = absurd l
 send_one w site to came.FillRefused l said = absurd l
+send_one w site to (came.Retired fresh) l said = absurd l
+send_one w site to (came.RetireRefused why) l said = absurd l
 
-take_one : (w : Known) (site parcel : ℕ) (t : Trace) → Lawful w (at.Take site parcel) t → IsSaid t → ((t ≡ came.Taken) × (addressee w parcel ≡ site)) ⊎ ((t ≡ came.TakeRefused take_errors.NotForMe) × (addressee w parcel ≢ site))
+-- what a take tells, by whether the parcel is for the site and from a retired one
+abbrev take_told : Bool → Bool → Trace
+take_told false retired = came.TakeRefused take_errors.NotForMe
+take_told true true = came.TakeRefused take_errors.Retired
+take_told true false = came.Taken
+
+take_same : (own retired : Bool) → Same (take_told own retired) (take_told own retired)
+take_same false retired = refl
+take_same true true = refl
+take_same true false = refl
+
+take_one : (w : Known) (site parcel : ℕ) (t : Trace) → Lawful w (at.Take site parcel) t → IsSaid t → t ≡ take_told (addressee w parcel == site) (is_in (w.sets site) (sender w parcel))
 take_one w site parcel (came.Replied reply victim) l said = absurd l
 take_one w site parcel (came.Evicted done) l said = absurd l
 take_one w site parcel came.Sent l said = absurd l
 take_one w site parcel (came.SendRefused why) l said = absurd l
-take_one w site parcel came.Taken l said = inl (refl, l)
-take_one w site parcel (came.TakeRefused take_errors.NotForMe) l said = inr (refl, l)
+take_one w site parcel came.Taken l said = sym (λ i. take_told (eq-eqb (addressee w parcel) site l.0 i) (l.1 i))
+take_one w site parcel (came.TakeRefused take_errors.NotForMe) l said = sym (ap (λ b. take_told b (is_in (w.sets site) (sender w parcel))) (ne_eqb (addressee w parcel) site l))
 take_one w site parcel (came.TakeRefused take_errors.UnknownSite) l said = absurd l
+take_one w site parcel (came.TakeRefused take_errors.Retired) l said = sym (λ i. take_told (eq-eqb (addressee w parcel) site l.0 i) (l.1 i))
 take_one w site parcel (came.TakeRefused take_errors.Gap) l said = absurd l
 take_one w site parcel (came.TakeRefused take_errors.Memory) l said = absurd (said refl)
 take_one w site parcel (came.Removed horizon count) l said = absurd l
@@ -125,6 +158,34 @@ take_one w site parcel (came.Reaped done) l said = absurd l
 take_one w site parcel (came.ReapRefused why) l said = absurd l
 take_one w site parcel (came.Filled f) l said = absurd l
 take_one w site parcel came.FillRefused l said = absurd l
+take_one w site parcel (came.Retired fresh) l said = absurd l
+take_one w site parcel (came.RetireRefused why) l said = absurd l
+
+-- what a retirement tells, by whether it is of the site itself and of a retired one
+abbrev retire_told : Bool → Bool → Trace
+retire_told true retired = came.RetireRefused retire_errors.NoSuchSite
+retire_told false retired = came.Retired (not retired)
+
+retire_same : (own retired : Bool) → Same (retire_told own retired) (retire_told own retired)
+retire_same true retired = refl
+retire_same false retired = refl
+
+retire_one : (w : Known) (site other : ℕ) (t : Trace) → Lawful w (at.Retire site other) t → IsSaid t → t ≡ retire_told (other == site) (is_in (w.sets site) other)
+retire_one w site other (came.Replied reply victim) l said = absurd l
+retire_one w site other (came.Evicted done) l said = absurd l
+retire_one w site other came.Sent l said = absurd l
+retire_one w site other (came.SendRefused why) l said = absurd l
+retire_one w site other came.Taken l said = absurd l
+retire_one w site other (came.TakeRefused why) l said = absurd l
+retire_one w site other (came.Removed horizon count) l said = absurd l
+retire_one w site other (came.Ticked done) l said = absurd l
+retire_one w site other (came.Reaped done) l said = absurd l
+retire_one w site other (came.ReapRefused why) l said = absurd l
+retire_one w site other (came.Filled f) l said = absurd l
+retire_one w site other came.FillRefused l said = absurd l
+retire_one w site other (came.Retired fresh) l said = ap came.Retired l.1 ∙ sym (ap (λ b. retire_told b (is_in (w.sets site) other)) (ne_eqb other site l.0))
+retire_one w site other (came.RetireRefused retire_errors.NoSuchSite) l said = sym (ap (λ b. retire_told b (is_in (w.sets site) other)) (eq-eqb other site l))
+retire_one w site other (came.RetireRefused retire_errors.Memory) l said = absurd (said refl)
 
 record IsRemoved (all : Tables) (site : ℕ) (t : Trace) : Type 0 where
   pub count : ℕ
@@ -144,6 +205,8 @@ remove_one w all site (came.Reaped done) l tallies = absurd l
 remove_one w all site (came.ReapRefused why) l tallies = absurd l
 remove_one w all site (came.Filled f) l tallies = absurd l
 remove_one w all site came.FillRefused l tallies = absurd l
+remove_one w all site (came.Retired fresh) l tallies = absurd l
+remove_one w all site (came.RetireRefused why) l tallies = absurd l
 
 reap_one : (w : Known) (site now : ℕ) (key : List ℕ) (t : Trace) → Lawful w (at.Reap site now key) t
     → ((t ≡ came.Reaped (is_reapable site ((flushed w site now).limits site).reap_after now (version_of ((flushed w site now).at site) key))) × (lacks (latest ((flushed w site now).at site)) (reaps_on (flushed w site now) site now key) ≡ false))
@@ -161,6 +224,8 @@ reap_one w site now key (came.ReapRefused reap_errors.ClockEnded) l = inr (refl,
 reap_one w site now key (came.ReapRefused reap_errors.Memory) l = absurd l
 reap_one w site now key (came.Filled f) l = absurd l
 reap_one w site now key came.FillRefused l = absurd l
+reap_one w site now key (came.Retired fresh) l = absurd l
+reap_one w site now key (came.RetireRefused why) l = absurd l
 
 record IsReplied (w : Known) (all : Tables) (site now : ℕ) (request : Request) (t : Trace) : Type 0 where
   pub reply : Reply
@@ -182,6 +247,8 @@ command_one w all site now request (came.Reaped done) l tallies said = absurd l
 command_one w all site now request (came.ReapRefused why) l tallies said = absurd l
 command_one w all site now request (came.Filled f) l tallies said = absurd l
 command_one w all site now request came.FillRefused l tallies said = absurd l
+command_one w all site now request (came.Retired fresh) l tallies said = absurd l
+command_one w all site now request (came.RetireRefused why) l tallies said = absurd l
 
 record IsFilled (w : Known) (site : ℕ) (key bytes : List ℕ) (t : Trace) : Type 0 where
   pub came_of : Filled
@@ -207,6 +274,8 @@ fill_one w site key bytes (came.Reaped done) l said = absurd l
 fill_one w site key bytes (came.ReapRefused why) l said = absurd l
 fill_one w site key bytes (came.Filled f) l said = record { came_of = f; is = refl; sort = sort_is (names (version_of (w.at site) key) bytes) (is_some (w.held site key)) f l }
 fill_one w site key bytes came.FillRefused l said = absurd said
+fill_one w site key bytes (came.Retired fresh) l said = absurd l
+fill_one w site key bytes (came.RetireRefused why) l said = absurd l
 
 only_one : (w : Known) (all : Tables) (event : Happening) (t u : Trace) → Lawful w event t → Tallies w all event t → IsSaid t → Lawful w event u → Tallies w all event u → IsSaid u → Same t u
 only_one w all (at.Command site now request) t u l x s m y r =
@@ -219,26 +288,16 @@ only_one w all (at.Evict site key) t u l x s m y r =
 only_one w all (at.Tick site now) t u l x s m y r =
     let d = flushes_due (w.waiting site) (latest (w.at site)) now in
     subst (λ t. Same t u) (sym (tick_one w site now t l)) (subst (Same (came.Ticked d)) (sym (tick_one w site now u m)) refl)
-only_one w all (at.Send site to) t u l x s m y r = elim (send_one w site to t l s) [
-  | inl a ↦ elim (send_one w site to u m r) [
-    | inl b ↦ subst (λ t. Same t u) (sym a.0) (subst (Same came.Sent) (sym b.0) refl)
-    | inr b ↦ absurd (a.1 b.1)
-  ]
-  | inr a ↦ elim (send_one w site to u m r) [
-    | inl b ↦ absurd (b.1 a.1)
-    | inr b ↦ subst (λ t. Same t u) (sym a.0) (subst (Same (came.SendRefused send_errors.NoSuchSite)) (sym b.0) refl)
-  ]
-]
-only_one w all (at.Take site parcel) t u l x s m y r = elim (take_one w site parcel t l s) [
-  | inl a ↦ elim (take_one w site parcel u m r) [
-    | inl b ↦ subst (λ t. Same t u) (sym a.0) (subst (Same came.Taken) (sym b.0) refl)
-    | inr b ↦ absurd (b.1 a.1)
-  ]
-  | inr a ↦ elim (take_one w site parcel u m r) [
-    | inl b ↦ absurd (a.1 b.1)
-    | inr b ↦ subst (λ t. Same t u) (sym a.0) (subst (Same (came.TakeRefused take_errors.NotForMe)) (sym b.0) refl)
-  ]
-]
+only_one w all (at.Send site to) t u l x s m y r =
+    let told = send_told (to == site) (is_in (w.sets site) to) in
+    subst (λ t. Same t u) (sym (send_one w site to t l s)) (subst (Same told) (sym (send_one w site to u m r)) (send_same (to == site) (is_in (w.sets site) to)))
+only_one w all (at.Take site parcel) t u l x s m y r =
+    let own = addressee w parcel == site in
+    let retired = is_in (w.sets site) (sender w parcel) in
+    subst (λ t. Same t u) (sym (take_one w site parcel t l s)) (subst (Same (take_told own retired)) (sym (take_one w site parcel u m r)) (take_same own retired))
+only_one w all (at.Retire site other) t u l x s m y r =
+    let told = retire_told (other == site) (is_in (w.sets site) other) in
+    subst (λ t. Same t u) (sym (retire_one w site other t l s)) (subst (Same told) (sym (retire_one w site other u m r)) (retire_same (other == site) (is_in (w.sets site) other)))
 only_one w all (at.Remove site) t u l x s m y r =
     let a = remove_one w all site t l x in
     let b = remove_one w all site u m y in
@@ -272,6 +331,8 @@ replied_none reply (Removed told) (came.Replied other let_go) same t apart = abs
 replied_none reply (Ticked told) (came.Replied other let_go) same t apart = absurd t
 replied_none reply (Reaped told) (came.Replied other let_go) same t apart = absurd t
 replied_none reply (ReapRefused told) (came.Replied other let_go) same t apart = absurd t
+replied_none reply (Retired told) (came.Replied other let_go) same t apart = absurd t
+replied_none reply (RetireRefused told) (came.Replied other let_go) same t apart = absurd t
 replied_none reply (FilledAs told) (came.Replied other let_go) same t apart = absurd t
 replied_none reply answer (came.Evicted done) same t apart = apart (subst (λ u. IsToldBy u answer) (sym same) t)
 replied_none reply answer came.Sent same t apart = apart (subst (λ u. IsToldBy u answer) (sym same) t)
@@ -284,6 +345,8 @@ replied_none reply answer (came.Reaped done) same t apart = apart (subst (λ u. 
 replied_none reply answer (came.ReapRefused why) same t apart = apart (subst (λ u. IsToldBy u answer) (sym same) t)
 replied_none reply answer (came.Filled f) same t apart = apart (subst (λ u. IsToldBy u answer) (sym same) t)
 replied_none reply answer came.FillRefused same t apart = apart (subst (λ u. IsToldBy u answer) (sym same) t)
+replied_none reply answer (came.Retired fresh) same t apart = apart (subst (λ u. IsToldBy u answer) (sym same) t)
+replied_none reply answer (came.RetireRefused why) same t apart = apart (subst (λ u. IsToldBy u answer) (sym same) t)
 
 -- what comes of a fill is told otherwise
 apart_fill : (site : ℕ) (key bytes : List ℕ) (f told : Filled) → (f ≡ told → ⊥) → (sort_of f ≡ sort_of told → ⊥) ⊎ IsOwnRoom (at.Fill site key bytes) (came.Filled f) (FilledAs told)
@@ -323,6 +386,8 @@ fill_untold w all site key bytes (Removed count) f l apart = inl (λ u m y r t. 
 fill_untold w all site key bytes (Ticked done) f l apart = inl (λ u m y r t. let b = fill_one w site key bytes u m r in absurd (subst (λ u. IsToldBy u (Ticked done)) b.is t))
 fill_untold w all site key bytes (Reaped done) f l apart = inl (λ u m y r t. let b = fill_one w site key bytes u m r in absurd (subst (λ u. IsToldBy u (Reaped done)) b.is t))
 fill_untold w all site key bytes (ReapRefused why) f l apart = inl (λ u m y r t. let b = fill_one w site key bytes u m r in absurd (subst (λ u. IsToldBy u (ReapRefused why)) b.is t))
+fill_untold w all site key bytes (Retired fresh) f l apart = inl (λ u m y r t. let b = fill_one w site key bytes u m r in absurd (subst (λ u. IsToldBy u (Retired fresh)) b.is t))
+fill_untold w all site key bytes (RetireRefused why) f l apart = inl (λ u m y r t. let b = fill_one w site key bytes u m r in absurd (subst (λ u. IsToldBy u (RetireRefused why)) b.is t))
 
 filled_untold : (w : Known) (all : Tables) (event : Happening) (answer : Answer) (f : Filled) → Lawful w event (came.Filled f) → (IsToldBy (came.Filled f) answer → ⊥) → NoneTells w all event answer ⊎ (IsOwnVictim (came.Filled f) ⊎ IsOwnRoom event (came.Filled f) answer)
 filled_untold w all (at.Command site now request) answer f l apart = absurd l
@@ -332,6 +397,7 @@ filled_untold w all (at.Take site parcel) answer f l apart = absurd l
 filled_untold w all (at.Remove site) answer f l apart = absurd l
 filled_untold w all (at.Tick site now) answer f l apart = absurd l
 filled_untold w all (at.Reap site now key) answer f l apart = absurd l
+filled_untold w all (at.Retire site other) answer f l apart = absurd l
 filled_untold w all (at.Fill site key bytes) answer f l apart = fill_untold w all site key bytes answer f l apart
 
 pub untold : (w : Known) (all : Tables) (event : Happening) (answer : Answer) (t : Trace) → Lawful w event t → Tallies w all event t → IsSaid t → (IsToldBy t answer → ⊥) → NoneTells w all event answer ⊎ (IsOwnVictim t ⊎ IsOwnRoom event t answer)
@@ -348,3 +414,5 @@ untold w all event answer (came.Reaped done) l x s apart = inl (λ u m y r told.
 untold w all event answer (came.ReapRefused why) l x s apart = inl (λ u m y r told. apart (subst (λ u. IsToldBy u answer) (sym (only_one w all event (came.ReapRefused why) u l x s m y r)) told))
 untold w all event answer (came.Filled f) l x s apart = filled_untold w all event answer f l apart
 untold w all event answer came.FillRefused l x s apart = absurd s
+untold w all event answer (came.Retired fresh) l x s apart = inl (λ u m y r told. apart (subst (λ u. IsToldBy u answer) (sym (only_one w all event (came.Retired fresh) u l x s m y r)) told))
+untold w all event answer (came.RetireRefused why) l x s apart = inl (λ u m y r told. apart (subst (λ u. IsToldBy u answer) (sym (only_one w all event (came.RetireRefused why) u l x s m y r)) told))

@@ -12,7 +12,7 @@ use Rattle.geo_site.specs.Schedule.{Known, known}
 use Rattle.geo_world.specs.Tables.{Tables, kept}
 use Rattle.geo_history.specs.declared.history.History.{History}
 use Rattle.geo_history.specs.declared.step.Event.{Event}
-use Rattle.geo_history.specs.declared.step.Event.TheVariants.{Command, Evict, Send, Take, Remove, Tick, Reap, Fill}
+use Rattle.geo_history.specs.declared.step.Event.TheVariants.{Command, Evict, Send, Take, Remove, Tick, Reap, Fill, Retire}
 use Rattle.geo_history.specs.declared.step.Step.{Step}
 use Rattle.geo_audit.specs.declared.sent.Place.{Place}
 use Rattle.geo_audit.specs.Runs.{Turn, turn_of, steps_at, parcel_in, listed, sent_in, event_of, lets_go, gone, events_of, traces_of, events_in, traces_in, TakesNumbered, EachTakesNumbered, IsTold, Fits, EachFits, IsRun, first_of, none_of, IsOneOf, Takes}
@@ -93,6 +93,7 @@ carried histories places sent number Remove e c = tt
 carried histories places sent number (Tick now) e c = tt
 carried histories places sent number (Reap now key) e c = tt
 carried histories places sent number (Fill key bytes) e c = tt
+carried histories places sent number (Retire other) e c = tt
 
 -- what a step of a site in a run made is among what the run made
 after_one : (o : Option Parcel) (sent : List Parcel) (m : ℕ) (parcel : Parcel) → slice_get sent m ≡ Some parcel → (n : ℕ) × (slice_get (listed o ++ sent) n ≡ Some parcel)

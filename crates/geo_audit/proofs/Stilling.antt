@@ -10,7 +10,7 @@ use Rattle.geo_site.specs.declared.event.Trace.TheVariants as came
 use Rattle.geo_site.specs.Entries.{flushes_due}
 use Rattle.geo_site.specs.Schedule.{Known, happens, known, waits, issues, Lawful, EachLawful}
 use Rattle.geo_history.specs.declared.step.Event.{Event}
-use Rattle.geo_history.specs.declared.step.Event.TheVariants.{Command, Evict, Send, Take, Remove, Tick, Reap, Fill}
+use Rattle.geo_history.specs.declared.step.Event.TheVariants.{Command, Evict, Send, Take, Remove, Tick, Reap, Fill, Retire}
 use Rattle.geo_world.specs.There.{is_in_time, EachThere}
 use Rattle.geo_world.specs.Agreement.{Agrees, StepDoes}
 use Rattle.geo_world.specs.Tables.{Tables, kept, kept_after, keeps, issue_all_at, Keep, Tabled}
@@ -33,7 +33,7 @@ same_at f site t = by (t == site) refl
 still_known : (w : Known) (site now : ℕ) → flushes_due (w.waiting site) (latest (w.at site)) now ≡ false → happens w (at.Tick site now) (came.Ticked false) ≡ w
 still_known w site now e =
     ap (λ (b : Bool). waits (issues w site (cond {A = List Act} b (Flush ∷ []) [])) site (cond {A = Option ℕ} b None (w.waiting site))) e
-    ∙ (λ i. record { at = w.at; held = w.held; counts = w.counts; waiting = λ t. same_at w.waiting site t i; limits = w.limits; sites = w.sites; sent = w.sent })
+    ∙ (λ i. record { at = w.at; held = w.held; counts = w.counts; waiting = λ t. same_at w.waiting site t i; limits = w.limits; sets = w.sets; sites = w.sites; sent = w.sent })
 
 still_kept : (w : Known) (all : Tables) (site now : ℕ) → flushes_due (w.waiting site) (latest (w.at site)) now ≡ false → kept_after w all (at.Tick site now) (came.Ticked false) ≡ all
 still_kept w all site now e =
@@ -88,6 +88,8 @@ ticked w site now (came.Reaped done) other l undue = absurd l
 ticked w site now (came.ReapRefused why) other l undue = absurd l
 ticked w site now (came.Filled filled) other l undue = absurd l
 ticked w site now came.FillRefused other l undue = absurd l
+ticked w site now (came.Retired fresh) other l undue = absurd l
+ticked w site now (came.RetireRefused why) other l undue = absurd l
 
 pub flushes_step : (old : Play) (new : World) (site now : ℕ) (trace : Trace) → trace ≢ came.Ticked false → StepDoes old.world new (at.Tick site now) 0 (Ok trace) → FlushesAt old site now
 flushes_step old new site now trace other does first none before p = ticked (known first old.events.items before) site now trace other (does.1 (known first old.events.items before) p.agrees).0
@@ -111,6 +113,8 @@ unheld w site key (came.Reaped done) other l = absurd l
 unheld w site key (came.ReapRefused why) other l = absurd l
 unheld w site key (came.Filled filled) other l = absurd l
 unheld w site key came.FillRefused other l = absurd l
+unheld w site key (came.Retired fresh) other l = absurd l
+unheld w site key (came.RetireRefused why) other l = absurd l
 
 pub unheld_step : (old new : Play) (site : ℕ) (key : List ℕ) (trace : Trace) → trace ≢ came.Evicted true → Leads old new (at.Evict site key ∷ []) (trace ∷ []) → Always old (λ w all. w.held site key ≡ None)
 unheld_step old new site key trace other leads first none before p =
@@ -130,3 +134,4 @@ timely_of site number Remove e = e
 timely_of site number (Tick now) e = e
 timely_of site number (Reap now key) e = e
 timely_of site number (Fill key bytes) e = e
+timely_of site number (Retire other) e = e

@@ -11,11 +11,11 @@ use Rattle.geo_site.specs.declared.event.Trace.{Trace}
 use Rattle.geo_site.specs.declared.event.Trace.TheVariants as came
 use Rattle.geo_site.specs.Entries.{Held}
 use Rattle.geo_site.specs.Sites.{state_in}
-use Rattle.geo_site.specs.Schedule.{Known, happens, known, Lawful, EachLawful}
+use Rattle.geo_site.specs.Schedule.{Known, Sending, never_sent, happens, known, Lawful, EachLawful}
 use Rattle.geo_history.specs.declared.step.Event.{Event}
-use Rattle.geo_history.specs.declared.step.Event.TheVariants.{Command, Evict, Send, Take, Remove, Tick, Reap, Fill}
+use Rattle.geo_history.specs.declared.step.Event.TheVariants.{Command, Evict, Send, Take, Remove, Tick, Reap, Fill, Retire}
 use Rattle.geo_history.specs.declared.step.Answer.{Answer}
-use Rattle.geo_history.specs.declared.step.Answer.TheVariants.{Replied, Evicted, Sent, SendRefused, Taken as Took, TakeRefused, Removed, Ticked, Reaped, ReapRefused, Filled as FilledAs}
+use Rattle.geo_history.specs.declared.step.Answer.TheVariants.{Replied, Evicted, Sent, SendRefused, Taken as Took, TakeRefused, Removed, Ticked, Reaped, ReapRefused, Filled as FilledAs, Retired, RetireRefused}
 use Rattle.geo_history.specs.declared.step.Step.{Step}
 use Rattle.geo_world.specs.There.{is_there}
 use Rattle.geo_world.specs.Agreement.{Carries as TellsOf, Agrees, about}
@@ -54,24 +54,30 @@ trace_sent (came.Reaped done) parcel t = absurd t
 trace_sent (came.ReapRefused why) parcel t = absurd t
 trace_sent (came.Filled filled) parcel t = absurd t
 trace_sent came.FillRefused parcel t = absurd t
+trace_sent (came.Retired fresh) parcel t = absurd t
+trace_sent (came.RetireRefused why) parcel t = absurd t
+
+-- what is known of a sending
+abbrev posted : Known → ℕ → ℕ → Sending
+posted w site to = record { from = site; to = to; set = w.sets site; ops = w.at site }
 
 -- the parcel that a send made
 module _ (w : Known) (all : Tables) (site to : ℕ) (sites : List Site) (parcels : List Parcel) (agrees : Agrees sites parcels (happens w (at.Send site to) came.Sent)) (keep : Keep sites parcels (kept_after w all (at.Send site to) came.Sent)) where
   place_known : length parcels - 1 ≡ length w.sent
-  place_known = let a = agrees.as_many in let l = length-append w.sent ((to, w.at site) ∷ []) in omega (arith, a, l)
+  place_known = let a = agrees.as_many in let l = length-append w.sent ((posted w site to) ∷ []) in omega (arith, a, l)
 
   place_kept : length parcels - 1 ≡ length all.sent
   place_kept = let a = keep.as_many in let l = length-append all.sent (brought_at site to (all.at site) ∷ []) in omega (arith, a, l)
 
   pub made_is : (parcel : Parcel) → slice_get parcels (length parcels - 1) ≡ Some parcel → IsMade w all site to parcel
   made_is parcel last = record {
-    tells = subst (λ n. TellsOf n w.at parcel (to, w.at site)) (sym agrees.numbers)
-        (subst (TellsOf (length sites) w.at parcel) (last_is w.sent (to, w.at site) (0, []) (length parcels - 1) place_known) (agrees.each_sent (length parcels - 1) parcel last));
+    tells = subst (λ n. TellsOf n w.at parcel (posted w site to)) (sym agrees.numbers)
+        (subst (TellsOf (length sites) w.at parcel) (last_is w.sent (posted w site to) never_sent (length parcels - 1) place_known) (agrees.each_sent (length parcels - 1) parcel last));
     brings = keep.each_sent (length parcels - 1) parcel last ∙ last_is all.sent (brought_at site to (all.at site)) brings_nothing (length parcels - 1) place_kept;
   }
 
   pub one_made : (q : Parcel) × (slice_get parcels (length parcels - 1) ≡ Some q)
-  one_made = let a = agrees.as_many in let l = length-append w.sent ((to, w.at site) ∷ []) in there_is parcels (length parcels - 1) (omega (arith, a, l))
+  one_made = let a = agrees.as_many in let l = length-append w.sent ((posted w site to) ∷ []) in there_is parcels (length parcels - 1) (omega (arith, a, l))
 
 pub brings_of : (w : Known) (all : Tables) (site number : ℕ) (event : Event) (answer : Answer) (trace : Trace) (sites : List Site) (parcels : List Parcel) → IsToldBy trace answer → EndsWith parcels answer
     → Agrees sites parcels (happens w (event_of site number event) trace) → Keep sites parcels (kept_after w all (event_of site number event) trace) → Brings w all site event answer
@@ -90,11 +96,14 @@ brings_of w all site number (Send to) (Ticked done) trace sites parcels t e agre
 brings_of w all site number (Send to) (Reaped done) trace sites parcels t e agrees keep = tt
 brings_of w all site number (Send to) (ReapRefused why) trace sites parcels t e agrees keep = tt
 brings_of w all site number (Send to) (FilledAs filled) trace sites parcels t e agrees keep = tt
+brings_of w all site number (Send to) (Retired fresh) trace sites parcels t e agrees keep = tt
+brings_of w all site number (Send to) (RetireRefused why) trace sites parcels t e agrees keep = tt
 brings_of w all site number (Take parcel) answer trace sites parcels t e agrees keep = tt
 brings_of w all site number Remove answer trace sites parcels t e agrees keep = tt
 brings_of w all site number (Tick now) answer trace sites parcels t e agrees keep = tt
 brings_of w all site number (Reap now key) answer trace sites parcels t e agrees keep = tt
 brings_of w all site number (Fill key bytes) answer trace sites parcels t e agrees keep = tt
+brings_of w all site number (Retire other) answer trace sites parcels t e agrees keep = tt
 
 -- where the parcel that is told is not the last, another was made
 other_made : (w : Known) (all : Tables) (site number : ℕ) (event : Event) (parcel : Parcel) (sites : List Site) (parcels : List Parcel) → (slice_get parcels (length parcels - 1) ≡ Some parcel → ⊥) → Lawful w (event_of site number event) came.Sent
@@ -110,6 +119,7 @@ other_made w all site number Remove parcel sites parcels other l agrees keep = a
 other_made w all site number (Tick now) parcel sites parcels other l agrees keep = absurd l
 other_made w all site number (Reap now key) parcel sites parcels other l agrees keep = absurd l
 other_made w all site number (Fill key bytes) parcel sites parcels other l agrees keep = absurd l
+other_made w all site number (Retire another) parcel sites parcels other l agrees keep = absurd l
 
 brings_other : (w : Known) (all : Tables) (site number : ℕ) (event : Event) (answer : Answer) (trace : Trace) (sites : List Site) (parcels : List Parcel) → IsToldBy trace answer → (EndsWith parcels answer → ⊥) → Lawful w (event_of site number event) trace
     → Agrees sites parcels (happens w (event_of site number event) trace) → Keep sites parcels (kept_after w all (event_of site number event) trace) → BringsOther w all site event answer
@@ -126,6 +136,8 @@ brings_other w all site number event (Ticked done) trace sites parcels t apart l
 brings_other w all site number event (Reaped done) trace sites parcels t apart l agrees keep = absurd (apart tt)
 brings_other w all site number event (ReapRefused why) trace sites parcels t apart l agrees keep = absurd (apart tt)
 brings_other w all site number event (FilledAs filled) trace sites parcels t apart l agrees keep = absurd (apart tt)
+brings_other w all site number event (Retired fresh) trace sites parcels t apart l agrees keep = absurd (apart tt)
+brings_other w all site number event (RetireRefused why) trace sites parcels t apart l agrees keep = absurd (apart tt)
 
 -- an event of a site at a place was carried out
 module _ (old new : Play) (k number : ℕ) (step : Step) (happening : Happening) (is : happening ≡ event_of (k + 1) number step.event) (trace : Trace) (leads : Leads old new (happening ∷ []) (trace ∷ [])) where

@@ -1,5 +1,5 @@
 -- Vectors of zeros.
-use Rattle.std.proofs.Common.{◌≡◌, ◌≢◌, inl, inr, eqb, ℕ, zero, suc, List, [], ◌∷◌, length, MatchBool, refl, sym, ap, subst, ◌∙◌, arith}
+use Rattle.std.proofs.Common.{◌≡◌, ◌≢◌, inl, inr, eqb, Bool, true, false, true≢false, ℕ, zero, suc, List, [], ◌∷◌, length, MatchBool, refl, sym, ap, subst, ◌∙◌, arith}
 use Rattle.std.proofs.lemmas.Bool.Decides.{eqb_tells}
 use Rattle.std.proofs.lemmas.Bool.{ne_eqb}
 use Rattle.geo_stamp.specs.Vectors.{zeros, greatest_of}
@@ -30,3 +30,8 @@ tells_zeros v n g many e = elim (eqb_tells g 0) [
 
 pub other_zeros : (v : List ℕ) (n r : ℕ) → r ≡ length v → (r ≡ n → ⊥) → MatchBool (eqb r n) (v ≡ zeros n) (v ≢ zeros n)
 other_zeros v n r e other = subst (λ b. MatchBool b (v ≡ zeros n) (v ≢ zeros n)) (sym (ne_eqb r n other)) (other_many v n r e other)
+
+-- what a test is equal to is true or not
+pub tells_true : (r b : Bool) → r ≡ b → MatchBool r (b ≡ true) (b ≡ true → ⊥)
+tells_true true b e = sym e
+tells_true false b e = λ t. true≢false (sym t ∙ sym e)

@@ -1,10 +1,15 @@
 -- Histories that begin with the start of their site.
-use Rattle.std.specs.Prelude.{◌≡◌, ◌≤◌, ◌<◌, ℕ, List, [], None, Some, slice_get}
+use Rattle.std.specs.Prelude.{◌≡◌, ◌≤◌, ◌<◌, ℕ, true, List, [], None, Some, slice_get}
 use Rattle.std.specs.List.{All}
-use Rattle.geo_stamp.specs.Acks.{row_of}
+use Rattle.geo_stamp.specs.Acks.{Heard, row_of, told_of}
+use Rattle.geo_stamp.specs.Retired.{set_fits}
 use Rattle.geo_stamp.specs.Vectors.{zeros}
 use Rattle.geo_site.specs.declared.state.SiteState.{SiteState}
 use Rattle.geo_history.specs.declared.history.History.{History}
+
+-- no site told that it holds one for retired
+abbrev pub IsUntold : Heard → Type 0
+IsUntold h = (s : ℕ) → 1 ≤ s → s ≤ 16 → set_fits 0 (told_of h.told s) ≡ true
 
 -- a site that knows, holds and counts nothing, where there are so many sites
 pub record IsEmpty (sites : ℕ) (state : SiteState) : Type 0 where
@@ -16,7 +21,10 @@ pub record IsEmpty (sites : ℕ) (state : SiteState) : Type 0 where
   pub misses : state.misses ≡ 0
   pub evictions : state.evictions ≡ 0
   pub vector : state.vector ≡ zeros sites
-  pub rows : (s : ℕ) → 1 ≤ s → s ≤ 16 → row_of state.rows s ≡ zeros sites
+  pub rows : (s : ℕ) → 1 ≤ s → s ≤ 16 → row_of state.rows.rows s ≡ zeros sites
+  pub told : IsUntold state.rows
+  pub retired : set_fits 0 state.rows.set ≡ true
+  pub reached : state.rows.reached ≡ 0
 
 -- the first era, in which nothing was known and no seat had made a step
 pub record OpensEmpty (history : History) : Type 0 where

@@ -17,6 +17,7 @@ use Rattle.geo_site.specs.declared.exchange.Taken.{Taken}
 use Rattle.geo_site.specs.declared.refusal.SendError.TheVariants as send_errors
 use Rattle.geo_site.specs.declared.refusal.TakeError.TheVariants as take_errors
 use Rattle.geo_site.specs.declared.refusal.ReapError.TheVariants as reap_errors
+use Rattle.geo_site.specs.declared.refusal.RetireError.TheVariants as retire_errors
 use Rattle.geo_site.specs.declared.event.Event.{Event as Happening}
 use Rattle.geo_site.specs.declared.event.Event.TheVariants as at
 use Rattle.geo_site.specs.declared.event.Trace.{Trace}
@@ -27,9 +28,9 @@ use Rattle.geo_site.specs.Served.{NoCollision, AllServe}
 use Rattle.geo_site.specs.Schedule.{Known, known, EachLawful}
 use Rattle.geo_history.specs.declared.history.History.{History}
 use Rattle.geo_history.specs.declared.step.Event.{Event}
-use Rattle.geo_history.specs.declared.step.Event.TheVariants.{Command, Evict, Send, Take, Remove, Tick, Reap, Fill}
+use Rattle.geo_history.specs.declared.step.Event.TheVariants.{Command, Evict, Send, Take, Remove, Tick, Reap, Fill, Retire}
 use Rattle.geo_history.specs.declared.step.Answer.{Answer}
-use Rattle.geo_history.specs.declared.step.Answer.TheVariants.{Replied, Evicted, Sent, SendRefused, Taken as Took, TakeRefused, Removed, Ticked, Reaped, ReapRefused, Filled as FilledAs}
+use Rattle.geo_history.specs.declared.step.Answer.TheVariants.{Replied, Evicted, Sent, SendRefused, Taken as Took, TakeRefused, Removed, Ticked, Reaped, ReapRefused, Filled as FilledAs, Retired, RetireRefused}
 use Rattle.geo_history.specs.declared.step.Step.{Step}
 use Rattle.geo_world.specs.Setups.{are_setups, start}
 use Rattle.geo_world.specs.There.{is_in_time, EachThere}
@@ -75,6 +76,7 @@ event_of site number Remove = at.Remove site
 event_of site number (Tick now) = at.Tick site now
 event_of site number (Reap now key) = at.Reap site now key
 event_of site number (Fill key bytes) = at.Fill site key bytes
+event_of site number (Retire other) = at.Retire site other
 
 -- the bytes of a recorded victim are evicted first, as an event of its own
 abbrev pub lets_go : ℕ → Option (List ℕ) → List Happening
@@ -123,6 +125,8 @@ IsToldBy (came.Ticked done) (Ticked told) = done ≡ told
 IsToldBy (came.Reaped done) (Reaped told) = done ≡ told
 IsToldBy (came.ReapRefused why) (ReapRefused told) = why ≡ told
 IsToldBy (came.Filled filled) (FilledAs told) = filled ≡ told
+IsToldBy (came.Retired fresh) (Retired told) = fresh ≡ told
+IsToldBy (came.RetireRefused why) (RetireRefused told) = why ≡ told
 IsToldBy trace answer = ⊥
 
 -- memory was not wanted
@@ -131,6 +135,7 @@ IsSaid (came.Replied reply victim) = reply ≢ OutOfMemory
 IsSaid (came.SendRefused why) = why ≢ send_errors.Memory
 IsSaid (came.TakeRefused why) = why ≢ take_errors.Memory
 IsSaid (came.ReapRefused why) = why ≢ reap_errors.Memory
+IsSaid (came.RetireRefused why) = why ≢ retire_errors.Memory
 IsSaid came.FillRefused = ⊥
 IsSaid trace = Unit {0}
 
@@ -163,6 +168,7 @@ IsPlain Remove answer victim made = IsBare victim made
 IsPlain (Tick now) answer victim made = (answer ≡ Ticked true) × IsBare victim made
 IsPlain (Reap now key) answer victim made = IsBare victim made
 IsPlain (Fill key bytes) answer victim made = IsBare victim made
+IsPlain (Retire other) answer victim made = IsBare victim made
 
 -- whether the moment of an event, if it has one, is one of a schedule
 abbrev pub is_timely : Event → Bool
@@ -192,7 +198,7 @@ Undue w site event = Unit {0}
 -- a parcel that a site makes for another: it tells what the site knows and the base does not, and brings what the site keeps and did
 -- not hear the other to know
 pub record IsMade (w : Known) (all : Tables) (site to : ℕ) (parcel : Parcel) : Type 0 where
-  pub tells : TellsOf w.sites w.at parcel (to, w.at site)
+  pub tells : TellsOf w.sites w.at parcel (record { from = site; to = to; set = w.sets site; ops = w.at site })
   pub brings : brought_in parcel ≡ brought_at site to (all.at site)
 
 abbrev pub Brings : Known → Tables → ℕ → Event → Answer → Type 0

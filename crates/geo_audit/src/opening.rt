@@ -1,13 +1,14 @@
 //! Whether a history begins with the start of its site.
-ghost use Rattle.std.specs.Prelude.{◌≡◌, ◌≢◌, ◌≤◌, ◌<◌, ℕ, List, length, MatchBool, MatchOption};
+ghost use Rattle.std.specs.Prelude.{◌≡◌, ◌≢◌, ◌≤◌, ◌<◌, ℕ, true, List, length, MatchBool, MatchOption};
 ghost use Rattle.std.specs.List.{All};
 ghost use Rattle.geo_stamp.specs.Acks.{row_of};
+ghost use Rattle.geo_stamp.specs.Retired.{set_fits};
 ghost use Rattle.geo_stamp.specs.Vectors.{zeros};
-ghost use Rattle.geo_audit.specs.Openings.{OpensEmpty, IsEmpty, IsFirstLater};
+ghost use Rattle.geo_audit.specs.Openings.{OpensEmpty, IsEmpty, IsUntold, IsFirstLater};
 
 use geo_history::History;
 use geo_site::SiteState;
-use geo_stamp::{Acks, Vector};
+use geo_stamp::{Acks, Retired, Vector};
 
 /// Whether a vector has so many entries, all 0.
 fn is_zero(vector: &Vector, sites: u8) -> bool
@@ -19,10 +20,29 @@ fn is_zero(vector: &Vector, sites: u8) -> bool
 /// Whether nothing was heard of any site.
 fn is_silent(rows: &Acks, sites: u8) -> bool
     ensures { MatchBool result ((s : ℕ) → 1 ≤ s → s ≤ 16
-        → row_of rows.now s ≡ zeros sites) (((s : ℕ) → 1 ≤ s → s ≤ 16 → row_of rows.now s ≡ zeros sites) → ⊥) }
+        → row_of rows.now.rows s ≡ zeros sites) (((s : ℕ) → 1 ≤ s → s ≤ 16 → row_of rows.now.rows s ≡ zeros sites) → ⊥) }
 {
     for at in 1..17u8 {
         if !is_zero(rows.row(at), sites) {
+            return false;
+        }
+    }
+    true
+}
+
+/// Whether no site is in a set.
+fn names_none(set: &Retired) -> bool
+    ensures { MatchBool result (set_fits 0 set.now ≡ true) (set_fits 0 set.now ≡ true → ⊥) }
+{
+    set.fits(0)
+}
+
+/// Whether no site told that it holds one for retired.
+fn is_untold(rows: &Acks) -> bool
+    ensures { MatchBool result (IsUntold rows.now) (IsUntold rows.now → ⊥) }
+{
+    for at in 1..17u8 {
+        if !names_none(&rows.told(at)) {
             return false;
         }
     }
@@ -42,6 +62,9 @@ fn is_empty(state: &SiteState, sites: u8) -> bool
         && state.evictions == 0
         && is_zero(&state.vector, sites)
         && is_silent(&state.rows, sites)
+        && is_untold(&state.rows)
+        && names_none(state.rows.retired())
+        && state.rows.reached() == 0
 }
 
 /// Whether no seat had made a step.

@@ -63,6 +63,10 @@ fn event_of(alloc: Global, site: u8, number: usize, event: &Event) -> Result<Hap
             key: key.twin(alloc)?,
             bytes: bytes.twin(alloc)?,
         },
+        Event::Retire { other } => Happening::Retire {
+            site,
+            other: *other,
+        },
     })
 }
 
@@ -149,7 +153,8 @@ impl Play {
             | Event::Take { .. }
             | Event::Remove
             | Event::Tick { .. }
-            | Event::Fill { .. } => Ok(true),
+            | Event::Fill { .. }
+            | Event::Retire { .. } => Ok(true),
         }
     }
 

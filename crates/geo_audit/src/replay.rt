@@ -12,7 +12,7 @@ use geo_equal::Equal;
 use geo_grammar::{Reply, Request, Verb};
 use geo_history::{Answer, Event, Step};
 use geo_lattice::Lattice;
-use geo_site::{LAST_MOMENT, ReapError, SendError, Site, TakeError, Trace};
+use geo_site::{LAST_MOMENT, ReapError, RetireError, SendError, Site, TakeError, Trace};
 use geo_slabs::class_of;
 use geo_versions::{Digest, Key, Version};
 
@@ -28,7 +28,8 @@ fn is_timely(event: &Event) -> bool
         | Event::Send { .. }
         | Event::Take { .. }
         | Event::Remove
-        | Event::Fill { .. } => true,
+        | Event::Fill { .. }
+        | Event::Retire { .. } => true,
     }
 }
 
@@ -90,7 +91,8 @@ fn may_tell(step: &Step) -> bool
         | Event::Take { .. }
         | Event::Remove
         | Event::Reap { .. }
-        | Event::Fill { .. } => is_bare(&step.victim, &step.made),
+        | Event::Fill { .. }
+        | Event::Retire { .. } => is_bare(&step.victim, &step.made),
     }
 }
 
@@ -110,13 +112,15 @@ pub(crate) fn is_said(trace: &Trace) -> bool
         Trace::SendRefused(why) => *why != SendError::Memory,
         Trace::TakeRefused(why) => *why != TakeError::Memory,
         Trace::ReapRefused(why) => *why != ReapError::Memory,
+        Trace::RetireRefused(why) => *why != RetireError::Memory,
         Trace::Evicted(_)
         | Trace::Sent
         | Trace::Taken
         | Trace::Removed { .. }
         | Trace::Ticked(_)
         | Trace::Reaped(_)
-        | Trace::Filled(_) => true,
+        | Trace::Filled(_)
+        | Trace::Retired(_) => true,
         Trace::FillRefused => false,
     }
 }
@@ -131,12 +135,14 @@ pub(crate) fn is_told(trace: &Trace, answer: &Answer) -> bool
         }
         (Trace::Evicted(done), Answer::Evicted(told))
         | (Trace::Ticked(done), Answer::Ticked(told))
-        | (Trace::Reaped(done), Answer::Reaped(told)) => *done == *told,
+        | (Trace::Reaped(done), Answer::Reaped(told))
+        | (Trace::Retired(done), Answer::Retired(told)) => *done == *told,
         (Trace::Sent, Answer::Sent(_)) | (Trace::Taken, Answer::Taken(_)) => true,
         (Trace::SendRefused(why), Answer::SendRefused(told)) => *why == *told,
         (Trace::TakeRefused(why), Answer::TakeRefused(told)) => *why == *told,
         (Trace::Removed { count, .. }, Answer::Removed(told)) => *count == *told,
         (Trace::ReapRefused(why), Answer::ReapRefused(told)) => *why == *told,
+        (Trace::RetireRefused(why), Answer::RetireRefused(told)) => *why == *told,
         (Trace::Filled(filled), Answer::Filled(told)) => *filled == *told,
         _ => false,
     }
@@ -163,7 +169,8 @@ fn rises(site: &Site, event: &Event) -> bool
         | Event::Remove
         | Event::Tick { .. }
         | Event::Reap { .. }
-        | Event::Fill { .. } => false,
+        | Event::Fill { .. }
+        | Event::Retire { .. } => false,
     }
 }
 

@@ -17,6 +17,7 @@ use Rattle.geo_world.specs.Running.{HasAllRun}
 use Rattle.geo_world.proofs.Running.{HasRun, run_more, all_run}
 use Rattle.geo_world.specs.Doing.{DoesAlone, EachAlone, RunsAlone}
 use Rattle.geo_world.proofs.Alone.{each_more}
+use Rattle.geo_world.proofs.Surviving.{survivors_stable}
 use Rattle.geo_cluster.specs.Progress.{Progress, Runs, known_in, parcels_in, can_come, followed}
 use Rattle.geo_cluster.specs.Prints.{trace_text}
 use Rattle.geo_cluster.specs.Reads.{said_by}
@@ -63,6 +64,7 @@ runs_of p cluster st = record {
   lawful = st.run.lawful;
   tallies = st.run.tallies;
   serves = all_serve (start p.setups) p.events p.traces (sound_nothing (length p.setups) (limits_of p.setups)) st.run.lawful;
+  survivors = survivors_stable (length p.setups) (limits_of p.setups) p.events p.traces st.run.lawful;
   sites = cluster.world.sites.items;
   alone = st.alone;
 }

@@ -1,6 +1,6 @@
 -- Lines for which memory is wanted.
 use Rattle.std.proofs.Common.{◌≡◌, ℕ, ◌<◌, Bool, true, false, true≢false, List, length, Option, None, Some, MatchOption, refl, sym, ap, ◌∙◌, arith}
-use Rattle.geo_cluster.specs.Sayings.{Said, SaysSites, SaysAt, SaysClient, SaysSend, SaysTake, SaysTick, SaysRemove, SaysReap, SaysEvict, SaysFill, SaysVersions}
+use Rattle.geo_cluster.specs.Sayings.{Said, SaysSites, SaysAt, SaysClient, SaysSend, SaysTake, SaysTick, SaysRemove, SaysReap, SaysEvict, SaysFill, SaysVersions, SaysRetire}
 use Rattle.geo_cluster.specs.Progress.{Progress}
 use Rattle.geo_cluster.specs.Effects.{can_carry, SaidDoes}
 use Rattle.geo_cluster.specs.Wants.{grows, CarriesAt}
@@ -29,3 +29,4 @@ grows_printed p q (SaysReap s key) text does some = refl
 grows_printed p q (SaysEvict s key) text does some = refl
 grows_printed p q (SaysFill s key bytes) text does some = refl
 grows_printed p q (SaysVersions s) text does some = refl
+grows_printed p q (SaysRetire s t) text does some = refl

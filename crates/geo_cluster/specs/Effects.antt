@@ -13,12 +13,12 @@ use Rattle.geo_versions.specs.Maps.{Rising}
 use Rattle.geo_records.specs.Operations.{Operation, floor_of, version_of}
 use Rattle.geo_records.specs.declared.version.Version.{Version}
 use Rattle.geo_site.specs.declared.event.Event.{Event}
-use Rattle.geo_site.specs.declared.event.Event.TheVariants.{Command, Evict, Send, Take, Remove, Tick, Reap, Fill}
+use Rattle.geo_site.specs.declared.event.Event.TheVariants.{Command, Evict, Send, Take, Remove, Tick, Reap, Fill, Retire}
 use Rattle.geo_site.specs.declared.event.Trace.{Trace}
 use Rattle.geo_site.specs.declared.event.Trace.TheVariants.{Replied}
 use Rattle.geo_site.specs.declared.setup.Setup.{Setup}
 use Rattle.geo_world.specs.There.{is_site}
-use Rattle.geo_cluster.specs.Sayings.{Said, SaysSites, SaysAt, SaysClient, SaysSend, SaysTake, SaysTick, SaysRemove, SaysReap, SaysEvict, SaysFill, SaysVersions}
+use Rattle.geo_cluster.specs.Sayings.{Said, SaysSites, SaysAt, SaysClient, SaysSend, SaysTake, SaysTick, SaysRemove, SaysReap, SaysEvict, SaysFill, SaysVersions, SaysRetire}
 use Rattle.geo_cluster.specs.Prints.{client_text, versions_text, trace_text}
 use Rattle.geo_cluster.specs.Connections.{IsNew, Brings}
 use Rattle.geo_cluster.specs.Progress.{Progress, known_in, parcels_in, can_come, followed}
@@ -37,6 +37,7 @@ can_carry p (SaysReap s key) = can_come p (Reap s p.moment key)
 can_carry p (SaysEvict s key) = can_come p (Evict s key)
 can_carry p (SaysFill s key bytes) = can_come p (Fill s key bytes)
 can_carry p (SaysVersions s) = is_site (length p.setups) s
+can_carry p (SaysRetire s t) = can_come p (Retire s t)
 
 -- a site's number, of how many it is one, its pages for values, how many records it may keep, and for how many seconds behind their
 -- end its own writes
@@ -127,3 +128,4 @@ SaidDoes old (SaysReap s key) text new = Happens old (Reap s old.moment key) tex
 SaidDoes old (SaysEvict s key) text new = Happens old (Evict s key) text new
 SaidDoes old (SaysFill s key bytes) text new = Happens old (Fill s key bytes) text new
 SaidDoes old (SaysVersions s) text new = Lists ((known_in old).at s) text × (new ≡ old)
+SaidDoes old (SaysRetire s t) text new = Happens old (Retire s t) text new

@@ -4,11 +4,13 @@ use Rattle.std.specs.List.{flat_map}
 use Rattle.geo_stamp.specs.Stamps.{Moment}
 use Rattle.geo_records.specs.declared.version.Version.{Version}
 use Rattle.geo_site.specs.declared.event.Trace.{Trace}
-use Rattle.geo_site.specs.declared.event.Trace.TheVariants.{Replied, Evicted, Sent, SendRefused, Taken, TakeRefused, Removed, Ticked, Reaped, ReapRefused, Filled as FilledAs, FillRefused}
+use Rattle.geo_site.specs.declared.event.Trace.TheVariants.{Replied, Evicted, Sent, SendRefused, Taken, TakeRefused, Removed, Ticked, Reaped, ReapRefused, Filled as FilledAs, FillRefused, Retired as RetiredAs, RetireRefused}
 use Rattle.geo_site.specs.declared.fill.Filled.{Filled}
 use Rattle.geo_site.specs.declared.fill.Filled.TheVariants.{NotNamed, Held, Full, Done}
 use Rattle.geo_site.specs.declared.refusal.TakeError.{TakeError}
-use Rattle.geo_site.specs.declared.refusal.TakeError.TheVariants.{NotForMe, UnknownSite, Gap, Memory}
+use Rattle.geo_site.specs.declared.refusal.TakeError.TheVariants.{NotForMe, UnknownSite, Retired, Gap, Memory}
+use Rattle.geo_site.specs.declared.refusal.SendError.{SendError}
+use Rattle.geo_site.specs.declared.refusal.SendError.TheVariants as send
 use Rattle.geo_site.specs.declared.refusal.ReapError.TheVariants as reap
 use Rattle.geo_cluster.specs.Escapes.{escaped, hex_digit}
 
@@ -23,12 +25,18 @@ number_text word number = word ++ decimal number ++ codes "\n"
 abbrev pub done_text : List ℕ → Bool → List ℕ
 done_text word done = if done then word else codes "nothing\n"
 
--- the number of each cause for which a parcel is refused, but for want of memory
+-- the number of each cause for which a parcel is not taken or not made, but for want of memory; that a site sends to itself no line says
 abbrev pub refused_text : TakeError → Option (List ℕ)
 refused_text NotForMe = Some (number_text (codes "refused ") 1)
 refused_text UnknownSite = Some (number_text (codes "refused ") 2)
+refused_text Retired = Some (number_text (codes "refused ") 5)
 refused_text Gap = Some (number_text (codes "refused ") 3)
 refused_text Memory = None
+
+abbrev pub unsent_text : SendError → Option (List ℕ)
+unsent_text send.NoSuchSite = None
+unsent_text send.Retired = Some (number_text (codes "refused ") 4)
+unsent_text send.Memory = None
 
 -- what came of bytes that were offered
 abbrev pub filled_text : Filled → List ℕ
@@ -43,7 +51,7 @@ abbrev pub trace_text : ℕ → Trace → Option (List ℕ)
 trace_text parcels (Replied reply victim) = None
 trace_text parcels (Evicted done) = Some (done_text (codes "evicted\n") done)
 trace_text parcels Sent = Some (number_text (codes "parcel ") parcels)
-trace_text parcels (SendRefused why) = None
+trace_text parcels (SendRefused why) = unsent_text why
 trace_text parcels Taken = Some (codes "taken\n")
 trace_text parcels (TakeRefused why) = refused_text why
 trace_text parcels (Removed horizon count) = Some (number_text (codes "removed ") count)
@@ -53,6 +61,8 @@ trace_text parcels (ReapRefused reap.ClockEnded) = Some (codes "clock ended\n")
 trace_text parcels (ReapRefused reap.Memory) = None
 trace_text parcels (FilledAs filled) = Some (filled_text filled)
 trace_text parcels FillRefused = None
+trace_text parcels (RetiredAs fresh) = Some (done_text (codes "retired\n") fresh)
+trace_text parcels (RetireRefused why) = None
 
 -- a stamp by its time and its site
 abbrev pub stamp_text : Moment → List ℕ

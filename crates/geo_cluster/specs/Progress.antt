@@ -10,6 +10,7 @@ use Rattle.geo_world.specs.Setups.{start}
 use Rattle.geo_world.specs.Doing.{RunsAlone}
 use Rattle.geo_world.specs.There.{is_there, EachThere}
 use Rattle.geo_world.specs.Tables.{empty_tables, EachTallies}
+use Rattle.geo_world.specs.Surviving.{named, EachStable}
 use Rattle.geo_cluster.specs.declared.script.connection.Connection.{Connection}
 
 -- the moment, what each site was told at its start, the events with their traces, and the connection of each site's client
@@ -47,12 +48,14 @@ followed p event trace = record {
 }
 
 -- the traces are those of a run: each event is there when it comes, each trace is one that its event can have, and tells what its site
--- keeps; values in replies are what was written, unless two that were written or offered have one SHA-256; and the sites that the setups open, each
--- with the pages that it is told, did all this one event after the other
+-- keeps; values in replies are what was written, unless two that were written or offered have one SHA-256; what removals go by is stable
+-- among the sites that no retirement names; and the sites that the setups open, each with the pages that it is told, did all this one
+-- event after the other
 pub record Runs (setups : List Setup) (events : List Event) (traces : List Trace) : Type 0 where
   pub there : EachThere (length setups) (start setups) events traces
   pub lawful : EachLawful (start setups) events traces
   pub tallies : EachTallies (start setups) (empty_tables (length setups)) events traces
   pub serves : NoCollision (known (start setups) events traces) events → AllServe (start setups) events traces
+  pub survivors : EachStable (named events) (start setups) events traces
   pub sites : List Site
   pub alone : RunsAlone setups events traces sites

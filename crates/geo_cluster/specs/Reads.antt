@@ -1,9 +1,9 @@
 -- The Rust type of a line as what it stands for, without where it lies in memory.
 use Rattle.std.specs.Prelude.{◌≢◌, ◌≤◌, ◌^◌}
-use Rattle.geo_cluster.specs.Sayings.{Said, SaysSites, SaysAt, SaysClient, SaysSend, SaysTake, SaysTick, SaysRemove, SaysReap, SaysEvict, SaysFill, SaysVersions}
+use Rattle.geo_cluster.specs.Sayings.{Said, SaysSites, SaysAt, SaysClient, SaysSend, SaysTake, SaysTick, SaysRemove, SaysReap, SaysEvict, SaysFill, SaysVersions, SaysRetire}
 use Rattle.geo_slabs.specs.Storage.{class_count, most_pages}
 use Rattle.geo_cluster.specs.declared.script.line.ScriptLine.{ScriptLine}
-use Rattle.geo_cluster.specs.declared.script.line.ScriptLine.TheVariants.{Sites, At, Client, Send, Take, Tick, Remove, Reap, Evict, Fill, Versions}
+use Rattle.geo_cluster.specs.declared.script.line.ScriptLine.TheVariants.{Sites, At, Client, Send, Take, Tick, Remove, Reap, Evict, Fill, Versions, Retire}
 
 -- what a line says
 abbrev pub said_by : ScriptLine → Said
@@ -18,6 +18,7 @@ said_by (Reap site key) = SaysReap site key
 said_by (Evict site key) = SaysEvict site key
 said_by (Fill site key text) = SaysFill site key text.items
 said_by (Versions site) = SaysVersions site
+said_by (Retire site other) = SaysRetire site other
 
 -- the numbers of sites are 1 to 16, pages 15 to 65,536, records at most 1 to 1,000,000, seconds of keeping at most 2^31 - 1, and
 -- moments 1 to 2^40
@@ -34,3 +35,4 @@ IsInRange (Reap site key) = (1 ≤ site) × (site ≤ 16)
 IsInRange (Evict site key) = (1 ≤ site) × (site ≤ 16)
 IsInRange (Fill site key text) = (1 ≤ site) × (site ≤ 16)
 IsInRange (Versions site) = (1 ≤ site) × (site ≤ 16)
+IsInRange (Retire site other) = (1 ≤ site) × (site ≤ 16) × (1 ≤ other) × (other ≤ 16) × (site ≢ other)

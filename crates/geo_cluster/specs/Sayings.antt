@@ -21,6 +21,7 @@ pub data Said : Type 0 where
   SaysEvict : (site : ℕ) (key : List ℕ) → Said
   SaysFill : (site : ℕ) (key bytes : List ℕ) → Said
   SaysVersions : (site : ℕ) → Said
+  SaysRetire : (site other : ℕ) → Said
 
 -- what stands before the first space, and what stands behind it
 abbrev pub split_of : List ℕ → Option (List ℕ × List ℕ)
@@ -93,6 +94,11 @@ abbrev pub send_said : List ℕ × List ℕ → Option Said
 send_said args = option_and_then (λ s. option_and_then (λ t. if s == t then None else Some (SaysSend s t)) (site_of args.1))
     (site_of args.0)
 
+-- nor does it retire itself
+abbrev pub retire_said : List ℕ × List ℕ → Option Said
+retire_said args = option_and_then (λ s. option_and_then (λ t. if s == t then None else Some (SaysRetire s t)) (site_of args.1))
+    (site_of args.0)
+
 abbrev pub take_said : List ℕ × List ℕ → Option Said
 take_said args = option_and_then (λ s. option_map (λ k. SaysTake s k) (parcel_of args.1)) (site_of args.0)
 
@@ -133,6 +139,15 @@ fill_said args = option_and_then (λ s. option_map (λ (p : KeyText). SaysFill s
 abbrev pub said_to_fill : List ℕ → Option Said
 said_to_fill args = option_and_then fill_said (split_of args)
 
+-- the lines with numbers alone that are no event of a site's own, or retire another
+abbrev pub said_by_other : List ℕ → List ℕ → Option Said
+said_by_other name args =
+    if bytes_eq name (codes "versions") then option_map (λ s. SaysVersions s) (site_of args)
+    else (if bytes_eq name (codes "at") then option_map (λ n. SaysAt n) (moment_of args)
+    else (if bytes_eq name (codes "sites") then sites_said args
+    else (if bytes_eq name (codes "retire") then option_and_then retire_said (split_of args)
+    else None)))
+
 abbrev pub said_by_name : List ℕ → List ℕ → Option Said
 said_by_name name args =
     if bytes_eq name (codes "client") then option_and_then client_said (split_of args)
@@ -142,11 +157,8 @@ said_by_name name args =
     else (if bytes_eq name (codes "remove") then option_map (λ s. SaysRemove s) (site_of args)
     else (if bytes_eq name (codes "reap") then said_to_reap args
     else (if bytes_eq name (codes "evict") then said_to_evict args
-    else (if bytes_eq name (codes "versions") then option_map (λ s. SaysVersions s) (site_of args)
-    else (if bytes_eq name (codes "at") then option_map (λ n. SaysAt n) (moment_of args)
-    else (if bytes_eq name (codes "sites") then sites_said args
     else (if bytes_eq name (codes "fill") then said_to_fill args
-    else None))))))))))
+    else said_by_other name args)))))))
 
 -- what a line says, if it says something
 abbrev pub said : List ℕ → Option Said

@@ -1,7 +1,7 @@
 -- Which lines memory may be wanted for.
 use Rattle.std.specs.Prelude.{◌≡◌, ℕ, ◌<◌, ◌||◌, Bool, true, false, List, ◌∷◌, length, Option, MatchOption, None, Some, codes, ◌⊎◌}
 use Rattle.std.specs.Str.{bytes_eq}
-use Rattle.geo_cluster.specs.Sayings.{Said, SaysSites, SaysAt, SaysClient, SaysSend, SaysTake, SaysTick, SaysRemove, SaysReap, SaysEvict, SaysFill, SaysVersions, said, skips, split_of}
+use Rattle.geo_cluster.specs.Sayings.{Said, SaysSites, SaysAt, SaysClient, SaysSend, SaysTake, SaysTick, SaysRemove, SaysReap, SaysEvict, SaysFill, SaysVersions, SaysRetire, said, skips, split_of}
 use Rattle.geo_site.specs.declared.event.Event.{Event}
 use Rattle.geo_cluster.specs.Progress.{Progress, can_come}
 use Rattle.geo_cluster.specs.Effects.{can_carry}
@@ -21,6 +21,7 @@ grows (SaysReap s key) = true
 grows (SaysEvict s key) = true
 grows (SaysFill s key bytes) = true
 grows (SaysVersions s) = true
+grows (SaysRetire s t) = true
 
 -- a line for which memory may be wanted: one that can be carried out, and for which something grows
 abbrev pub MayWant : Progress → List ℕ → Type 0

@@ -4,6 +4,7 @@ use Rattle.std.specs.List.{list_all}
 use Rattle.geo_delta.specs.declared.parcel.Parcel.{Parcel}
 use Rattle.geo_stamp.specs.Stamps.{Moment, last_time, most_sites}
 use Rattle.geo_stamp.specs.Vectors.{greatest_of}
+use Rattle.geo_stamp.specs.Retired.{set_fits}
 use Rattle.geo_records.specs.Keys.{is_key}
 use Rattle.geo_records.specs.Lengths.{longest_value}
 use Rattle.geo_versions.specs.Maps.{Rec, Rising, has_register, rec_means}
@@ -54,6 +55,8 @@ pub record InRange (p : Parcel) : Type 0 where
   pub vectors : length p.upto ≡ length p.base
   pub base : greatest_of p.base ≤ last_time
   pub upto : greatest_of p.upto ≤ last_time
+  pub retired : set_fits (length p.base) p.retired ≡ true
+  pub places : length p.retired ≡ 16
   pub floor : floor_fits (length p.base) p.floor ≡ true
   pub records : list_all (record_fits (length p.base)) p.records ≡ true
   pub rising : Rising p.records

@@ -7,7 +7,7 @@ ghost use Rattle.geo_delta.specs.Changes.{Traced, nothing_pending};
 use crate::buffer::Buffer;
 use crate::parcel::Parcel;
 use geo_lattice::Items;
-use geo_stamp::Vector;
+use geo_stamp::{Retired, Vector};
 use geo_versions::{Key, Rec, Versions};
 use std::alloc::{AllocError, Global};
 
@@ -40,10 +40,12 @@ pub fn cut(
     to: u8,
     base: &Vector,
     upto: &Vector,
+    retired: &Retired,
 ) -> Result<Parcel, AllocError>
     requires traced { Traced nothing_pending (record_in versions.now) changes.now }
     ensures sites { IfOk result (λ p. (p.from ≡ from) × (p.to ≡ to)) }
     ensures vectors { IfOk result (λ p. (p.base ≡ base.now) × (p.upto ≡ upto.now)) }
+    ensures retired { IfOk result (λ p. p.retired ≡ retired.now) }
     ensures floor { IfOk result (λ p. p.floor ≡ floor_in versions.now) }
     ensures rising { IfOk result (λ p. Rising p.records) }
     ensures delta { IfOk result (λ p. (q : List ℕ) → listed_at p.records q ≡ since base.now (record_in versions.now q)) }
@@ -54,6 +56,7 @@ pub fn cut(
         to,
         base: base.copied(),
         upto: upto.copied(),
+        retired: *retired,
         floor: versions.floor(),
         records: Items::of(lacking(alloc, versions, changes, base)?),
     })

@@ -2,7 +2,7 @@
 ghost use Rattle.std.specs.Prelude.{◌≡◌, IfOk};
 
 use geo_lattice::{Items, Twin};
-use geo_stamp::{Stamp, Vector};
+use geo_stamp::{Retired, Stamp, Vector};
 use geo_versions::{Key, Rec};
 use std::alloc::{AllocError, Global};
 
@@ -18,6 +18,8 @@ pub struct Parcel {
     pub base: Vector,
     /// What the sender knows.
     pub upto: Vector,
+    /// The sites that the sender holds for gone for good.
+    pub retired: Retired,
     /// The stamp up to which everything was flushed, if anything was.
     pub floor: Option<Stamp>,
     /// The records, by rising key.
@@ -44,6 +46,7 @@ impl Twin for Parcel {
             to: self.to,
             base: self.base.copied(),
             upto: self.upto.copied(),
+            retired: self.retired,
             floor: self.floor,
             records: Items::of(copied(alloc, self.records.as_slice())?),
         })

@@ -2,6 +2,7 @@
 ghost use Rattle.std.specs.Prelude.{◌≡◌, ℕ, List, length, true, None};
 ghost use Rattle.std.specs.List.{All, list_all};
 ghost use Rattle.geo_stamp.specs.Stamps.{most_sites};
+ghost use Rattle.geo_stamp.specs.Retired.{set_fits};
 ghost use Rattle.geo_versions.specs.Maps.{Rising, listed_at, rec_means};
 ghost use Rattle.geo_delta.specs.Changes.{knows_floor, knows_record};
 ghost use Rattle.geo_delta.specs.Ranges.{InRange, body_fits, content_fits, expiry_fits, floor_fits, is_ranged, sites_fit, stamp_fits};
@@ -73,11 +74,12 @@ fn records_are_ranged(records: &[(Key, Rec)])
     }
 }
 
-/// A parcel is within the ranges of a frame where it goes from one of 2 to 16 sites to another and its vectors, both of so many,
-/// know what it tells: the rest is so by the types. Each record is looked at, and nothing is decided by what is seen.
+/// A parcel is within the ranges of a frame where it goes from one of 2 to 16 sites to another, its vectors, both of so many, know
+/// what it tells, and no site past them is held for retired: the rest is so by the types. Each record is looked at, and nothing is decided by what is seen.
 pub fn stays_in_range(parcel: &Parcel)
     requires sites { sites_fit parcel.now.from parcel.now.to (length parcel.now.base) ≡ true }
     requires vectors { length parcel.now.upto ≡ length parcel.now.base }
+    requires retired { set_fits (length parcel.now.base) parcel.now.retired ≡ true }
     requires floor_known { knows_floor parcel.now.upto parcel.now.floor ≡ true }
     requires records_known { (q : List ℕ) → knows_record parcel.now.upto (listed_at parcel.now.records q) ≡ true }
     requires filled { All (λ e. rec_means e.1 ≡ (None, None) → ⊥) parcel.now.records }
@@ -86,6 +88,7 @@ pub fn stays_in_range(parcel: &Parcel)
 {
     let _base = parcel.base.greatest();
     let _upto = parcel.upto.greatest();
+    let _retired = parcel.retired.bits();
     floor_is_ranged(parcel.floor);
     records_are_ranged(parcel.records.as_slice());
 }

@@ -33,6 +33,7 @@ impl Equal for Event {
                     bytes: bytes2,
                 },
             ) => key.equals(key2) && bytes.equals(bytes2),
+            (Event::Retire { other }, Event::Retire { other: other2 }) => *other == *other2,
             _ => false,
         }
     }
@@ -48,10 +49,12 @@ impl Equal for Answer {
             (Answer::TakeRefused(one), Answer::TakeRefused(two)) => *one == *two,
             (Answer::ReapRefused(one), Answer::ReapRefused(two)) => *one == *two,
             (Answer::Filled(one), Answer::Filled(two)) => *one == *two,
+            (Answer::RetireRefused(one), Answer::RetireRefused(two)) => *one == *two,
             (Answer::Removed(one), Answer::Removed(two)) => *one == *two,
             (Answer::Evicted(one), Answer::Evicted(two))
             | (Answer::Ticked(one), Answer::Ticked(two))
-            | (Answer::Reaped(one), Answer::Reaped(two)) => *one == *two,
+            | (Answer::Reaped(one), Answer::Reaped(two))
+            | (Answer::Retired(one), Answer::Retired(two)) => *one == *two,
             _ => false,
         }
     }

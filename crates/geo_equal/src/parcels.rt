@@ -4,10 +4,16 @@ ghost use Rattle.std.specs.Prelude.{◌≡◌, ◌≢◌, MatchBool};
 use crate::{Equal, is_same};
 use geo_delta::Parcel;
 use geo_lattice::{Exact, Lattice, Lww, Pair};
-use geo_stamp::{Stamp, Vector};
+use geo_stamp::{Retired, Stamp, Vector};
 use geo_versions::{Key, Rec};
 
 impl Equal for Vector {
+    fn equals(&self, other: &Self) -> bool {
+        self.covers(other) && other.covers(self)
+    }
+}
+
+impl Equal for Retired {
     fn equals(&self, other: &Self) -> bool {
         self.covers(other) && other.covers(self)
     }
@@ -49,6 +55,7 @@ impl Equal for Parcel {
             && self.to == other.to
             && self.base.equals(&other.base)
             && self.upto.equals(&other.upto)
+            && self.retired.equals(&other.retired)
             && is_floor(self.floor, other.floor)
             && self.records.equals(&other.records)
     }

@@ -1,8 +1,8 @@
 -- A field that is read is the field that was written, and what was written is read again.
-use Rattle.std.proofs.Common.{◌≡◌, ℕ, zero, suc, ◌+◌, ◌^◌, ◌<◌, ◌≤◌, Bool, true, false, cond, ◌&&◌, eqb, ltb, leb, List, [], ◌∷◌, ◌++◌, length, get_or, take, drop, Option, Some, None, Result, Ok, Err, refl, sym, ap, subst, ◌∙◌, append_assoc, arith, inl, inr}
+use Rattle.std.proofs.Common.{◌≡◌, ℕ, zero, suc, ◌+◌, ◌^◌, ◌<◌, ◌≤◌, Bool, true, false, cond, ◌&&◌, eqb, ltb, leb, List, [], ◌∷◌, ◌++◌, length, get_or, take, drop, Option, Some, None, Result, Ok, Err, refl, sym, ap, subst, ◌∙◌, append_assoc, arith, inl, inr, true≢false, eq-eqb}
 use Rattle.std.specs.Prelude.{◌⊎◌}
 use Rattle.std.specs.Int.{w32, w64, from_be_bytes}
-use Rattle.std.proofs.lemmas.Bool.{cases_lt, ltb-false, le-ltb, eqb-true, leb-true, le-leb}
+use Rattle.std.proofs.lemmas.Bool.{cases_lt, ltb-true, lt-ltb, ltb-false, le-ltb, eqb-true, leb-true, le-leb}
 use Rattle.std.proofs.lemmas.List.{take_at, drop_at, take-append-drop, length-append, length-take, get_or-drop, get_or-take, get_or_past}
 use Rattle.std.proofs.lemmas.List.Concat.{flat_map-cons}
 use Rattle.std.proofs.lemmas.Nat.{be_bytes_4, be_bytes_8, from_be_bytes-to_be_bytes_4, from_be_bytes-to_be_bytes_8}
@@ -13,7 +13,10 @@ use Rattle.geo_frame.specs.declared.fault.FrameFault.TheVariants.{Field}
 use Rattle.geo_frame.specs.declared.route.Route.{Route}
 use Rattle.geo_delta.specs.Ranges.{sites_fit, stamp_fits, floor_fits}
 use Rattle.geo_frame.specs.Spelling.{four, eight, stamp_bytes, vector_bytes, floor_bytes, sites_bytes, retired_bytes}
-use Rattle.geo_frame.specs.Reading.{◌>>=◌, Read, moment, part_at, byte_at, four_at, eight_at, stamp_at, floor_at, time_at, vector_at, sites_at, none_at, retired_at}
+use Rattle.geo_stamp.specs.Retired.{no_sites, set_fits, set_bits, bits_set}
+use Rattle.geo_stamp.proofs.Sets.{fits_none, bits_back, bits_fit, bits_length, set_back, set_bits_fit, set_bits_few}
+use Rattle.std.proofs.Math.Nat.{pow-le-pow_right}
+use Rattle.geo_frame.specs.Reading.{◌>>=◌, Read, moment, part_at, byte_at, four_at, eight_at, stamp_at, floor_at, time_at, vector_at, sites_at, set_at, retired_at}
 use Rattle.geo_frame.proofs.Lengths.{four_length, eight_length}
 
 -- ---- tools
@@ -288,30 +291,51 @@ sites_again from to n rest h = rw h refl
 
 -- ---- retired sites
 
-none_takes : (bytes rest : List ℕ) → IsBytes bytes → none_at bytes ≡ Ok rest → Takes bytes (eight 0) rest
-unfolding none_at
-none_takes bytes rest fits e =
-    let a = bind_ok (eight_at bytes) (λ set. cond (eqb set.0 0) (Ok set.1) (Err Field)) rest e in
-    let g = pass_ok (eqb a.0.0 0) Field a.0.1 rest a.2 in
+-- a set of sites up to a number
+pub record IsSet (n : ℕ) (set : List Bool) : Type 0 where
+  pub fits : set_fits n set ≡ true
+  pub places : length set ≡ 16
+
+power_most : (n : ℕ) → n ≤ 16 → 2 ^ n ≤ 65536
+power_most n le = pow-le-pow_right {n = 2} (omega arith) le
+
+set_takes : (n : ℕ) (bytes : List ℕ) (set : List Bool) (rest : List ℕ) → n ≤ 16 → IsBytes bytes → set_at n bytes ≡ Ok (set, rest) → Takes bytes (eight (set_bits set)) rest × IsSet n set
+unfolding set_at
+set_takes n bytes set rest few fits e =
+    let a = bind_ok (eight_at bytes) (λ bits. cond (ltb bits.0 (2 ^ n)) (Ok (bits_set 16 bits.0, bits.1)) (Err Field)) (set, rest) e in
+    let g = pass_ok (ltb a.0.0 (2 ^ n)) Field (bits_set 16 a.0.0, a.0.1) (set, rest) a.2 in
+    let lt : a.0.0 < 2 ^ n = ltb-true _ _ g.0 in
+    let most = power_most n few in
     let t = eight_takes bytes a.0.0 a.0.1 fits a.1 in
-    subst (λ (r : List ℕ). Takes bytes (eight 0) r) g.1 (subst (λ (n : ℕ). Takes bytes (eight n) a.0.1) (eqb-true a.0.0 0 g.0) t.0)
+    let back : set_bits (bits_set 16 a.0.0) ≡ a.0.0 = bits_back 16 a.0.0 (omega (arith, lt, most)) in
+    subst (λ (p : List Bool × List ℕ). Takes bytes (eight (set_bits p.0)) p.1 × IsSet n p.0) g.1
+    (subst (λ (k : ℕ). Takes bytes (eight k) a.0.1) (sym back) t.0, record { fits = bits_fit 16 n a.0.0 lt; places = bits_length 16 a.0.0 })
 
-none_again : (rest : List ℕ) → none_at (eight 0 ++ rest) ≡ Ok rest
-unfolding none_at
-none_again rest = rw (eight_again 0 rest (omega arith)) refl
+set_again : (n : ℕ) (set : List Bool) (rest : List ℕ) → IsSet n set → set_at n (eight (set_bits set) ++ rest) ≡ Ok (set, rest)
+unfolding set_at
+set_again n set rest h =
+    let lt : set_bits set < 2 ^ n = set_bits_fit n set h.fits in
+    let few : set_bits set < 65536 = set_bits_few set 16 (omega (arith, h.places)) in
+    rw (eight_again (set_bits set) rest (omega (arith, few)), lt-ltb _ _ lt, set_back 16 set h.places) refl
 
-pub retired_takes : (version : ℕ) (bytes rest : List ℕ) → IsBytes bytes → retired_at version bytes ≡ Ok rest → Takes bytes (retired_bytes version) rest
+-- version 1 tells of none
+pub record IsRetired (version n : ℕ) (set : List Bool) : Type 0 where
+  pub is_set : IsSet n set
+  pub none : version ≡ 1 → set ≡ no_sites
+
+pub retired_takes : (version n : ℕ) (bytes : List ℕ) (set : List Bool) (rest : List ℕ) → n ≤ 16 → IsBytes bytes → retired_at version n bytes ≡ Ok (set, rest) → Takes bytes (retired_bytes version set) rest × IsRetired version n set
 unfolding retired_at retired_bytes
-retired_takes version bytes rest fits e =
-    elim (chosen (eqb version 1) (Ok bytes) (none_at bytes) (Ok rest) e) [
-      | inl c ↦ rw c.0 (subst (λ (r : List ℕ). Takes bytes [] r) (ok_is bytes rest c.1) (record { parts = refl; rest_fits = fits }))
-      | inr c ↦ rw c.0 (none_takes bytes rest fits c.1)
+retired_takes version n bytes set rest few fits e =
+    elim (chosen (eqb version 1) (Ok (no_sites, bytes)) (set_at n bytes) (Ok (set, rest)) e) [
+      | inl c ↦ rw c.0 (subst (λ (p : List Bool × List ℕ). Takes bytes [] p.1 × IsRetired version n p.0) (ok_is (no_sites, bytes) (set, rest) c.1)
+          (record { parts = refl; rest_fits = fits }, record { is_set = record { fits = fits_none n; places = refl }; none = λ _. refl }))
+      | inr c ↦ let t = set_takes n bytes set rest few fits c.1 in rw c.0 (t.0, record { is_set = t.1; none = λ one. absurd (true≢false (sym (eq-eqb version 1 one) ∙ c.0)) })
     ]
 
-pub retired_again : (version : ℕ) (rest : List ℕ) → retired_at version (retired_bytes version ++ rest) ≡ Ok rest
+pub retired_again : (version n : ℕ) (set : List Bool) (rest : List ℕ) → IsRetired version n set → retired_at version n (retired_bytes version set ++ rest) ≡ Ok (set, rest)
 unfolding retired_at retired_bytes
-retired_again version rest = by (eqb version 1)
+retired_again version n set rest h = by (eqb version 1) refl
   where
-    by : (old : Bool) → cond old (Ok (cond old [] (eight 0) ++ rest)) (none_at (cond old [] (eight 0) ++ rest)) ≡ Ok rest
-    by true = refl
-    by false = none_again rest
+    by : (old : Bool) → eqb version 1 ≡ old → cond old (Ok (no_sites, cond old [] (eight (set_bits set)) ++ rest)) (set_at n (cond old [] (eight (set_bits set)) ++ rest)) ≡ Ok (set, rest)
+    by true e = let none = h.none (eqb-true version 1 e) in ap (λ (s : List Bool). Ok (s, rest)) (sym none)
+    by false e = set_again n set rest h.is_set

@@ -10,6 +10,7 @@ use Rattle.sha2.specs.Sha256.{sha256}
 use Rattle.sha2.proofs.Facts256.{length-sha256}
 use Rattle.geo_delta.specs.declared.parcel.Parcel.{Parcel}
 use Rattle.geo_delta.specs.Ranges.{InRange}
+use Rattle.geo_stamp.specs.Retired.{no_sites}
 use Rattle.geo_frame.specs.declared.fault.FrameFault.{FrameFault}
 use Rattle.geo_frame.specs.declared.fault.FrameFault.TheVariants.{Short, Magic, Version, Field, Damaged, Trailing, Memory}
 use Rattle.geo_frame.specs.declared.message.Message.{Message}
@@ -150,7 +151,7 @@ frame_takes bytes m fits e =
     elim (payload_takes (version_field bytes) a.0 m f.fits a.2) [
       | Old old told ↦
           let is : bytes ≡ old_frame_of told.parcel = f.whole ∙ (λ i. framed (old i) (told.spelled i)) in
-          subst (λ (m : Payload). PayloadInRange m × IsFrameOf bytes m × (length bytes ≤ longest_frame)) (sym told.told) (told.ranges, inr is, f.most)
+          subst (λ (m : Payload). PayloadInRange m × IsFrameOf bytes m × (length bytes ≤ longest_frame)) (sym told.told) (told.ranges, inr (is, told.none refl), f.most)
       | New new ranges spelled ↦ (ranges, is_new m bytes (f.whole ∙ (λ i. framed (two_is (version_field bytes) f.version new i) (spelled i))), f.most)
     ]
 
@@ -224,16 +225,16 @@ new_again m h most =
     let size = frame_size m in
     message_again 2 (fields_of m) m refl (omega (arith, least_of m h, size)) (omega (arith, most, size)) (fields_again m h (few_in m most))
 
-told_before : (p : Parcel) → InRange p → length (old_frame_of p) ≤ longest_frame → frame_in (old_frame_of p) ≡ Ok (Tells p)
+told_before : (p : Parcel) → InRange p → p.retired ≡ no_sites → length (old_frame_of p) ≤ longest_frame → frame_in (old_frame_of p) ≡ Ok (Tells p)
 unfolding old_frame_of
-told_before p h most =
+told_before p h none most =
     let n = old_frame_length p in
     let size = framed_length 1 (parcel_bytes 1 p) in
-    message_again 1 (parcel_bytes 1 p) (Tells p) refl (omega (arith, n, size, two_sites p h)) (omega (arith, size, most)) (old_again p h (omega (arith, n, records_few p.records, most)))
+    message_again 1 (parcel_bytes 1 p) (Tells p) refl (omega (arith, n, size, two_sites p h)) (omega (arith, size, most)) (old_again p h none (omega (arith, n, records_few p.records, most)))
 
 pub frame_again : (m : Payload) (frame : List ℕ) → PayloadInRange m → IsFrameOf frame m → length frame ≤ longest_frame → frame_in frame ≡ Ok m
 frame_again (Tells p) frame h (inl e) most = ap frame_in e ∙ new_again (Tells p) h (subst (λ (x : List ℕ). length x ≤ longest_frame) e most)
-frame_again (Tells p) frame h (inr e) most = ap frame_in e ∙ told_before p h (subst (λ (x : List ℕ). length x ≤ longest_frame) e most)
+frame_again (Tells p) frame h (inr e) most = ap frame_in e.0 ∙ told_before p h e.1 (subst (λ (x : List ℕ). length x ≤ longest_frame) e.0 most)
 frame_again (Asks w) frame h e most = ap frame_in e ∙ new_again (Asks w) h (subst (λ (x : List ℕ). length x ≤ longest_frame) e most)
 frame_again (Offers w b) frame h e most = ap frame_in e ∙ new_again (Offers w b) h (subst (λ (x : List ℕ). length x ≤ longest_frame) e most)
 
@@ -265,7 +266,7 @@ field_of_old p frame more e most =
 
 field_of_frame : (m : Payload) (frame more : List ℕ) → IsFrameOf frame m → length frame ≤ longest_frame → length_field (frame ++ more) ≡ length frame
 field_of_frame (Tells p) frame more (inl e) most = field_of_new (Tells p) frame more e most
-field_of_frame (Tells p) frame more (inr e) most = field_of_old p frame more e most
+field_of_frame (Tells p) frame more (inr e) most = field_of_old p frame more e.0 most
 field_of_frame (Asks w) frame more e most = field_of_new (Asks w) frame more e most
 field_of_frame (Offers w b) frame more e most = field_of_new (Offers w b) frame more e most
 

@@ -1,5 +1,5 @@
 -- How long the parts of a frame are.
-use Rattle.std.proofs.Common.{◌≡◌, ℕ, ◌+◌, ◌*◌, ◌≤◌, List, [], ◌∷◌, ◌++◌, length, Option, None, Some, refl, ap, ◌∙◌, arith}
+use Rattle.std.proofs.Common.{Bool, ◌≡◌, ℕ, ◌+◌, ◌*◌, ◌≤◌, List, [], ◌∷◌, ◌++◌, length, Option, None, Some, refl, ap, ◌∙◌, arith}
 use Rattle.std.specs.List.{flat_map}
 use Rattle.std.proofs.lemmas.List.{length-append}
 use Rattle.std.proofs.lemmas.List.Concat.{flat_map-cons}
@@ -65,15 +65,15 @@ pub records_length : (rs : List (List ℕ × Rec)) → length (records_bytes rs)
 unfolding records_bytes
 records_length rs = omega (arith, length-append (four (length rs)) (flat_map record_bytes rs), four_length (length rs))
 
-retired_old : length (retired_bytes 1) ≡ 0
+retired_old : (set : List Bool) → length (retired_bytes 1 set) ≡ 0
 unfolding retired_bytes
-retired_old = refl
+retired_old set = refl
 
-retired_new : length (retired_bytes 2) ≡ 8
+retired_new : (set : List Bool) → length (retired_bytes 2 set) ≡ 8
 unfolding retired_bytes eight
-retired_new = refl
+retired_new set = refl
 
-pub parcel_length : (version : ℕ) (p : Parcel) → length (parcel_bytes version p) ≡ 16 + length (retired_bytes version) + 8 * (length p.base + length p.upto) + length (flat_map record_bytes p.records)
+pub parcel_length : (version : ℕ) (p : Parcel) → length (parcel_bytes version p) ≡ 16 + length (retired_bytes version p.retired) + 8 * (length p.base + length p.upto) + length (flat_map record_bytes p.records)
 unfolding parcel_bytes sites_bytes
 parcel_length version p =
     omega (
@@ -82,9 +82,9 @@ parcel_length version p =
       vector_length p.upto,
       floor_length p.floor,
       records_length p.records,
-      length-append (vector_bytes p.base ++ vector_bytes p.upto ++ retired_bytes version ++ floor_bytes p.floor) (records_bytes p.records),
-      length-append (vector_bytes p.base ++ vector_bytes p.upto ++ retired_bytes version) (floor_bytes p.floor),
-      length-append (vector_bytes p.base ++ vector_bytes p.upto) (retired_bytes version),
+      length-append (vector_bytes p.base ++ vector_bytes p.upto ++ retired_bytes version p.retired ++ floor_bytes p.floor) (records_bytes p.records),
+      length-append (vector_bytes p.base ++ vector_bytes p.upto ++ retired_bytes version p.retired) (floor_bytes p.floor),
+      length-append (vector_bytes p.base ++ vector_bytes p.upto) (retired_bytes version p.retired),
       length-append (vector_bytes p.base) (vector_bytes p.upto),
     )
 
@@ -129,11 +129,11 @@ unfolding frame_of
 frame_size m = framed_length 2 (fields_of m)
 
 pub frame_length : (p : Parcel) → length (frame_of (Tells p)) ≡ 66 + 8 * (length p.base + length p.upto) + length (flat_map record_bytes p.records)
-frame_length p = omega (arith, frame_size (Tells p), tells_length p, parcel_length 2 p, retired_new)
+frame_length p = omega (arith, frame_size (Tells p), tells_length p, parcel_length 2 p, retired_new p.retired)
 
 pub old_frame_length : (p : Parcel) → length (old_frame_of p) ≡ 57 + 8 * (length p.base + length p.upto) + length (flat_map record_bytes p.records)
 unfolding old_frame_of
-old_frame_length p = omega (arith, framed_length 1 (parcel_bytes 1 p), parcel_length 1 p, retired_old)
+old_frame_length p = omega (arith, framed_length 1 (parcel_bytes 1 p), parcel_length 1 p, retired_old p.retired)
 
 pub ask_frame_length : (w : Wanted) → length (frame_of (Asks w)) ≡ 46 + length w.key + length w.digest
 ask_frame_length w = omega (arith, frame_size (Asks w), asks_length w, wanted_length w)

@@ -1,5 +1,5 @@
 -- Want of memory is no fault of the bytes.
-use Rattle.std.proofs.Common.{◌≡◌, ℕ, zero, suc, ◌+◌, Bool, true, false, cond, ◌&&◌, eqb, ltb, nat_le, List, [], ◌∷◌, length, Result, Ok, Err, IsOk, subst, sym, refl, arith}
+use Rattle.std.proofs.Common.{◌≡◌, ℕ, zero, suc, ◌+◌, ◌^◌, Bool, true, false, cond, ◌&&◌, eqb, ltb, nat_le, List, [], ◌∷◌, length, Result, Ok, Err, IsOk, subst, sym, refl, arith}
 use Rattle.geo_frame.specs.declared.fault.FrameFault.{FrameFault}
 use Rattle.geo_frame.specs.declared.fault.FrameFault.TheVariants.{Field, Order, Memory}
 use Rattle.geo_stamp.specs.Stamps.{last_time}
@@ -10,7 +10,7 @@ use Rattle.std.specs.Cmp.Lexicographic.{slice_cmp}
 use Rattle.geo_records.specs.Keys.{is_key}
 use Rattle.geo_records.specs.Lengths.{longest_value}
 use Rattle.geo_frame.proofs.Fields.{bind_ok}
-use Rattle.geo_frame.specs.Reading.{◌>>=◌, key_at, record_at, last_key, moment, part_at, byte_at, four_at, eight_at, floor_at, time_at, vector_at, sites_at, size_at, none_at, retired_at, wanted_at, bytes_at, tagged_bytes, offered_at, ask_in, offer_in}
+use Rattle.geo_frame.specs.Reading.{◌>>=◌, key_at, record_at, last_key, moment, part_at, byte_at, four_at, eight_at, floor_at, time_at, vector_at, sites_at, size_at, set_at, retired_at, wanted_at, bytes_at, tagged_bytes, offered_at, ask_in, offer_in}
 
 abbrev pub Clean : {A : Type 0} → Result A FrameFault → Type 0
 Clean (Ok x) = Unit {0}
@@ -73,13 +73,13 @@ unfolding key_at
 clean_key before bytes = clean_then (byte_at bytes) _ (clean_byte bytes) (λ size. clean_then (part_at size.0 size.1) _ (clean_part size.0 size.1) (λ key.
     clean_cond (is_key key.0) _ _ (clean_cond (is_lt (slice_cmp nat_cmp before key.0)) _ _ tt order) field))
 
-clean_none : (bytes : List ℕ) → Clean (none_at bytes)
-unfolding none_at
-clean_none bytes = clean_then (eight_at bytes) _ (clean_eight bytes) (λ set. clean_cond (eqb set.0 0) _ _ tt field)
+clean_set : (n : ℕ) (bytes : List ℕ) → Clean (set_at n bytes)
+unfolding set_at
+clean_set n bytes = clean_then (eight_at bytes) _ (clean_eight bytes) (λ bits. clean_cond (ltb bits.0 (2 ^ n)) _ _ tt field)
 
-pub clean_retired : (version : ℕ) (bytes : List ℕ) → Clean (retired_at version bytes)
+pub clean_retired : (version n : ℕ) (bytes : List ℕ) → Clean (retired_at version n bytes)
 unfolding retired_at
-clean_retired version bytes = clean_cond (eqb version 1) _ _ tt (clean_none bytes)
+clean_retired version n bytes = clean_cond (eqb version 1) _ _ tt (clean_set n bytes)
 
 -- ---- asks and offers
 

@@ -1,5 +1,5 @@
 -- Reading a frame from left to right, with the first fault that is met.
-use Rattle.std.specs.Prelude.{◌≡◌, ℕ, zero, suc, ◌-◌, ◌==◌, nat_le, nat_lt, Bool, not, ◌&&◌, ◌||◌, List, [], ◌∷◌, length, take, drop, slice_index, codes, Option, None, Some, Result, Ok, Err, if◌then◌else◌}
+use Rattle.std.specs.Prelude.{◌≡◌, ℕ, zero, suc, ◌-◌, ◌^◌, ◌==◌, nat_le, nat_lt, Bool, not, ◌&&◌, ◌||◌, List, [], ◌∷◌, length, take, drop, slice_index, codes, Option, None, Some, Result, Ok, Err, if◌then◌else◌}
 use Rattle.std.specs.Int.{w32, w64, from_be_bytes}
 use Rattle.std.specs.Ordering.{nat_cmp, is_lt}
 use Rattle.std.specs.Cmp.Lexicographic.{slice_cmp}
@@ -7,6 +7,7 @@ use Rattle.std.specs.Str.{bytes_eq}
 use Rattle.sha2.specs.Sha256.{sha256}
 use Rattle.geo_delta.specs.declared.parcel.Parcel.{Parcel}
 use Rattle.geo_stamp.specs.Stamps.{Moment, last_time}
+use Rattle.geo_stamp.specs.Retired.{no_sites, bits_set}
 use Rattle.geo_records.specs.Keys.{is_key}
 use Rattle.geo_versions.specs.Maps.{Rec, has_register}
 use Rattle.geo_records.specs.Operations.{Register}
@@ -208,25 +209,33 @@ all_records n bytes = do
 
 -- ---- parcels
 
--- no bit is set
-unfoldable pub none_at : List ℕ → Result (List ℕ) FrameFault
-none_at bytes = do
-  set ← eight_at bytes
-  if set.0 == 0 then Ok set.1 else Err Field
+-- a set of so many sites, each a bit: none is set for a site past them
+unfoldable pub set_at : ℕ → List ℕ → Read (List Bool)
+set_at n bytes = do
+  bits ← eight_at bytes
+  if nat_lt bits.0 (2 ^ n) then Ok (bits_set 16 bits.0, bits.1) else Err Field
 
--- the bytes behind the sites that have retired: version 1 has no such field
-unfoldable pub retired_at : ℕ → List ℕ → Result (List ℕ) FrameFault
-retired_at version bytes = if version == 1 then Ok bytes else none_at bytes
+-- the sites that have retired: version 1 has no such field
+unfoldable pub retired_at : ℕ → ℕ → List ℕ → Read (List Bool)
+retired_at version n bytes = if version == 1 then Ok (no_sites, bytes) else set_at n bytes
 
 unfoldable pub parcel_in : ℕ → List ℕ → Result Parcel FrameFault
 parcel_in version bytes = do
   sites ← sites_at bytes
   base ← vector_at sites.0.sites sites.1
   upto ← vector_at sites.0.sites base.1
-  behind ← retired_at version upto.1
-  floor ← floor_at sites.0.sites behind
+  retired ← retired_at version sites.0.sites upto.1
+  floor ← floor_at sites.0.sites retired.1
   records ← all_records sites.0.sites floor.1
-  Ok (record { from = sites.0.from; to = sites.0.to; base = base.0; upto = upto.0; floor = floor.0; records = records })
+  Ok (record {
+    from = sites.0.from;
+    to = sites.0.to;
+    base = base.0;
+    upto = upto.0;
+    retired = retired.0;
+    floor = floor.0;
+    records = records;
+  })
 
 -- ---- asks and offers
 
@@ -299,14 +308,14 @@ first_key_at bytes = do
   count ← four_at bytes
   if count.0 == 0 then Err Field else key_at [] count.1
 
--- behind the sites, the vectors, the floor and the number of records
+-- behind the sites, the vectors, the retired, the floor and the number of records
 unfoldable pub first_key_of : ℕ → List ℕ → Read (List ℕ)
 first_key_of version fields = do
   sites ← sites_at fields
   base ← vector_at sites.0.sites sites.1
   upto ← vector_at sites.0.sites base.1
-  behind ← retired_at version upto.1
-  floor ← floor_at sites.0.sites behind
+  retired ← retired_at version sites.0.sites upto.1
+  floor ← floor_at sites.0.sites retired.1
   first_key_at floor.1
 
 -- of an ask or an offer memory is asked for nowhere before all of it is read

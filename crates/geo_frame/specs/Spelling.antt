@@ -1,10 +1,11 @@
 -- The bytes of a frame, part by part. All numbers are big-endian.
-use Rattle.std.specs.Prelude.{◌≡◌, ◌⊎◌, ℕ, ◌+◌, ◌==◌, List, [], ◌∷◌, ◌++◌, length, codes, Option, None, Some, if◌then◌else◌}
+use Rattle.std.specs.Prelude.{◌≡◌, ◌⊎◌, Bool, ℕ, ◌+◌, ◌==◌, List, [], ◌∷◌, ◌++◌, length, codes, Option, None, Some, if◌then◌else◌}
 use Rattle.std.specs.List.{flat_map}
 use Rattle.std.specs.Int.{w32, w64, to_be_bytes}
 use Rattle.sha2.specs.Sha256.{sha256}
 use Rattle.geo_delta.specs.declared.parcel.Parcel.{Parcel}
 use Rattle.geo_stamp.specs.Stamps.{Moment}
+use Rattle.geo_stamp.specs.Retired.{no_sites, set_bits}
 use Rattle.geo_versions.specs.Maps.{Rec}
 use Rattle.geo_records.specs.Operations.{Register}
 use Rattle.geo_records.specs.declared.body.Body.{Body}
@@ -59,14 +60,14 @@ records_bytes records = four (length records) ++ flat_map record_bytes records
 unfoldable pub sites_bytes : ℕ → ℕ → ℕ → List ℕ
 sites_bytes from to n = from ∷ to ∷ n ∷ []
 
--- the sites that have retired, a bit each, of which there are none so far; version 1 has no such field
-unfoldable pub retired_bytes : ℕ → List ℕ
-retired_bytes version = if version == 1 then [] else eight 0
+-- the sites that have retired, a bit each; version 1 has no such field
+unfoldable pub retired_bytes : ℕ → List Bool → List ℕ
+retired_bytes version set = if version == 1 then [] else eight (set_bits set)
 
 -- the fields of a parcel in a version
 unfoldable pub parcel_bytes : ℕ → Parcel → List ℕ
 parcel_bytes version p = sites_bytes p.from p.to (length p.base) ++ vector_bytes p.base ++ vector_bytes p.upto
-    ++ retired_bytes version ++ floor_bytes p.floor ++ records_bytes p.records
+    ++ retired_bytes version p.retired ++ floor_bytes p.floor ++ records_bytes p.records
 
 -- between which sites, the key, and the digest
 unfoldable pub wanted_bytes : Wanted → List ℕ
@@ -98,13 +99,13 @@ framed version fields = content_of version fields ++ sha256 (content_of version 
 unfoldable pub frame_of : Payload → List ℕ
 frame_of m = framed 2 (fields_of m)
 
--- version 1, which has parcels alone, as it was written before
+-- version 1, which has parcels alone, and of these only such without retired sites
 unfoldable pub old_frame_of : Parcel → List ℕ
 old_frame_of p = framed 1 (parcel_bytes 1 p)
 
 -- one spelling in each version
 abbrev pub IsFrameOf : List ℕ → Payload → Type 0
-IsFrameOf bytes (Tells p) = (bytes ≡ frame_of (Tells p)) ⊎ (bytes ≡ old_frame_of p)
+IsFrameOf bytes (Tells p) = (bytes ≡ frame_of (Tells p)) ⊎ ((bytes ≡ old_frame_of p) × (p.retired ≡ no_sites))
 IsFrameOf bytes (Asks w) = bytes ≡ frame_of (Asks w)
 IsFrameOf bytes (Offers w b) = bytes ≡ frame_of (Offers w b)
 

@@ -1,11 +1,11 @@
 //! The bytes of a frame, read from the front.
 ghost use Rattle.std.specs.Prelude.{◌≡◌, ◌≤◌, IfOk, MatchOption, true, false};
 ghost use Rattle.geo_delta.specs.Ranges.{stamp_fits};
-ghost use Rattle.geo_frame.specs.Reading.{Says, Reads, moment, part_at, byte_at, four_at, eight_at, stamp_at, floor_at, time_at, none_at, retired_at};
+ghost use Rattle.geo_frame.specs.Reading.{Reads, moment, part_at, byte_at, four_at, eight_at, stamp_at, floor_at, time_at, set_at, retired_at};
 
 use crate::fault::FrameFault;
 use crate::limits::{DIGEST, OLD_VERSION};
-use geo_stamp::{LAST_TIME, Stamp};
+use geo_stamp::{LAST_TIME, Retired, Stamp};
 use geo_versions::Digest;
 
 /// What is left to be read. Behind a fault nothing more is to be read.
@@ -131,25 +131,29 @@ impl<'a> Bytes<'a> {
         }
         Ok(time)
     }
-    /// A set of sites of which there are none.
-    #[tactic(auto, unfolding(crate::specs::Reading::none_at))]
-    fn take_none(&mut self) -> Result<(), FrameFault>
-        ensures { Says (λ _. self.new.left.now) result (none_at self.old.left.now) }
+
+    /// A set of so many sites, each a bit.
+    #[tactic(auto, unfolding(crate::specs::Reading::set_at))]
+    fn take_set(&mut self, sites: u8) -> Result<Retired, FrameFault>
+        requires { sites ≤ 16 }
+        ensures { Reads (λ x. x) result self.new.left.now (set_at sites self.old.left.now) }
     {
-        if self.take_u64()? != 0 {
+        let bits = self.take_u64()?;
+        if bits >= 1 << sites {
             return Err(FrameFault::Field);
         }
-        Ok(())
+        Ok(Retired::of_bits(bits))
     }
 
-    /// The sites that have retired, which version 1 doesn't tell.
+    /// The sites that have retired, of so many, which version 1 doesn't tell.
     #[tactic(auto, unfolding(crate::specs::Reading::retired_at))]
-    pub(crate) fn take_retired(&mut self, version: u8) -> Result<(), FrameFault>
-        ensures { Says (λ _. self.new.left.now) result (retired_at version self.old.left.now) }
+    pub(crate) fn take_retired(&mut self, version: u8, sites: u8) -> Result<Retired, FrameFault>
+        requires { sites ≤ 16 }
+        ensures { Reads (λ x. x) result self.new.left.now (retired_at version sites self.old.left.now) }
     {
         if version == OLD_VERSION {
-            return Ok(());
+            return Ok(Retired::none());
         }
-        self.take_none()
+        self.take_set(sites)
     }
 }

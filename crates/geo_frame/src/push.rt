@@ -2,7 +2,7 @@
 ghost use Rattle.std.specs.Prelude.{◌≡◌, ◌<◌, ◌≤◌, ◌^◌, ◌++◌, length, option_map, OnOk};
 ghost use Rattle.std.specs.Option.{IfSome};
 ghost use Rattle.std.specs.List.{flat_map};
-ghost use Rattle.geo_frame.specs.Spelling.{four, eight, stamp_bytes, vector_bytes, floor_bytes, body_bytes, expiry_bytes, key_bytes, rec_bytes, record_bytes, records_bytes, sites_bytes, parcel_bytes, wanted_bytes, offered_bytes, fields_of, head_bytes, frame_of, longest_frame};
+ghost use Rattle.geo_frame.specs.Spelling.{four, eight, stamp_bytes, vector_bytes, floor_bytes, body_bytes, expiry_bytes, key_bytes, rec_bytes, record_bytes, records_bytes, sites_bytes, retired_bytes, parcel_bytes, wanted_bytes, offered_bytes, fields_of, head_bytes, frame_of, longest_frame};
 ghost use Rattle.geo_frame.specs.Payloads.{PayloadInRange, payload_of};
 ghost use Rattle.geo_frame.specs.Payloads.Payload.{Tells, Asks, Offers};
 ghost use Rattle.geo_records.specs.Lengths.{longest_value};
@@ -12,7 +12,7 @@ use crate::message::Message;
 use crate::route::Route;
 use geo_delta::Parcel;
 use geo_lattice::Lww;
-use geo_stamp::{Stamp, Vector};
+use geo_stamp::{Retired, Stamp, Vector};
 use geo_versions::{Body, Digest, Key, Rec};
 use std::alloc::AllocError;
 
@@ -161,8 +161,16 @@ fn push_sites(out: &mut Vec<u8>, from: u8, to: u8, sites: u8) -> Result<(), Allo
     out.extend_from_slice(&[from, to, sites])
 }
 
-/// The fields of a parcel, and none that has retired.
-#[tactic(auto, unfolding(crate::specs::Spelling::parcel_bytes, crate::specs::Spelling::retired_bytes))]
+/// The sites that have retired, each a bit.
+#[tactic(auto, unfolding(crate::specs::Spelling::retired_bytes))]
+fn push_retired(out: &mut Vec<u8>, retired: &Retired) -> Result<(), AllocError>
+    ensures { OnOk result (out.new.items ≡ out.old.items ++ retired_bytes 2 retired.now) }
+{
+    push_u64(out, retired.bits())
+}
+
+/// The fields of a parcel.
+#[tactic(auto, unfolding(crate::specs::Spelling::parcel_bytes))]
 fn push_parcel(out: &mut Vec<u8>, parcel: &Parcel) -> Result<(), AllocError>
     requires { length parcel.now.records < 2 ^ 32 }
     ensures { OnOk result (out.new.items ≡ out.old.items ++ parcel_bytes 2 parcel.now) }
@@ -170,7 +178,7 @@ fn push_parcel(out: &mut Vec<u8>, parcel: &Parcel) -> Result<(), AllocError>
     push_sites(out, parcel.from, parcel.to, parcel.base.sites() as u8)?;
     push_vector(out, &parcel.base)?;
     push_vector(out, &parcel.upto)?;
-    push_u64(out, 0)?;
+    push_retired(out, &parcel.retired)?;
     push_floor(out, &parcel.floor)?;
     push_records(out, parcel.records.as_slice())
 }

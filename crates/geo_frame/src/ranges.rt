@@ -98,6 +98,7 @@ fn parcel_fits(parcel: &Parcel) -> bool
         && sites_fit(parcel.from, parcel.to, sites)
         && parcel.base.greatest() <= LAST_TIME
         && parcel.upto.greatest() <= LAST_TIME
+        && parcel.retired.fits(sites)
         && floor_fits(parcel.floor, sites)
         && records_fit(records, sites)
         && are_rising(records)
@@ -144,7 +145,7 @@ fn offer_fits(
 }
 
 /// Whether a message is within the ranges. A parcel has both vectors of 2 to 16 sites, goes from one of them to another, has each
-/// stamp of one of them, values of at most a mebibyte, and records with a register, by rising key. An ask and an offer go from one of
+/// stamp and retired site of them, values of at most a mebibyte, and records with a register, by rising key. An ask and an offer go from one of
 /// 2 to 16 sites to another, and what is offered has at most a mebibyte.
 pub fn fits(message: &Message) -> bool
     ensures { IsTrue result ↔ PayloadInRange (payload_of message.now) }

@@ -28,7 +28,7 @@ fn parcel_of(alloc: Global, version: u8, fields: &[u8]) -> Result<Parcel, FrameF
     let route = take_route(&mut bytes)?;
     let base = take_vector(&mut bytes, route.sites)?;
     let upto = take_vector(&mut bytes, route.sites)?;
-    bytes.take_retired(version)?;
+    let retired = bytes.take_retired(version, route.sites)?;
     let floor = bytes.take_floor(route.sites)?;
     let records = take_all(alloc, &mut bytes, route.sites)?;
     Ok(Parcel {
@@ -36,6 +36,7 @@ fn parcel_of(alloc: Global, version: u8, fields: &[u8]) -> Result<Parcel, FrameF
         to: route.to,
         base,
         upto,
+        retired,
         floor,
         records: Items::of(records),
     })

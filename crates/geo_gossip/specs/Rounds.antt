@@ -47,11 +47,17 @@ pub record IsUnknown {K : Type 0} (old new : Peer K) (seat after : Seated) : Typ
   pub sends : SendsBy (emptied seat) after old.site (Err (Site sends.NoSuchSite))
   pub same : new ≡ old
 
+-- the site holds the peer for retired
+pub record IsRetired {K : Type 0} (old new : Peer K) (seat after : Seated) : Type 0 where
+  pub sends : SendsBy (emptied seat) after old.site (Err (Site sends.Retired))
+  pub same : new ≡ old
+
 -- what becomes of a peer in a round, by whether a parcel was put
 abbrev pub Served : {K : Type 0} → (K → Message → K → Type 0) → (K → Message → LinkError → K → Type 0) → Bool → Peer K → Peer K → Seated
     → Seated → Type 0
 Served puts put_fails true old new seat after = Took puts old new seat after
-Served puts put_fails false old new seat after = LinkFailed put_fails old new seat after ⊎ IsUnknown old new seat after
+Served puts put_fails false old new seat after = LinkFailed put_fails old new seat after
+    ⊎ (IsUnknown old new seat after ⊎ IsRetired old new seat after)
 
 -- peers are served one after the other, and so many parcels are put
 unfoldable pub ServedAll : {K : Type 0} → (K → Message → K → Type 0) → (K → Message → LinkError → K → Type 0) → List (Peer K)

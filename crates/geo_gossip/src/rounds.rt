@@ -36,6 +36,7 @@ fn serve<R: Wait, L: Ledger, K: Link>(
     match station.send(rt, alloc, seat, peer.site) {
         Ok(parcel) => Ok(peer.link.put(rt, alloc, Message::Parcel(parcel)).is_ok()),
         Err(CallError::Site(SendError::NoSuchSite)) => Ok(false),
+        Err(CallError::Site(SendError::Retired)) => Ok(false),
         Err(CallError::Site(SendError::Memory)) => Err(GossipFault::Memory),
         Err(CallError::SeatSpent) => Err(GossipFault::SeatSpent),
     }
@@ -43,8 +44,8 @@ fn serve<R: Wait, L: Ledger, K: Link>(
 
 /// One round of gossip (Almeida et al. 2018): the site makes a parcel for each peer, in their order, of what it knows and hasn't
 /// heard that the peer knows, and the peer's link takes it. A link that fails is skipped, and its peer is sent all of it again in
-/// a later round; so is a peer that the station's site doesn't know. It tells how many parcels were put. A `put` may wait. Of its
-/// calls the seat keeps the last alone.
+/// a later round. A peer that the station's site doesn't know, or holds for retired, is skipped. It tells how many parcels were put. A
+/// `put` may wait. Of its calls the seat keeps the last alone.
 pub fn round<R: Wait, L: Ledger, K: Link>(
     rt: &R,
     alloc: Global,

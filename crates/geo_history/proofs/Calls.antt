@@ -13,6 +13,8 @@ use Rattle.geo_site.specs.declared.refusal.TakeError.{TakeError}
 use Rattle.geo_site.specs.declared.refusal.TakeError.TheVariants as takes
 use Rattle.geo_site.specs.declared.refusal.ReapError.{ReapError}
 use Rattle.geo_site.specs.declared.refusal.ReapError.TheVariants as reaps
+use Rattle.geo_site.specs.declared.refusal.RetireError.{RetireError}
+use Rattle.geo_site.specs.declared.refusal.RetireError.TheVariants as retire
 use Rattle.geo_grammar.specs.declared.reply.Reply.TheVariants.{OutOfMemory}
 use Rattle.geo_site.specs.declared.acted.Acted.{Acted}
 use Rattle.geo_site.specs.declared.fill.Filled.{Filled}
@@ -22,15 +24,15 @@ use Rattle.geo_site.specs.Machine.{SiteState, Same, visible_in}
 use Rattle.geo_site.specs.Sites.{state_in, heard_in, waiting_in, counts_in, clock_in, limits_of, issued_in, victim_in, twice, Rests, Stays, Remains, FlushDoes, RequestDoesBy, ActDoes, ActTells, ActFullDoes, ReapDoes, SendDoes, TakeDoes}
 use Rattle.geo_site.proofs.Stocking.{state_path, unchanged}
 use Rattle.std.proofs.lemmas.List.{append-nil}
-use Rattle.geo_history.specs.declared.step.Event.TheVariants.{Command, Evict, Send, Take, Remove, Reap, Fill}
+use Rattle.geo_history.specs.declared.step.Event.TheVariants.{Command, Evict, Send, Take, Remove, Reap, Fill, Retire}
 use Rattle.geo_history.specs.declared.step.Event.{Event}
 use Rattle.geo_history.specs.declared.step.Step.{Step}
 use Rattle.geo_history.specs.declared.step.Answer.{Answer}
-use Rattle.geo_history.specs.declared.step.Answer.TheVariants.{Replied, Evicted, Sent, SendRefused, Taken as Took, TakeRefused, Removed, Reaped, ReapRefused, Filled as FilledAs}
+use Rattle.geo_history.specs.declared.step.Answer.TheVariants.{Replied, Evicted, Sent, SendRefused, Taken as Took, TakeRefused, Removed, Reaped, ReapRefused, Filled as FilledAs, Retired, RetireRefused}
 use Rattle.geo_history.specs.Standings.{who_in, standing_in}
-use Rattle.geo_history.specs.Keeping.{Story, most_steps, made_by, step_with, step_of, is_flush_due, flush_count, flush_steps, number_after, IsKept, GoesOn, ReapsFor, DoesNothing, LeavesAll, ActsFor, ActForDoes, SendForDoes, TakesFor, RefusedFor, TakeForDoes, RemoveForDoes, EvictForDoes, FillForDoes, TickForDoes, ReapForDoes, JuggleForDoes}
+use Rattle.geo_history.specs.Keeping.{Story, most_steps, made_by, step_with, step_of, is_flush_due, flush_count, flush_steps, number_after, IsKept, GoesOn, ReapsFor, DoesNothing, LeavesAll, ActsFor, ActForDoes, SendForDoes, TakesFor, RefusedFor, TakeForDoes, RemoveForDoes, EvictForDoes, FillForDoes, RetireForDoes, TickForDoes, ReapForDoes, JuggleForDoes}
 use Rattle.geo_history.proofs.Issuing.{stands_same, flush_again, stuck_same}
-use Rattle.geo_history.proofs.Leading.{command_leads, send_leads, unsent_leads, take_leads, untaken_leads, remove_leads, evict_leads, fill_leads, reap_leads, unreaped_leads}
+use Rattle.geo_history.proofs.Leading.{command_leads, send_leads, unsent_leads, retired_leads, retire_leads, unretired_leads, take_leads, untaken_leads, remove_leads, evict_leads, fill_leads, reap_leads, unreaped_leads}
 use Rattle.geo_history.proofs.Keeps.{made_flushed, kept_more, kept_still, kept_after, flush_kept}
 
 -- it is the same site, and its history is still one
@@ -88,6 +90,11 @@ send_goes old new seat to (Err sends.NoSuchSite) d = record {
       (subst (λ (s : Site). Rattle.geo_history.specs.Replays.StepsTo (who_in old.site) (standing_in old.site) (Send to) (SendRefused sends.NoSuchSite) None None (standing_in s)) (sym d.1) (unsent_leads old.site to d.0)) d.2;
   who = site_stays old new d.1;
 }
+send_goes old new seat to (Err sends.Retired) d = record {
+  kept = λ kept. kept_more old new seat (Send to) (SendRefused sends.Retired) None None kept (ap (λ (s : Site). s.number) d.1) (ap limits_of d.1)
+      (subst (λ (s : Site). Rattle.geo_history.specs.Replays.StepsTo (who_in old.site) (standing_in old.site) (Send to) (SendRefused sends.Retired) None None (standing_in s)) (sym d.1) (retired_leads old.site to d.0)) d.2;
+  who = site_stays old new d.1;
+}
 send_goes old new seat to (Err sends.Memory) d = goes_same old new d
 
 pub take_goes : (old new : Story) (seat : ℕ) (parcel : Parcel) (result : Result Taken Refused) → TakeForDoes old new seat parcel result → Goes old new
@@ -107,6 +114,7 @@ take_goes old new seat parcel (Err refused) d = by refused.why refl d
     by : (why : TakeError) → refused.why ≡ why → RefusedFor old new seat parcel refused why → Goes old new
     by takes.NotForMe is d = untaken takes.NotForMe is (λ e. cc) d
     by takes.UnknownSite is d = untaken takes.UnknownSite is (λ e. cc) d
+    by takes.Retired is d = untaken takes.Retired is (λ e. cc) d
     by takes.Gap is d = untaken takes.Gap is (λ e. cc) d
     by takes.Memory is d = goes_all old new d.0
 
@@ -131,6 +139,17 @@ fill_goes old new seat key bytes (Ok filled) d = record {
   who = who_by old.site new.site d.0.stays.0 d.0.stays.1;
 }
 fill_goes old new seat key bytes (Err refused) d = goes_all old new d
+
+pub retire_goes : (old new : Story) (seat other : ℕ) (result : Result Bool RetireError) → RetireForDoes old new seat other result → Goes old new
+retire_goes old new seat other (Ok fresh) d = record {
+  kept = λ kept. kept_more old new seat (Retire other) (Retired fresh) None None kept d.remains.0 d.remains.1 (retire_leads old.site new.site other fresh d.does d.rests) d.goes_on;
+  who = who_by old.site new.site d.remains.0 d.remains.1;
+}
+retire_goes old new seat other (Err retire.NoSuchSite) d = record {
+  kept = λ kept. kept_more old new seat (Retire other) (RetireRefused retire.NoSuchSite) None None kept d.remains.0 d.remains.1 (unretired_leads old.site new.site other d.does d.rests) d.goes_on;
+  who = who_by old.site new.site d.remains.0 d.remains.1;
+}
+retire_goes old new seat other (Err retire.Memory) d = goes_same old new d
 
 pub tick_goes : (old new : Story) (seat now : ℕ) (result : Result Bool AllocError) → TickForDoes old new seat now result → Goes old new
 tick_goes old new seat now (Ok done) d = goes_nothing old new seat now (inr d.1)

@@ -1,7 +1,7 @@
 -- What a site's calls make of what it stands at: the machine with its stock of values, seen without the order in which bytes go.
 use Rattle.std.proofs.Common.{◌≡◌, ℕ, Bool, true, false, cond, ◌&&◌, not, List, [], ◌∷◌, Option, None, refl, sym, ap, ◌∙◌, subst}
 use Rattle.geo_stamp.specs.Vectors.{greatest_of}
-use Rattle.geo_stamp.specs.Acks.{heard}
+use Rattle.geo_stamp.specs.Acks.{Heard, heard, retires as holds_retired, looked}
 use Rattle.geo_records.specs.Operations.{Act, version_in}
 use Rattle.geo_records.specs.Operations.Act.{Flush}
 use Rattle.geo_delta.specs.declared.parcel.Parcel.{Parcel}
@@ -12,14 +12,14 @@ use Rattle.geo_site.specs.Machine.{SiteState, Delta, Same, act_held, without, vi
 use Rattle.geo_site.specs.Sites.{state_in, heard_in, waiting_in, counts_in, clock_in, delta_of, FlushDoes}
 use Rattle.geo_site.proofs.Stocking.{state_path, settled_held, act_held_is}
 use Rattle.geo_site.proofs.Victims.{AreQuiet, GoesFor, one_quiet, hit_held}
-use Rattle.geo_history.specs.Standings.{Who, who_in, Standing, standing_in, horizon_at, held_by, issue, issue_all, lets_go, waits, counts_as, flushed, takes}
+use Rattle.geo_history.specs.Standings.{Who, who_in, Standing, standing_in, horizon_at, held_by, issue, issue_all, lets_go, waits, counts_as, flushed, takes, looked_at}
 
 -- a state of the machine with what stands beside it
-abbrev pub standing_at : SiteState → List (List ℕ) → Option ℕ → Counts → Standing
+abbrev pub standing_at : SiteState → Heard → Option ℕ → Counts → Standing
 standing_at st rows waiting counts = record { vector = st.vector; rows = rows; floor = st.floor; map = st.map; held = st.stock.held; waiting = waiting; counts = counts }
 
 -- two sites of which all is one stand at one place
-pub stands_same : (st : SiteState) (site : Site) (rows : List (List ℕ)) (waiting : Option ℕ) (counts : Counts) → Same st (state_in site) → heard_in site ≡ rows → waiting_in site ≡ waiting → counts_in site ≡ counts → standing_in site ≡ standing_at st rows waiting counts
+pub stands_same : (st : SiteState) (site : Site) (rows : Heard) (waiting : Option ℕ) (counts : Counts) → Same st (state_in site) → heard_in site ≡ rows → waiting_in site ≡ waiting → counts_in site ≡ counts → standing_in site ≡ standing_at st rows waiting counts
 stands_same st site rows waiting counts same r w c = let path = state_path st (state_in site) same in λ i. standing_at (path i) (r i) (w i) (c i)
 
 -- where none go all is as it was
@@ -27,7 +27,7 @@ pub none_go : (st : Standing) → lets_go None st ≡ st
 none_go st = refl
 
 -- ---- issuing
-module _ (who : Who) (rows : List (List ℕ)) (waiting : Option ℕ) (counts : Counts) where
+module _ (who : Who) (rows : Heard) (waiting : Option ℕ) (counts : Counts) where
   held_after : (act : Act) (st : SiteState) → (machine.issue who.number act st).stock.held ≡ held_by (map_after st (next_operation (clock_of st) who.number act)) (act_held act (without (victim_by act st.stock) st.stock.held))
   held_after act st = let map = map_after st (next_operation (clock_of st) who.number act) in
       λ i q. (settled_held map (act_stock act st.stock) q ∙ ap (named_by (version_in (map q))) (act_held_is act st.stock q)) i
@@ -123,10 +123,12 @@ flush_again old mid new now one two =
     }
 
 -- ---- what a parcel brings, and what is dropped
-pub take_stands : (who : Who) (parcel : Parcel) (old new : Site) → Same (machine.take who.number (sifted_delta (horizon_at who (standing_in old)) (delta_of parcel)) (state_in old)) (state_in new) → heard_in new ≡ heard (heard_in old) parcel.from parcel.upto → waiting_in new ≡ waiting_in old → counts_in new ≡ counts_in old
+pub take_stands : (who : Who) (parcel : Parcel) (old new : Site) → Same (machine.take who.number (sifted_delta (horizon_at who (standing_in old)) (delta_of parcel)) (state_in old)) (state_in new)
+    → heard_in new ≡ looked (heard (looked_at who (standing_in old)) parcel.from parcel.upto parcel.retired) who.number new.vector → waiting_in new ≡ waiting_in old → counts_in new ≡ counts_in old
     → standing_in new ≡ takes who parcel (standing_in old)
 take_stands who parcel old new same rows waiting counts =
     let d = sifted_delta (horizon_at who (standing_in old)) (delta_of parcel) in
     let after = machine.take who.number d (state_in old) in
-    stands_same after new (heard (heard_in old) parcel.from parcel.upto) (waiting_in old) (counts_in old) same rows waiting counts
-    ∙ (λ i. record { vector = after.vector; rows = heard (heard_in old) parcel.from parcel.upto; floor = after.floor; map = after.map; held = λ q. settled_held after.map (state_in old).stock q i; waiting = waiting_in old; counts = counts_in old })
+    let told = looked (heard (looked_at who (standing_in old)) parcel.from parcel.upto parcel.retired) who.number after.vector in
+    stands_same after new told (waiting_in old) (counts_in old) same (rows ∙ ap (looked (heard (looked_at who (standing_in old)) parcel.from parcel.upto parcel.retired) who.number) same.vector) waiting counts
+    ∙ (λ i. record { vector = after.vector; rows = told; floor = after.floor; map = after.map; held = λ q. settled_held after.map (state_in old).stock q i; waiting = waiting_in old; counts = counts_in old })

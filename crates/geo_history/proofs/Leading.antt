@@ -13,6 +13,8 @@ use Rattle.geo_site.specs.declared.site.Site.{Site}
 use Rattle.geo_site.specs.declared.exchange.Taken.{Taken}
 use Rattle.geo_site.specs.declared.exchange.Refused.{Refused}
 use Rattle.geo_site.specs.declared.refusal.SendError.TheVariants.{NoSuchSite}
+use Rattle.geo_site.specs.declared.refusal.SendError.TheVariants as sends
+use Rattle.geo_site.specs.declared.refusal.RetireError.TheVariants as retire
 use Rattle.geo_site.specs.declared.refusal.TakeError.{TakeError}
 use Rattle.geo_site.specs.declared.refusal.TakeError.TheVariants as takes
 use Rattle.geo_site.specs.declared.refusal.ReapError.TheVariants.{ClockEnded}
@@ -24,11 +26,12 @@ use Rattle.geo_site.proofs.Filling.{came_held, fills_as}
 use Rattle.geo_site.specs.Machine as machine
 use Rattle.geo_site.specs.Machine.{SiteState, Same, class_for, accessed, visible_in, removed, without, is_victim, IsRecordCount, IsHeldCount}
 use Rattle.geo_site.specs.Schedule.{VictimOf}
-use Rattle.geo_site.specs.Sites.{state_in, heard_in, waiting_in, counts_in, clock_in, basis_in, record_count, held_count, issued_in, victim_in, horizon_in, HasIssued, HasIssuedAfter, FirstVictimFits, Rests, Stays, Remains, FlushDoes, RequestDoes, RequestDoesBy, ActDoes, ReapDoes, TakeDoes, RemoveDoes, EvictDoes, SendDoes, IsSent as SiteSends}
+use Rattle.geo_site.specs.Sites.{state_in, heard_in, waiting_in, counts_in, clock_in, basis_in, record_count, held_count, issued_in, victim_in, horizon_in, HasIssued, HasIssuedAfter, FirstVictimFits, Rests, Stays, Remains, FlushDoes, RequestDoes, RequestDoesBy, ActDoes, ReapDoes, TakeDoes, RemoveDoes, RetireDoes, EvictDoes, SendDoes, IsSent as SiteSends}
 use Rattle.geo_site.proofs.Victims.{one_quiet, request_goes, victim_fits}
-use Rattle.geo_history.specs.declared.step.Event.TheVariants.{Command, Evict, Send, Take, Remove, Tick, Reap, Fill}
-use Rattle.geo_history.specs.declared.step.Answer.TheVariants.{Replied, Evicted, Sent, SendRefused, Taken as Took, TakeRefused, Removed, Ticked, Reaped, ReapRefused, Filled as FilledAs}
-use Rattle.geo_history.specs.Standings.{who_in, Standing, standing_in, issue_all, lets_go, carries_out, evicts, admits}
+use Rattle.geo_history.specs.declared.step.Event.TheVariants.{Command, Evict, Send, Take, Remove, Tick, Reap, Fill, Retire}
+use Rattle.geo_history.specs.declared.step.Answer.TheVariants.{Replied, Evicted, Sent, SendRefused, Taken as Took, TakeRefused, Removed, Ticked, Reaped, ReapRefused, Filled as FilledAs, Retired, RetireRefused}
+use Rattle.geo_stamp.specs.Acks.{retires as holds_retired, looked}
+use Rattle.geo_history.specs.Standings.{who_in, Standing, standing_in, looked_at, issue_all, lets_go, carries_out, evicts, admits}
 use Rattle.geo_history.specs.Replays.{Requested, Commanded, RefusesFor, IsSent, StepsTo}
 use Rattle.geo_history.proofs.Issuing.{standing_at, stands_same, quiet_stands, goes_stands, accessed_stands, beside, flush_stands, none_due, stuck_same, take_stands}
 
@@ -115,13 +118,16 @@ module _ (old new : Site) (now : ℕ) (request : Request) (reply : Reply) (victi
 
 -- ---- sending and taking
 send_is : (site : Site) (to : ℕ) (parcel : Parcel) → SiteSends site to parcel → IsSent (who_in site) (standing_in site) to parcel
-send_is site to parcel h = record { sender = h.sender; addressee = h.addressee; base = h.base; upto = h.upto; floor = h.floor; rising = h.rising; filled = h.filled; records = h.records }
+send_is site to parcel h = record { sender = h.sender; addressee = h.addressee; base = h.base; upto = h.upto; retired = h.retired; floor = h.floor; rising = h.rising; filled = h.filled; records = h.records }
 
 pub send_leads : (site : Site) (to : ℕ) (parcel : Parcel) → SendDoes site to (Ok parcel) → StepsTo (who_in site) (standing_in site) (Send to) (Sent parcel) None None (standing_in site)
-send_leads site to parcel does = (refl, refl, (does.0, send_is site to parcel does.1, refl))
+send_leads site to parcel does = (refl, refl, (does.0, does.1, send_is site to parcel does.2, refl))
 
 pub unsent_leads : (site : Site) (to : ℕ) → SendDoes site to (Err NoSuchSite) → StepsTo (who_in site) (standing_in site) (Send to) (SendRefused NoSuchSite) None None (standing_in site)
 unsent_leads site to does = (refl, refl, (does, refl))
+
+pub retired_leads : (site : Site) (to : ℕ) → SendDoes site to (Err sends.Retired) → StepsTo (who_in site) (standing_in site) (Send to) (SendRefused sends.Retired) None None (standing_in site)
+retired_leads site to does = (refl, refl, (does, refl))
 
 pub take_leads : (old new : Site) (parcel : Parcel) (taken : Taken) → TakeDoes old new parcel (Ok taken) → Rests old new → IsHeldCount (state_in old).stock.held (held_count old) → IsHeldCount (state_in new).stock.held (held_count new)
     → StepsTo (who_in old) (standing_in old) (Take parcel) (Took taken) None None (standing_in new)
@@ -142,6 +148,7 @@ untaken_leads old new parcel refused other does rests =
     by : (why : TakeError) → why ≢ takes.Memory → Rattle.geo_site.specs.Sites.RefusesFor old parcel why → RefusesFor (who_in old) (standing_in old) parcel why
     by takes.NotForMe ne h = h
     by takes.UnknownSite ne h = h
+    by takes.Retired ne h = h
     by takes.Gap ne h = h
     by takes.Memory ne h = absurd (ne refl)
 
@@ -196,6 +203,21 @@ fill_leads old new key bytes filled does = (
         stands_same (machine.with_stock (came key bytes (state_in old).stock) (state_in old)) new (heard_in old) (waiting_in old) (counts_in old) same does.stays.2 does.rests.1 does.rests.0
         ∙ (λ i. record { vector = (state_in old).vector; rows = heard_in old; floor = (state_in old).floor; map = (state_in old).map; held = λ q. came_held key bytes (state_in old).stock q i; waiting = waiting_in old; counts = counts_in old })
     by false same = stands_same (state_in old) new (heard_in old) (waiting_in old) (counts_in old) same does.stays.2 does.rests.1 does.rests.0
+
+-- ---- a site that is held for retired
+pub retire_leads : (old new : Site) (other : ℕ) (fresh : Bool) → RetireDoes old new other (Ok fresh) → Rests old new → StepsTo (who_in old) (standing_in old) (Retire other) (Retired fresh) None None (standing_in new)
+retire_leads old new other fresh does rests = (
+  refl,
+  refl,
+  (
+    does.0,
+    does.1,
+    stands_same (state_in old) new (looked (holds_retired (looked_at (who_in old) (standing_in old)) other) old.number old.vector) (waiting_in old) (counts_in old) does.2 does.3 rests.1 rests.0,
+  ),
+)
+
+pub unretired_leads : (old new : Site) (other : ℕ) → RetireDoes old new other (Err retire.NoSuchSite) → Rests old new → StepsTo (who_in old) (standing_in old) (Retire other) (RetireRefused retire.NoSuchSite) None None (standing_in new)
+unretired_leads old new other does rests = (refl, refl, (does.0, stands_same (state_in old) new (heard_in old) (waiting_in old) (counts_in old) does.1 does.2 rests.1 rests.0))
 
 -- ---- a reap after its due flush
 module _ (old new : Site) (now : ℕ) (key : List ℕ) where

@@ -15,17 +15,19 @@ use Rattle.geo_site.specs.declared.refusal.TakeError.{TakeError}
 use Rattle.geo_site.specs.declared.refusal.TakeError.TheVariants as takes
 use Rattle.geo_site.specs.declared.refusal.ReapError.{ReapError}
 use Rattle.geo_site.specs.declared.refusal.ReapError.TheVariants as reaps
+use Rattle.geo_site.specs.declared.refusal.RetireError.{RetireError}
+use Rattle.geo_site.specs.declared.refusal.RetireError.TheVariants as retire
 use Rattle.geo_site.specs.declared.fill.Filled.{Filled}
 use Rattle.geo_site.specs.Fills.{FillDoes}
 use Rattle.geo_site.specs.Entries.{flushes_due, is_done, made_on}
 use Rattle.geo_site.specs.Machine.{Same, visible_in, IsRecordCount, IsHeldCount}
-use Rattle.geo_site.specs.Sites.{state_in, record_count, held_count, waiting_in, clock_in, victim_in, issued_in, ActDoes, FlushDoes, OpenDoes, SendDoes, TakeDoes, RemoveDoes, EvictDoes, ReapDoes, JuggleDoes, Rests, Stays, Remains}
+use Rattle.geo_site.specs.Sites.{state_in, record_count, held_count, waiting_in, clock_in, victim_in, issued_in, ActDoes, FlushDoes, OpenDoes, SendDoes, TakeDoes, RemoveDoes, RetireDoes, EvictDoes, ReapDoes, JuggleDoes, Rests, Stays, Remains}
 use Rattle.geo_history.specs.declared.history.Opening.{Opening}
 use Rattle.geo_history.specs.declared.parts.Parts.{Parts}
 use Rattle.geo_history.specs.declared.step.Event.{Event}
-use Rattle.geo_history.specs.declared.step.Event.TheVariants.{Command, Evict, Send, Take, Remove, Tick, Reap, Fill}
+use Rattle.geo_history.specs.declared.step.Event.TheVariants.{Command, Evict, Send, Take, Remove, Tick, Reap, Fill, Retire}
 use Rattle.geo_history.specs.declared.step.Answer.{Answer}
-use Rattle.geo_history.specs.declared.step.Answer.TheVariants.{Replied, Evicted, Sent, SendRefused, Taken as Took, TakeRefused, Removed, Ticked, Reaped, ReapRefused, Filled as FilledAs}
+use Rattle.geo_history.specs.declared.step.Answer.TheVariants.{Replied, Evicted, Sent, SendRefused, Taken as Took, TakeRefused, Removed, Ticked, Reaped, ReapRefused, Filled as FilledAs, Retired, RetireRefused}
 use Rattle.geo_history.specs.declared.step.Step.{Step}
 use Rattle.geo_history.specs.Standings.{Who, who_in, Standing, standing_in, nothing_yet, Describes}
 use Rattle.geo_history.specs.Replays.{Replays, steps_of, is_numbered}
@@ -143,6 +145,8 @@ SendForDoes old new seat to (Ok parcels) = SendDoes old.site to (Ok parcels.0) �
     × GoesOn old new (step_of seat (made_by old seat + 1) (Send to) (Sent parcels.0) ∷ [])
 SendForDoes old new seat to (Err sends.NoSuchSite) = SendDoes old.site to (Err sends.NoSuchSite) × (new.site ≡ old.site)
     × GoesOn old new (step_of seat (made_by old seat + 1) (Send to) (SendRefused sends.NoSuchSite) ∷ [])
+SendForDoes old new seat to (Err sends.Retired) = SendDoes old.site to (Err sends.Retired) × (new.site ≡ old.site)
+    × GoesOn old new (step_of seat (made_by old seat + 1) (Send to) (SendRefused sends.Retired) ∷ [])
 SendForDoes old new seat to (Err sends.Memory) = new ≡ old
 
 -- nothing that is known, held, counted or told of a site changes, and no step is made
@@ -194,6 +198,19 @@ abbrev pub FillForDoes : Story → Story → ℕ → List ℕ → List ℕ → R
 FillForDoes old new seat key bytes (Ok filled) = FillDoes old.site new.site key bytes (Ok filled)
     × GoesOn old new (step_of seat (made_by old seat + 1) (Fill key bytes) (FilledAs filled) ∷ [])
 FillForDoes old new seat key bytes (Err refused) = LeavesAll old new
+
+-- what a retirement does
+pub record RetiresFor (old new : Story) (seat other : ℕ) (result : Result Bool RetireError) (answer : Answer) : Type 0 where
+  pub does : RetireDoes old.site new.site other result
+  pub rests : Rests old.site new.site
+  pub remains : Remains old.site new.site
+  pub goes_on : GoesOn old new (step_of seat (made_by old seat + 1) (Retire other) answer ∷ [])
+
+abbrev pub RetireForDoes : Story → Story → ℕ → ℕ → Result Bool RetireError → Type 0
+RetireForDoes old new seat other (Ok fresh) = RetiresFor old new seat other (Ok fresh) (Retired fresh)
+RetireForDoes old new seat other (Err retire.NoSuchSite) =
+    RetiresFor old new seat other (Err retire.NoSuchSite) (RetireRefused retire.NoSuchSite)
+RetireForDoes old new seat other (Err retire.Memory) = new ≡ old
 
 -- what a reap does after a due flush
 pub record ReapsFor (old new : Story) (seat now : ℕ) (key : List ℕ) (result : Result Bool ReapError) (answer : Answer) : Type 0 where

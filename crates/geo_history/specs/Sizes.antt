@@ -7,7 +7,7 @@ use Rattle.geo_grammar.specs.declared.reply.Reply.TheVariants.{Values}
 use Rattle.geo_grammar.specs.declared.request.Request.{Request}
 use Rattle.geo_grammar.specs.declared.request.Request.TheVariants.{Store, Fetch, FetchTouch, Delete, Touch, Arith}
 use Rattle.geo_history.specs.declared.step.Event.{Event}
-use Rattle.geo_history.specs.declared.step.Event.TheVariants.{Command, Evict, Send, Take, Remove, Tick, Reap, Fill}
+use Rattle.geo_history.specs.declared.step.Event.TheVariants.{Command, Evict, Send, Take, Remove, Tick, Reap, Fill, Retire}
 use Rattle.geo_history.specs.declared.step.Answer.{Answer}
 use Rattle.geo_history.specs.declared.step.Answer.TheVariants.{Replied, Sent}
 use Rattle.geo_history.specs.declared.step.Step.{Step}
@@ -68,6 +68,7 @@ event_bytes Remove = 0
 event_bytes (Tick now) = 0
 event_bytes (Reap now key) = length key
 event_bytes (Fill key bytes) = length key + length bytes
+event_bytes (Retire other) = 0
 
 abbrev pub answer_bytes : Answer → ℕ
 answer_bytes (Replied reply) = reply_bytes reply

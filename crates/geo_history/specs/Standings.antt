@@ -3,7 +3,7 @@
 use Rattle.std.specs.Prelude.{◌≡◌, ℕ, ◌+◌, nat_le, List, [], ◌∷◌, Option, None, Some, option_map}
 use Rattle.geo_stamp.specs.Stamps.{Moment}
 use Rattle.geo_stamp.specs.Vectors.{zeros, greatest_of, raised, vector_joined}
-use Rattle.geo_stamp.specs.Acks.{none_heard, heard, horizon_of}
+use Rattle.geo_stamp.specs.Acks.{Heard, none_heard, heard, retires as holds_retired, looked, horizon_of}
 use Rattle.geo_values.specs.Held.{digest_of, digest_at}
 use Rattle.geo_versions.specs.Maps.{has_register, listed_at, remaining}
 use Rattle.geo_records.specs.Operations.{Act, Record, record_joined, floor_joined, above_both, body_of, expiry_of, flush_of, version_in}
@@ -31,7 +31,7 @@ who_of setup = record { number = setup.site; limits = record { max_records = set
 
 pub record Standing : Type 0 where
   pub vector : List ℕ
-  pub rows : List (List ℕ)
+  pub rows : Heard
   pub floor : Option Moment
   pub map : List ℕ → Record
   pub held : Held
@@ -75,9 +75,13 @@ pub record Describes (state : SiteState) (st : Standing) : Type 0 where
 abbrev pub clock_at : Standing → ℕ
 clock_at st = greatest_of st.vector
 
--- the time up to which every site is known to know each operation
+-- the time up to which every site that it does not hold for retired is known to know each operation that one of them knows
 abbrev pub horizon_at : Who → Standing → ℕ
 horizon_at who st = horizon_of st.rows who.number st.vector
+
+-- what it heard, with the horizon that it answers kept
+abbrev pub looked_at : Who → Standing → Heard
+looked_at who st = looked st.rows who.number st.vector
 
 -- what is visible at a moment
 abbrev pub visible_at : Standing → ℕ → Visible
@@ -156,15 +160,16 @@ basis_at who st now records items = record {
   };
 }
 
--- it joins what a parcel brings, but for what every site was known to know before
+-- it joins what a parcel brings, but for what every site was known to know before, and keeps its horizon before and after
 abbrev pub takes : Who → Parcel → Standing → Standing
 takes who parcel st =
     let delta = sifted_delta (horizon_at who st) (delta_of parcel) in
     let vector = vector_joined st.vector delta.upto in
     let map = map_with st delta.floor delta.map in
+    let after = raised vector who.number (greatest_of vector) in
     record {
-      vector = raised vector who.number (greatest_of vector);
-      rows = heard st.rows parcel.from parcel.upto;
+      vector = after;
+      rows = looked (heard (looked_at who st) parcel.from parcel.upto parcel.retired) who.number after;
       floor = floor_with st delta.floor;
       map = map;
       held = held_by map st.held;
@@ -183,6 +188,10 @@ evicts key st = counts_as (evicted_on (Some key) st.counts) (lets_go (Some key) 
 -- it holds bytes that were offered
 abbrev pub admits : List ℕ → List ℕ → Standing → Standing
 admits key bytes st = record st { held = held_with key bytes st.held }
+
+-- it holds a site for retired, and keeps its horizon before and after
+abbrev pub retires : Who → ℕ → Standing → Standing
+retires who other st = record st { rows = looked (holds_retired (looked_at who st) other) who.number st.vector }
 
 -- what it issues to reap a key
 abbrev pub reaped_at : Who → Standing → ℕ → List ℕ → List Act

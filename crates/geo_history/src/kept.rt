@@ -12,7 +12,8 @@ use geo_chunks::Chunks;
 use geo_delta::Parcel;
 use geo_grammar::{Reply, Request, ValueBytes};
 use geo_site::{
-    Filled, ReapError, Refused, SendError, Setup, SetupError, Site, SiteState, TakeError, Taken,
+    Filled, ReapError, Refused, RetireError, SendError, Setup, SetupError, Site, SiteState,
+    TakeError, Taken,
 };
 use geo_versions::Key;
 use std::alloc::{AllocError, Global};
@@ -179,7 +180,7 @@ impl Kept {
 impl Kept {
     ghost use Rattle.std.specs.Prelude.{◌≤◌, ◌<◌, ◌+◌, ◌^◌};
     ghost use Rattle.geo_slabs.specs.Storage.{class_count};
-    ghost use Rattle.geo_history.specs.Keeping.{most_steps, made_by, flush_count, ActForDoes, SendForDoes, TakeForDoes, RemoveForDoes, EvictForDoes, FillForDoes, TickForDoes, ReapForDoes, JuggleForDoes};
+    ghost use Rattle.geo_history.specs.Keeping.{most_steps, made_by, flush_count, ActForDoes, SendForDoes, TakeForDoes, RemoveForDoes, EvictForDoes, FillForDoes, RetireForDoes, TickForDoes, ReapForDoes, JuggleForDoes};
     ghost use Rattle.geo_history.specs.Stories.{story_in, StaysTold};
 
     /// Answers a client's request at a moment in seconds, 1 to 2^40, as [`Site::act_full`] does, and gives the reply twice. A due
@@ -274,6 +275,16 @@ impl Kept {
         ensures told { StaysTold self.old self.new }
     {
         self.parts.fill_for(alloc, seat, key, bytes)
+    }
+
+    /// Holds another site for gone for good as [`Site::retire`] does, and tells whether it did not before. Where memory is wanted for the
+    /// step nothing is done.
+    pub fn retire_for(&mut self, seat: u8, other: u8) -> Result<bool, RetireError>
+        requires left { made_by (story_in self.old) seat < most_steps }
+        ensures does { RetireForDoes (story_in self.old) (story_in self.new) seat other result }
+        ensures told { StaysTold self.old self.new }
+    {
+        self.parts.retire_for(seat, other)
     }
 
     /// Carries out a flush that is due at a moment in seconds, and tells whether there was one. Without one there is no step.

@@ -3,7 +3,7 @@ ghost use Rattle.std.specs.Prelude.{◌≡◌, ◌≢◌, ◌≤◌, ◌<◌, �
 ghost use Rattle.geo_slabs.specs.Storage.{class_count};
 ghost use Rattle.geo_site.specs.Fills.{FillDoes};
 ghost use Rattle.geo_site.specs.Sites.{FlushDoes, Rests, Stays};
-ghost use Rattle.geo_history.specs.Keeping.{most_steps, most_seats, made_in, IsCounted, step_with, step_of, is_flush_due, flush_count, flush_steps, story_of, ActForDoes, SendForDoes, TakeForDoes, RemoveForDoes, EvictForDoes, FillForDoes, TickForDoes, ReapForDoes, JuggleForDoes};
+ghost use Rattle.geo_history.specs.Keeping.{most_steps, most_seats, made_in, IsCounted, step_with, step_of, is_flush_due, flush_count, flush_steps, story_of, ActForDoes, SendForDoes, TakeForDoes, RemoveForDoes, EvictForDoes, FillForDoes, RetireForDoes, TickForDoes, ReapForDoes, JuggleForDoes};
 
 use crate::boxed::BoxedParcel;
 use crate::history::{History, Opening};
@@ -12,7 +12,9 @@ use crate::step::{Answer, Event, Step};
 use geo_delta::Parcel;
 use geo_grammar::{Reply, Request, ValueBytes};
 use geo_lattice::Twin;
-use geo_site::{Acted, Filled, ReapError, Refused, SendError, Setup, Site, TakeError, Taken};
+use geo_site::{
+    Acted, Filled, ReapError, Refused, RetireError, SendError, Setup, Site, TakeError, Taken,
+};
 use geo_values::Blob;
 use geo_versions::{Digest, Key};
 use std::alloc::{AllocError, Global};
@@ -159,12 +161,11 @@ impl Parts {
                 self.append(seat, event, Answer::Sent(one), None, None);
                 Ok((parcel, two))
             }
-            Err(SendError::NoSuchSite) => {
-                let why = SendError::NoSuchSite;
+            Err(SendError::Memory) => Err(SendError::Memory),
+            Err(why) => {
                 self.append(seat, event, Answer::SendRefused(why), None, None);
                 Err(why)
             }
-            Err(SendError::Memory) => Err(SendError::Memory),
         }
     }
 
@@ -266,6 +267,30 @@ impl Parts {
         let event = Event::Fill { key: copy, bytes };
         self.append(seat, event, Answer::Filled(filled), None, None);
         Ok(filled)
+    }
+
+    /// Holds another site for gone for good.
+    pub(crate) fn retire_for(&mut self, seat: u8, other: u8) -> Result<bool, RetireError>
+        requires counted { IsCounted self.old.opening self.old.steps.items self.old.counts.items }
+        requires left { made_in self.old.opening self.old.steps.items seat < most_steps }
+        ensures does { RetireForDoes (story_of self.old) (story_of self.new) seat other result }
+        ensures setup { self.new.setup ≡ self.old.setup }
+        ensures counted { IsCounted self.new.opening self.new.steps.items self.new.counts.items }
+    {
+        if self.steps.ready(1).is_err() {
+            return Err(RetireError::Memory);
+        }
+        let event = Event::Retire { other };
+        match self.site.retire(other) {
+            Ok(is_new) => {
+                self.append(seat, event, Answer::Retired(is_new), None, None);
+                Ok(is_new)
+            }
+            Err(why) => {
+                self.append(seat, event, Answer::RetireRefused(why), None, None);
+                Err(why)
+            }
+        }
     }
 
     /// Carries out a flush that is due, if there is one.

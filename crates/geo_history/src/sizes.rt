@@ -121,7 +121,7 @@ impl Event {
             Event::Take { parcel } => parcel_bytes(parcel.parcel()),
             Event::Evict { key } | Event::Reap { key, .. } => lone_bytes(key),
             Event::Fill { key, bytes } => grown(bytes.len() as u64, 0, key.bytes().len()),
-            Event::Send { .. } | Event::Remove | Event::Tick { .. } => 0,
+            Event::Send { .. } | Event::Remove | Event::Tick { .. } | Event::Retire { .. } => 0,
         }
     }
 }

@@ -1,7 +1,7 @@
 //! One call at a site, with what it answered.
 use crate::boxed::BoxedParcel;
 use geo_grammar::{Reply, Request, ValueBytes};
-use geo_site::{Filled, ReapError, SendError, TakeError, Taken};
+use geo_site::{Filled, ReapError, RetireError, SendError, TakeError, Taken};
 use geo_versions::{Digest, Key};
 
 /// What was asked of a site. Moments are in seconds, 1 to 2^40.
@@ -23,6 +23,8 @@ pub enum Event {
     Reap { now: u64, key: Key },
     /// To hold bytes of a key that another site offers.
     Fill { key: Key, bytes: ValueBytes },
+    /// To hold another site for gone for good.
+    Retire { other: u8 },
 }
 
 /// What a site answered. It never wanted memory: a call that did left no step.
@@ -50,6 +52,10 @@ pub enum Answer {
     ReapRefused(ReapError),
     /// What came of bytes that were offered.
     Filled(Filled),
+    /// Whether the other site was not held for gone before.
+    Retired(bool),
+    /// No site was retired.
+    RetireRefused(RetireError),
 }
 
 /// One call of a seat.

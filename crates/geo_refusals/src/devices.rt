@@ -5,7 +5,7 @@ use geo_lattice::Items;
 use geo_link::{Link, LinkError, StreamLink};
 use geo_scenes::texts::word;
 use geo_scenes::{Fused, Stop};
-use geo_stamp::Vector;
+use geo_stamp::{Retired, Vector};
 use std::alloc::{AllocError, Global};
 use std::sync::Wait;
 
@@ -30,6 +30,7 @@ fn parcel(alloc: Global) -> Message {
         to: 2,
         base: Vector::new(2),
         upto,
+        retired: Retired::none(),
         floor: None,
         records: Items::of(Vec::new(alloc)),
     })

@@ -226,6 +226,7 @@ const PATCHES: &[Patch] = &[
     ("a base beyond the last clock", 13, 1),
     ("a clock beyond the last", 29, 1),
     ("a site that has retired", 52, 1),
+    ("a third of two that has retired", 52, 4),
     ("a floor beyond the last clock", 53, 1),
     ("a floor of no site", 60, 1),
     ("a floor of no time", 61, 1),

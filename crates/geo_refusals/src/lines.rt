@@ -89,6 +89,7 @@ fn sent(alloc: Global, kept: &mut Kept, to: u8) -> Result<(Parcel, BoxedParcel),
         Ok(both) => Ok(both),
         Err(SendError::Memory) => Err(Stop::Memory),
         Err(SendError::NoSuchSite) => Err(Stop::Wrong("no such site")),
+        Err(SendError::Retired) => Err(Stop::Wrong("a retired site")),
     }
 }
 

@@ -106,6 +106,7 @@ fn push_event(event: &Event, out: &mut Vec<u8>) -> Result<(), AllocError> {
             push_three(8, *site, 0, out)?;
             push_key(out, key)
         }
+        Event::Retire { site, other } => push_three(9, *site, *other as u64, out),
     }
 }
 

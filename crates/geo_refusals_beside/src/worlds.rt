@@ -8,7 +8,9 @@ use geo_grammar::{Reply, ValueBytes, push_reply};
 use geo_scenes::shown::{name_of_fill, name_of_take, push_parcel, push_state, push_versions};
 use geo_scenes::texts::{key, request, word};
 use geo_scenes::{Scene, Stop};
-use geo_site::{Event, LAST_MOMENT, ReapError, SendError, Setup, Site, TakeError, Trace};
+use geo_site::{
+    Event, LAST_MOMENT, ReapError, RetireError, SendError, Setup, Site, TakeError, Trace,
+};
 use geo_world::{Outcome, World, WorldError, are_in_time, run_schedule};
 use std::alloc::{AllocError, Global};
 use std::random::RandomSource;
@@ -28,9 +30,10 @@ enum Line {
     Reap(u8, u64, &'static [u8]),
     /// Bytes of a key, which need not be right.
     Fill(u8, &'static [u8], &'static [u8]),
+    Retire(u8, u8),
 }
 
-/// Each kind of event: a tie, a removal that both sites know, a flush, a reaping, a send to the site itself, and fills.
+/// Each kind of event: a tie, a removal that both sites know, a flush, a reaping, a send to the site itself, fills, and a retirement.
 const LINES: &[Line] = &[
     Line::Act(1, 100, b"set a 0 0 2\r\nhi\r\n"),
     Line::Act(2, 100, b"set a 0 0 2\r\nyo\r\n"),
@@ -70,6 +73,11 @@ const LINES: &[Line] = &[
     Line::Fill(1, b"c_whose_name_is_too_long_to_stand_in_place", b"1"),
     Line::Fill(1, b"c_whose_name_is_too_long_to_stand_in_place", b"9"),
     Line::Fill(1, b"c_whose_name_is_too_long_to_stand_in_place", b"9"),
+    Line::Retire(1, 1),
+    Line::Retire(1, 2),
+    Line::Retire(1, 2),
+    Line::Send(1, 2),
+    Line::Take(1, 1),
 ];
 
 fn event_of(alloc: Global, line: Line) -> Result<Event, Stop> {
@@ -97,6 +105,7 @@ fn event_of(alloc: Global, line: Line) -> Result<Event, Stop> {
             key: key(alloc, name)?,
             bytes: ValueBytes::of(Vec::from_slice(alloc, bytes)?),
         },
+        Line::Retire(site, other) => Event::Retire { site, other },
     })
 }
 
@@ -139,6 +148,7 @@ fn push_trace(trace: &Trace, out: &mut Vec<u8>) -> Result<(), Stop> {
         | Trace::SendRefused(SendError::Memory)
         | Trace::TakeRefused(TakeError::Memory)
         | Trace::ReapRefused(ReapError::Memory)
+        | Trace::RetireRefused(RetireError::Memory)
         | Trace::FillRefused => return Err(Stop::Memory),
         Trace::Replied(reply, _victim) => return Ok(push_reply(out, reply)?),
         Trace::Removed { horizon, count } => {
@@ -151,7 +161,10 @@ fn push_trace(trace: &Trace, out: &mut Vec<u8>) -> Result<(), Stop> {
         Trace::Filled(filled) => name_of_fill(*filled),
         Trace::Sent => b"sent",
         Trace::Taken => b"taken",
-        Trace::SendRefused(SendError::NoSuchSite) => b"no such site",
+        Trace::Retired(told) => tell(*told, b"retired"),
+        Trace::SendRefused(SendError::NoSuchSite) | Trace::RetireRefused(RetireError::NoSuchSite) =>
+            b"no such site",
+        Trace::SendRefused(SendError::Retired) => b"retired",
         Trace::TakeRefused(why) => name_of_take(*why),
         Trace::ReapRefused(ReapError::ClockEnded) => b"clock ended",
     };
@@ -186,7 +199,8 @@ fn is_in_time(event: &Event) -> bool
         | Event::Send { .. }
         | Event::Take { .. }
         | Event::Remove { .. }
-        | Event::Fill { .. } => true,
+        | Event::Fill { .. }
+        | Event::Retire { .. } => true,
     }
 }
 

@@ -39,13 +39,22 @@ fn came<R: Wait>(rt: &R, alloc: Global, mut link: MemoryLink) -> Option<Parcel> 
     }
 }
 
-/// Keeps what a whole round put, for which there is room.
-fn keep(two: Option<Parcel>, three: Option<Parcel>, parcels: &mut Vec<Parcel>) -> Result<(), Stop> {
-    let (Some(two), Some(three)) = (two, three) else {
+/// Keeps what a whole round put, for which there is room. It is as many parcels as the round tells.
+fn keep(
+    two: Option<Parcel>,
+    three: Option<Parcel>,
+    told: usize,
+    parcels: &mut Vec<Parcel>,
+) -> Result<(), Stop> {
+    let before = parcels.len();
+    for one in [two, three] {
+        if let Some(parcel) = one {
+            parcels.push(parcel)?;
+        }
+    }
+    if parcels.len().saturating_sub(before) != told {
         return Err(Stop::Wrong("a parcel was lost"));
-    };
-    parcels.push(two)?;
-    parcels.push(three)?;
+    }
     Ok(())
 }
 
@@ -74,7 +83,7 @@ pub fn tell_all<L: Ledger, R: Wait>(
     let (two, three) = (came(rt, alloc, at_two), came(rt, alloc, at_three));
     match told {
         Ok(count) => {
-            keep(two, three, parcels)?;
+            keep(two, three, count, parcels)?;
             Ok(word(out, b"put ", count as u64)?)
         }
         Err(GossipFault::Memory) if three.is_none() => Err(Stop::Memory),

@@ -71,7 +71,7 @@ const TAKING: &[Line] = &[
     Line::Close,
 ];
 
-/// Each kind of call by two seats, while a second site writes the same key and hears of all.
+/// Each kind of call by two seats, while a second site writes the same key and hears of all, until it is held for gone.
 const STATION: &[Line] = &[
     Line::Act(0, 100, b"set a 0 0 2\r\nhi\r\n"),
     Line::Beside(b"set a 0 0 2\r\nyo\r\n"),
@@ -98,6 +98,11 @@ const STATION: &[Line] = &[
     Line::Back,
     Line::Take(1, 5),
     Line::Take(1, 0),
+    Line::Retire(0, 1),
+    Line::Retire(0, 2),
+    Line::Retire(1, 2),
+    Line::Send(1, 2),
+    Line::Take(0, 5),
     Line::Close,
 ];
 
@@ -144,7 +149,7 @@ const MAINTENANCE: &[Line] = &[
     Line::Maintain(1, 300),
 ];
 
-/// Two rounds to two sites, and what one of them tells in between.
+/// Two rounds to two sites, what one of them tells in between, and a third round once the other is held for gone.
 const ROUNDS: &[Line] = &[
     Line::Act(0, 100, b"set a 0 0 2\r\nhi\r\n"),
     Line::Beside(b"set a 0 0 2\r\nyo\r\n"),
@@ -158,6 +163,8 @@ const ROUNDS: &[Line] = &[
     Line::Act(0, 100, b"delete a\r\n"),
     Line::Round(0),
     Line::Forth(4),
+    Line::Retire(1, 3),
+    Line::Round(0),
 ];
 
 /// What the second site wrote is missing, is offered by hand and then fetched, and nothing is missing behind it.

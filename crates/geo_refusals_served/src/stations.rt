@@ -17,7 +17,7 @@ use geo_scenes::shown::{
 };
 use geo_scenes::texts::{request, word};
 use geo_scenes::{Course, Scene, Stop, carry_out};
-use geo_site::{LAST_MOMENT, SendError, Site, TakeError, Taken};
+use geo_site::{LAST_MOMENT, RetireError, SendError, Site, TakeError, Taken};
 use geo_station::{CallError, Maintained, Returned, Seat, Station, Unclosed, Why};
 use std::alloc::{AllocError, Global};
 use std::marker::Brand;
@@ -62,6 +62,8 @@ pub enum Line {
     Fill(usize, &'static [u8], &'static [u8]),
     /// A fetch from the second site, which brings so many values.
     Fetch(usize, usize),
+    /// A site is gone for good.
+    Retire(usize, u8),
 }
 
 /// What is seen of a station.
@@ -141,6 +143,7 @@ fn send<L: Ledger, R: Wait>(
         Ok(parcel) => keep(parcels, parcel, out),
         Err(CallError::Site(SendError::Memory)) => Err(Stop::Memory),
         Err(CallError::Site(SendError::NoSuchSite)) => Ok(out.extend_from_slice(b"no such site")?),
+        Err(CallError::Site(SendError::Retired)) => Ok(out.extend_from_slice(b"retired")?),
         Err(CallError::SeatSpent) => Err(Stop::Wrong("a spent seat")),
     }
 }
@@ -176,6 +179,24 @@ fn take<L: Ledger, R: Wait>(
         Ok(taken) => tell_taken(taken, out),
         Err(returned) => handed_back(&returned, parcel, out),
     }
+}
+
+fn retire<L: Ledger, R: Wait>(
+    rt: &R,
+    alloc: Global,
+    station: &Station<L>,
+    seat: &mut Seat<L>,
+    other: u8,
+    out: &mut Vec<u8>,
+) -> Result<(), Stop> {
+    let told: &[u8] = match station.retire(rt, alloc, seat, other) {
+        Ok(true) => b"gone",
+        Ok(false) => b"gone already",
+        Err(CallError::Site(RetireError::Memory)) => return Err(Stop::Memory),
+        Err(CallError::Site(RetireError::NoSuchSite)) => b"no such site",
+        Err(CallError::SeatSpent) => return Err(Stop::Wrong("a spent seat")),
+    };
+    Ok(out.extend_from_slice(told)?)
 }
 
 /// Adds what a part of a maintenance did.
@@ -305,6 +326,7 @@ fn back(
         Ok(parcel) => keep(parcels, parcel, out),
         Err(SendError::Memory) => Err(Stop::Memory),
         Err(SendError::NoSuchSite) => Err(Stop::Wrong("no such site")),
+        Err(SendError::Retired) => Err(Stop::Wrong("a retired site")),
     }
 }
 
@@ -396,6 +418,9 @@ fn seated<L: Ledger, R: Wait>(
         }
         Line::Maintain(seat, now) => {
             maintain(rt, alloc, station, seat_of(seats, seat)?, now, done, out)
+        }
+        Line::Retire(seat, other) => {
+            retire(rt, alloc, station, seat_of(seats, seat)?, other, out)
         }
         Line::Round(seat) => { tell_all(rt, alloc, station, seat_of(seats, seat)?, parcels, out) }
         Line::Receive(seat, first) => {

@@ -4,8 +4,8 @@ use geo_delta::Parcel;
 use geo_grammar::push_reply;
 use geo_history::{Answer, Event, Step};
 use geo_lattice::Lww;
-use geo_site::{Filled, ReapError, SendError, SiteState, TakeError};
-use geo_stamp::{Acks, Stamp, Vector};
+use geo_site::{Filled, ReapError, RetireError, SendError, SiteState, TakeError};
+use geo_stamp::{Acks, Retired, Stamp, Vector};
 use geo_versions::{Body, Digest, Key, Rec, Version};
 use std::alloc::AllocError;
 
@@ -45,11 +45,25 @@ pub fn push_vector(out: &mut Vec<u8>, vector: &Vector) -> Result<(), AllocError>
     Ok(())
 }
 
+/// A set of sites, a bit for each.
+fn push_retired(out: &mut Vec<u8>, retired: &Retired) -> Result<(), AllocError> {
+    let mut bits = 0u64;
+    for site in 1..17u8 {
+        if retired.has(site) {
+            bits |= 1u64 << (site as u64);
+        }
+    }
+    push_number(out, bits)
+}
+
+/// What was heard of each site, which sites are held for retired, and the horizon that was kept.
 fn push_rows(out: &mut Vec<u8>, rows: &Acks) -> Result<(), AllocError> {
     for site in 1..17u8 {
         push_vector(out, rows.row(site))?;
+        push_retired(out, &rows.told(site))?;
     }
-    Ok(())
+    push_retired(out, rows.retired())?;
+    push_number(out, rows.reached())
 }
 
 fn push_body(out: &mut Vec<u8>, body: &Body) -> Result<(), AllocError> {
@@ -150,6 +164,7 @@ pub fn push_parcel(out: &mut Vec<u8>, parcel: &Parcel) -> Result<(), AllocError>
     push_number(out, parcel.to as u64)?;
     push_vector(out, &parcel.base)?;
     push_vector(out, &parcel.upto)?;
+    push_retired(out, &parcel.retired)?;
     push_floor(out, &parcel.floor)?;
     push_records(out, parcel.records.as_slice())
 }
@@ -188,12 +203,17 @@ pub fn push_event(out: &mut Vec<u8>, event: &Event) -> Result<(), AllocError> {
             push_key(out, key)?;
             push_number(out, bytes.len() as u64)
         }
+        Event::Retire { other } => {
+            push_number(out, 9)?;
+            push_number(out, *other as u64)
+        }
     }
 }
 
 fn name_of_send(why: SendError) -> &'static [u8] {
     match why {
         SendError::NoSuchSite => b"no such site",
+        SendError::Retired => b"retired",
         SendError::Memory => b"memory",
     }
 }
@@ -203,6 +223,7 @@ pub fn name_of_take(why: TakeError) -> &'static [u8] {
     match why {
         TakeError::NotForMe => b"not for me",
         TakeError::UnknownSite => b"unknown site",
+        TakeError::Retired => b"retired",
         TakeError::Gap => b"gap",
         TakeError::Memory => b"memory",
     }
@@ -212,6 +233,14 @@ fn name_of_reap(why: ReapError) -> &'static [u8] {
     match why {
         ReapError::ClockEnded => b"clock ended",
         ReapError::Memory => b"memory",
+    }
+}
+
+/// Why no site was retired, in words.
+pub fn name_of_retire(why: RetireError) -> &'static [u8] {
+    match why {
+        RetireError::NoSuchSite => b"no such site",
+        RetireError::Memory => b"memory",
     }
 }
 
@@ -237,11 +266,13 @@ pub fn push_answer(out: &mut Vec<u8>, answer: &Answer) -> Result<(), AllocError>
         }
         Answer::TakeRefused(why) => out.extend_from_slice(name_of_take(*why)),
         Answer::Removed(count) => push_number(out, *count as u64),
-        Answer::Evicted(told) | Answer::Ticked(told) | Answer::Reaped(told) => {
-            push_number(out, *told as u64)
-        }
+        Answer::Evicted(told)
+        | Answer::Ticked(told)
+        | Answer::Reaped(told)
+        | Answer::Retired(told) => push_number(out, *told as u64),
         Answer::ReapRefused(why) => out.extend_from_slice(name_of_reap(*why)),
         Answer::Filled(filled) => out.extend_from_slice(name_of_fill(*filled)),
+        Answer::RetireRefused(why) => out.extend_from_slice(name_of_retire(*why)),
     }
 }
 

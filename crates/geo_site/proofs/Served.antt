@@ -23,9 +23,9 @@ use Rattle.geo_grammar.specs.declared.stats.Stats.{Stats}
 use Rattle.geo_memcache.specs.Entries.{Entry, is_live, expiry_at}
 use Rattle.geo_memcache.specs.Decisions.{stores, deletes, touches, counts}
 use Rattle.geo_site.specs.declared.event.Event.{Event}
-use Rattle.geo_site.specs.declared.event.Event.TheVariants.{Command, Evict, Send, Take, Remove, Tick, Reap, Fill}
+use Rattle.geo_site.specs.declared.event.Event.TheVariants.{Command}
 use Rattle.geo_site.specs.declared.event.Trace.{Trace}
-use Rattle.geo_site.specs.declared.event.Trace.TheVariants.{Replied, Evicted, Sent, SendRefused, Taken, TakeRefused, Removed, Ticked, Reaped, ReapRefused, Filled, FillRefused}
+use Rattle.geo_site.specs.declared.event.Trace.TheVariants.{Replied}
 use Rattle.geo_site.specs.Entries.{names, entry_in, renewed, found_at, found_of, found_after, touched_after, is_stuck, unique_if, cas_of, Basis, replied, issued, is_crowded, lacks, owed}
 use Rattle.geo_site.specs.Schedule.{Known, visible, basis, flushed, RepliesTo, RepliesBy, happens, known, Lawful, EachLawful}
 use Rattle.geo_site.specs.Served.{Written, Offered, Apart, NoCollision, ServedBy, EachServed, values_in, ReplyServes, TraceServes, AllServe}
@@ -205,101 +205,7 @@ told_replied P w s now request reply victim bytes (inr h) = inr h
 -- what is known after the event has no collision
 serve_trace : {P : List ℕ → Type 0} → (w : Known) (e : Event) (t : Trace) → Sound P w → Apart (Told P (happens w e t)) → Lawful w e t → TraceServes w e t
 serve_trace {P = P} w (Command s now request) (Replied reply victim) sound apart h = serve_by (is_stuck (w.waiting s) (latest (w.at s)) now) (flushed w s now) s now request reply (sound_flushed w s now sound) (λ a b x y. apart a b (told_replied P w s now request reply victim a x) (told_replied P w s now request reply victim b y)) h.0
-serve_trace w (Command s now request) (Evicted done) sound apart h = tt
-serve_trace w (Command s now request) Sent sound apart h = tt
-serve_trace w (Command s now request) (SendRefused why) sound apart h = tt
-serve_trace w (Command s now request) Taken sound apart h = tt
-serve_trace w (Command s now request) (TakeRefused why) sound apart h = tt
-serve_trace w (Command s now request) (Removed horizon count) sound apart h = tt
-serve_trace w (Command s now request) (Ticked done) sound apart h = tt
-serve_trace w (Command s now request) (Reaped done) sound apart h = tt
-serve_trace w (Command s now request) (ReapRefused why) sound apart h = tt
-serve_trace w (Command s now request) (Filled filled) sound apart h = tt
-serve_trace w (Command s now request) FillRefused sound apart h = tt
-serve_trace w (Evict s key) (Replied reply victim) sound apart h = absurd h
-serve_trace w (Evict s key) (Evicted done) sound apart h = tt
-serve_trace w (Evict s key) Sent sound apart h = tt
-serve_trace w (Evict s key) (SendRefused why) sound apart h = tt
-serve_trace w (Evict s key) Taken sound apart h = tt
-serve_trace w (Evict s key) (TakeRefused why) sound apart h = tt
-serve_trace w (Evict s key) (Removed horizon count) sound apart h = tt
-serve_trace w (Evict s key) (Ticked done) sound apart h = tt
-serve_trace w (Evict s key) (Reaped done) sound apart h = tt
-serve_trace w (Evict s key) (ReapRefused why) sound apart h = tt
-serve_trace w (Evict s key) (Filled filled) sound apart h = tt
-serve_trace w (Evict s key) FillRefused sound apart h = tt
-serve_trace w (Send s to) (Replied reply victim) sound apart h = absurd h
-serve_trace w (Send s to) (Evicted done) sound apart h = tt
-serve_trace w (Send s to) Sent sound apart h = tt
-serve_trace w (Send s to) (SendRefused why) sound apart h = tt
-serve_trace w (Send s to) Taken sound apart h = tt
-serve_trace w (Send s to) (TakeRefused why) sound apart h = tt
-serve_trace w (Send s to) (Removed horizon count) sound apart h = tt
-serve_trace w (Send s to) (Ticked done) sound apart h = tt
-serve_trace w (Send s to) (Reaped done) sound apart h = tt
-serve_trace w (Send s to) (ReapRefused why) sound apart h = tt
-serve_trace w (Send s to) (Filled filled) sound apart h = tt
-serve_trace w (Send s to) FillRefused sound apart h = tt
-serve_trace w (Take s p) (Replied reply victim) sound apart h = absurd h
-serve_trace w (Take s p) (Evicted done) sound apart h = tt
-serve_trace w (Take s p) Sent sound apart h = tt
-serve_trace w (Take s p) (SendRefused why) sound apart h = tt
-serve_trace w (Take s p) Taken sound apart h = tt
-serve_trace w (Take s p) (TakeRefused why) sound apart h = tt
-serve_trace w (Take s p) (Removed horizon count) sound apart h = tt
-serve_trace w (Take s p) (Ticked done) sound apart h = tt
-serve_trace w (Take s p) (Reaped done) sound apart h = tt
-serve_trace w (Take s p) (ReapRefused why) sound apart h = tt
-serve_trace w (Take s p) (Filled filled) sound apart h = tt
-serve_trace w (Take s p) FillRefused sound apart h = tt
-serve_trace w (Remove s) (Replied reply victim) sound apart h = absurd h
-serve_trace w (Remove s) (Evicted done) sound apart h = tt
-serve_trace w (Remove s) Sent sound apart h = tt
-serve_trace w (Remove s) (SendRefused why) sound apart h = tt
-serve_trace w (Remove s) Taken sound apart h = tt
-serve_trace w (Remove s) (TakeRefused why) sound apart h = tt
-serve_trace w (Remove s) (Removed horizon count) sound apart h = tt
-serve_trace w (Remove s) (Ticked done) sound apart h = tt
-serve_trace w (Remove s) (Reaped done) sound apart h = tt
-serve_trace w (Remove s) (ReapRefused why) sound apart h = tt
-serve_trace w (Remove s) (Filled filled) sound apart h = tt
-serve_trace w (Remove s) FillRefused sound apart h = tt
-serve_trace w (Tick s now) (Replied reply victim) sound apart h = absurd h
-serve_trace w (Tick s now) (Evicted done) sound apart h = tt
-serve_trace w (Tick s now) Sent sound apart h = tt
-serve_trace w (Tick s now) (SendRefused why) sound apart h = tt
-serve_trace w (Tick s now) Taken sound apart h = tt
-serve_trace w (Tick s now) (TakeRefused why) sound apart h = tt
-serve_trace w (Tick s now) (Removed horizon count) sound apart h = tt
-serve_trace w (Tick s now) (Ticked done) sound apart h = tt
-serve_trace w (Tick s now) (Reaped done) sound apart h = tt
-serve_trace w (Tick s now) (ReapRefused why) sound apart h = tt
-serve_trace w (Tick s now) (Filled filled) sound apart h = tt
-serve_trace w (Tick s now) FillRefused sound apart h = tt
-serve_trace w (Reap s now key) (Replied reply victim) sound apart h = absurd h
-serve_trace w (Reap s now key) (Evicted done) sound apart h = tt
-serve_trace w (Reap s now key) Sent sound apart h = tt
-serve_trace w (Reap s now key) (SendRefused why) sound apart h = tt
-serve_trace w (Reap s now key) Taken sound apart h = tt
-serve_trace w (Reap s now key) (TakeRefused why) sound apart h = tt
-serve_trace w (Reap s now key) (Removed horizon count) sound apart h = tt
-serve_trace w (Reap s now key) (Ticked done) sound apart h = tt
-serve_trace w (Reap s now key) (Reaped done) sound apart h = tt
-serve_trace w (Reap s now key) (ReapRefused why) sound apart h = tt
-serve_trace w (Reap s now key) (Filled filled) sound apart h = tt
-serve_trace w (Reap s now key) FillRefused sound apart h = tt
-serve_trace w (Fill s key bytes) (Replied reply victim) sound apart h = absurd h
-serve_trace w (Fill s key bytes) (Evicted done) sound apart h = tt
-serve_trace w (Fill s key bytes) Sent sound apart h = tt
-serve_trace w (Fill s key bytes) (SendRefused why) sound apart h = tt
-serve_trace w (Fill s key bytes) Taken sound apart h = tt
-serve_trace w (Fill s key bytes) (TakeRefused why) sound apart h = tt
-serve_trace w (Fill s key bytes) (Removed horizon count) sound apart h = tt
-serve_trace w (Fill s key bytes) (Ticked done) sound apart h = tt
-serve_trace w (Fill s key bytes) (Reaped done) sound apart h = tt
-serve_trace w (Fill s key bytes) (ReapRefused why) sound apart h = tt
-serve_trace w (Fill s key bytes) (Filled filled) sound apart h = tt
-serve_trace w (Fill s key bytes) FillRefused sound apart h = tt
+serve_trace w event trace sound apart h = tt
 
 grown_all : (w : Known) (es : List Event) (ts : List Trace) (s : ℕ) (op : Operation) → Among (w.at s) op → Among ((known w es ts).at s) op
 grown_all w [] ts s op a = a

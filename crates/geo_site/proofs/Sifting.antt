@@ -21,6 +21,7 @@ use Rattle.geo_delta.proofs.Tracing.{traced_on}
 use Rattle.geo_site.specs.Entries.{Held, names}
 use Rattle.geo_site.specs.Machine.{knows_record, knows_floor, Covers, EndsFrom, Settled}
 use Rattle.geo_delta.specs.declared.parcel.Parcel.{Parcel}
+use Rattle.geo_stamp.specs.Retired.{set_fits}
 use Rattle.geo_site.specs.Sites.{knows_all, is_sound, brings_new}
 use Rattle.geo_site.specs.declared.site.Site.{Site}
 use Rattle.geo_versions.specs.declared.versions.Versions.{Versions}
@@ -218,19 +219,22 @@ module _ (h : ℕ) (map new : List ℕ → Record) (is : (q : List ℕ) → new 
 -- a sound parcel has records whose stamps it knows
 pub sound_records : (n number : ℕ) (parcel : Parcel) → is_sound n number parcel ≡ true → knows_all parcel.upto parcel.records ≡ true
 sound_records n number parcel e =
-    (both_true ((nat_le 1 parcel.from && nat_le parcel.from n) && not (parcel.from == number) && (length parcel.base == n) && (length parcel.upto == n) && knows_floor parcel.upto parcel.floor) (knows_all parcel.upto parcel.records) e).1
+    (both_true ((nat_le 1 parcel.from && nat_le parcel.from n) && not (parcel.from == number) && (length parcel.base == n) && (length parcel.upto == n) && set_fits n parcel.retired && knows_floor parcel.upto parcel.floor) (knows_all parcel.upto parcel.records) e).1
 
--- and comes from one of as many sites, of whose clocks its vector tells
-pub sound_from : (n number : ℕ) (parcel : Parcel) → is_sound n number parcel ≡ true → (1 ≤ parcel.from) × (parcel.from ≤ n) × (length parcel.upto ≡ n)
+-- and comes from one of as many sites, of whose clocks its vector tells, and of which it holds some for retired
+pub sound_from : (n number : ℕ) (parcel : Parcel) → is_sound n number parcel ≡ true
+    → (1 ≤ parcel.from) × (parcel.from ≤ n) × (length parcel.upto ≡ n) × (set_fits n parcel.retired ≡ true)
 sound_from n number parcel e =
     let range = nat_le 1 parcel.from && nat_le parcel.from n in
     let other = range && not (parcel.from == number) in
     let base = other && (length parcel.base == n) in
     let upto = base && (length parcel.upto == n) in
-    let a = both_true (upto && knows_floor parcel.upto parcel.floor) (knows_all parcel.upto parcel.records) e in
-    let b = both_true upto (knows_floor parcel.upto parcel.floor) a.0 in
-    let c = both_true base (length parcel.upto == n) b.0 in
+    let set = upto && set_fits n parcel.retired in
+    let a = both_true (set && knows_floor parcel.upto parcel.floor) (knows_all parcel.upto parcel.records) e in
+    let b = both_true set (knows_floor parcel.upto parcel.floor) a.0 in
+    let r = both_true upto (set_fits n parcel.retired) b.0 in
+    let c = both_true base (length parcel.upto == n) r.0 in
     let d = both_true other (length parcel.base == n) c.0 in
     let f = both_true range (not (parcel.from == number)) d.0 in
     let g = both_true (nat_le 1 parcel.from) (nat_le parcel.from n) f.0 in
-    (leb-true 1 parcel.from g.0, leb-true parcel.from n g.1, eqb-true (length parcel.upto) n c.1)
+    (leb-true 1 parcel.from g.0, leb-true parcel.from n g.1, eqb-true (length parcel.upto) n c.1, r.1)

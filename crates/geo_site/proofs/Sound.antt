@@ -3,14 +3,15 @@ use Rattle.std.proofs.Common.{◌≡◌, ◌≢◌, ℕ, zero, suc, Bool, true, 
 use Rattle.std.proofs.lemmas.Bool.{cases_eq}
 use Rattle.std.proofs.lemmas.Bool.Decides.{eqb_tells}
 use Rattle.geo_stamp.specs.Stamps.{Moment}
+use Rattle.geo_stamp.specs.Retired.{with_site, set_joined}
 use Rattle.geo_records.specs.Keys.{same_key}
 use Rattle.geo_records.specs.Operations.{Operation, Act, Among, version_of, latest}
 use Rattle.geo_records.specs.Operations.Act.{Write, Delete, Touch, Flush}
 use Rattle.geo_records.specs.declared.version.Version.{Version}
 use Rattle.geo_site.specs.declared.event.Event.{Event}
-use Rattle.geo_site.specs.declared.event.Event.TheVariants.{Command, Evict, Send, Take, Remove, Tick, Reap, Fill}
+use Rattle.geo_site.specs.declared.event.Event.TheVariants.{Command, Evict, Send, Take, Tick, Reap, Fill, Retire}
 use Rattle.geo_site.specs.declared.event.Trace.{Trace}
-use Rattle.geo_site.specs.declared.event.Trace.TheVariants.{Replied, Evicted, Sent, SendRefused, Taken, TakeRefused, Removed, Ticked, Reaped, ReapRefused, Filled, FillRefused}
+use Rattle.geo_site.specs.declared.event.Trace.TheVariants.{Replied, Evicted, Sent, Taken, Ticked, Reaped, ReapRefused, Filled, Retired}
 use Rattle.geo_site.specs.declared.fill.Filled.{Filled as FilledAs}
 use Rattle.geo_site.specs.declared.fill.Filled.TheVariants.{NotNamed, Full, Done}
 use Rattle.geo_site.specs.declared.fill.Filled.TheVariants as filled
@@ -19,7 +20,7 @@ use Rattle.geo_grammar.specs.declared.request.Request.{Request}
 use Rattle.geo_grammar.specs.declared.reply.Reply.{Reply}
 use Rattle.geo_site.specs.Entries.{Held, Counts, counted, evicted_on, names, named_by, waits_after, due_acts, waits_on, is_done}
 use Rattle.geo_site.specs.Machine.{act_held, is_victim, without}
-use Rattle.geo_site.specs.Schedule.{Known, nothing_known, still_held, settles, new_operation, issues, learns, carried, issues_on, counts_keys, lets_go, evicts, carries_out, happens, waits, flushed, visible, reaps_on, held_with, fills, FilledIn, Lawful}
+use Rattle.geo_site.specs.Schedule.{Sending, Known, never_sent, nothing_known, still_held, settles, new_operation, issues, learns, carried, told_retired, holds_retired, issues_on, counts_keys, lets_go, evicts, carries_out, happens, waits, flushed, visible, reaps_on, held_with, fills, FilledIn, Lawful}
 use Rattle.geo_site.specs.Fills.{is_filled}
 use Rattle.geo_site.specs.Served.{Writing, Offers}
 use Rattle.geo_values.proofs.Linked.{same_keys}
@@ -187,20 +188,24 @@ sound_takes {P = P} w s p sound =
     at_home op a = elim (among_append (w.at s) (carried w p) op a) [ inl x ↦ sound.home s op x | inr x ↦ sound.home_sent p op x ]
 
 -- one more that is sent
-sent_more : (xs : List (ℕ × List Operation)) (x : ℕ × List Operation) (p : ℕ) (op : Operation) → Among (slice_index_or (xs ++ x ∷ []) p (0, [])).1 op → Among (slice_index_or xs p (0, [])).1 op ⊎ Among x.1 op
+sent_more : (xs : List Sending) (x : Sending) (p : ℕ) (op : Operation) → Among (slice_index_or (xs ++ x ∷ []) p never_sent).ops op → Among (slice_index_or xs p never_sent).ops op ⊎ Among x.ops op
 sent_more [] x zero op h = inr h
 sent_more [] x (suc p) op h = inl h
 sent_more (y ∷ xs) x zero op h = inl h
 sent_more (y ∷ xs) x (suc p) op h = sent_more xs x p op h
 
-pub sound_sends : {P : List ℕ → Type 0} → (w : Known) (s to : ℕ) → Sound P w → Sound P (record { at = w.at; held = w.held; counts = w.counts; waiting = w.waiting; limits = w.limits; sites = w.sites; sent = w.sent ++ (to, w.at s) ∷ [] })
+pub sound_sends : {P : List ℕ → Type 0} → (w : Known) (s to : ℕ) → Sound P w → Sound P (happens w (Send s to) Sent)
 sound_sends w s to sound = record {
   home = sound.home;
-  home_sent = λ p op a. elim (sent_more w.sent (to, w.at s) p op a) [ inl x ↦ sound.home_sent p op x | inr x ↦ sound.home s op x ];
+  home_sent = λ p op a. elim (sent_more w.sent (record { from = s; to = to; set = w.sets s; ops = w.at s }) p op a) [ inl x ↦ sound.home_sent p op x | inr x ↦ sound.home s op x ];
   once = sound.once;
   written = sound.written;
   named = sound.named;
 }
+
+-- whom a site holds for retired is no matter
+sound_retires : {P : List ℕ → Type 0} → (w : Known) (s : ℕ) (set : List Bool) → Sound P w → Sound P (holds_retired w s set)
+sound_retires w s set sound = record { home = sound.home; home_sent = sound.home_sent; once = sound.once; written = sound.written; named = sound.named }
 
 -- what is counted is no matter
 sound_counts : {P : List ℕ → Type 0} → (w : Known) (s : ℕ) (counts : Counts) → Sound P w → Sound P (counts_keys w s counts)
@@ -286,101 +291,15 @@ sound_filled Done w s key bytes offered lawful sound = sound_fills w s key bytes
 
 pub sound_happens : {P : List ℕ → Type 0} → (w : Known) (e : Event) (t : Trace) → ((bytes : List ℕ) → Offers e bytes → P bytes) → Lawful w e t → Sound P w → Sound P (happens w e t)
 sound_happens w (Command s now request) (Replied reply victim) offers lawful sound = let v = flushed w s now in let ok = sound_flushed w s now sound in sound_done (is_done reply) v (carries_out v s now request victim) ok (sound_carries v s now request victim ok)
-sound_happens w (Command s now request) (Evicted done) offers lawful sound = sound
-sound_happens w (Command s now request) Sent offers lawful sound = sound
-sound_happens w (Command s now request) (SendRefused why) offers lawful sound = sound
-sound_happens w (Command s now request) Taken offers lawful sound = sound
-sound_happens w (Command s now request) (TakeRefused why) offers lawful sound = sound
-sound_happens w (Command s now request) (Removed horizon count) offers lawful sound = sound
-sound_happens w (Command s now request) (Ticked done) offers lawful sound = sound
-sound_happens w (Command s now request) (Reaped done) offers lawful sound = sound
-sound_happens w (Command s now request) (ReapRefused why) offers lawful sound = sound
-sound_happens w (Command s now request) (Filled filled) offers lawful sound = sound
-sound_happens w (Command s now request) FillRefused offers lawful sound = sound
-sound_happens w (Evict s key) (Replied reply victim) offers lawful sound = sound
 sound_happens w (Evict s key) (Evicted done) offers lawful sound = sound_done done w (evicts w s key) sound (sound_evicts w s key sound)
-sound_happens w (Evict s key) Sent offers lawful sound = sound
-sound_happens w (Evict s key) (SendRefused why) offers lawful sound = sound
-sound_happens w (Evict s key) Taken offers lawful sound = sound
-sound_happens w (Evict s key) (TakeRefused why) offers lawful sound = sound
-sound_happens w (Evict s key) (Removed horizon count) offers lawful sound = sound
-sound_happens w (Evict s key) (Ticked done) offers lawful sound = sound
-sound_happens w (Evict s key) (Reaped done) offers lawful sound = sound
-sound_happens w (Evict s key) (ReapRefused why) offers lawful sound = sound
-sound_happens w (Evict s key) (Filled filled) offers lawful sound = sound
-sound_happens w (Evict s key) FillRefused offers lawful sound = sound
-sound_happens w (Send s to) (Replied reply victim) offers lawful sound = sound
-sound_happens w (Send s to) (Evicted done) offers lawful sound = sound
 sound_happens w (Send s to) Sent offers lawful sound = sound_sends w s to sound
-sound_happens w (Send s to) (SendRefused why) offers lawful sound = sound
-sound_happens w (Send s to) Taken offers lawful sound = sound
-sound_happens w (Send s to) (TakeRefused why) offers lawful sound = sound
-sound_happens w (Send s to) (Removed horizon count) offers lawful sound = sound
-sound_happens w (Send s to) (Ticked done) offers lawful sound = sound
-sound_happens w (Send s to) (Reaped done) offers lawful sound = sound
-sound_happens w (Send s to) (ReapRefused why) offers lawful sound = sound
-sound_happens w (Send s to) (Filled filled) offers lawful sound = sound
-sound_happens w (Send s to) FillRefused offers lawful sound = sound
-sound_happens w (Take s p) (Replied reply victim) offers lawful sound = sound
-sound_happens w (Take s p) (Evicted done) offers lawful sound = sound
-sound_happens w (Take s p) Sent offers lawful sound = sound
-sound_happens w (Take s p) (SendRefused why) offers lawful sound = sound
-sound_happens w (Take s p) Taken offers lawful sound = sound_takes w s p sound
-sound_happens w (Take s p) (TakeRefused why) offers lawful sound = sound
-sound_happens w (Take s p) (Removed horizon count) offers lawful sound = sound
-sound_happens w (Take s p) (Ticked done) offers lawful sound = sound
-sound_happens w (Take s p) (Reaped done) offers lawful sound = sound
-sound_happens w (Take s p) (ReapRefused why) offers lawful sound = sound
-sound_happens w (Take s p) (Filled filled) offers lawful sound = sound
-sound_happens w (Take s p) FillRefused offers lawful sound = sound
-sound_happens w (Remove s) (Replied reply victim) offers lawful sound = sound
-sound_happens w (Remove s) (Evicted done) offers lawful sound = sound
-sound_happens w (Remove s) Sent offers lawful sound = sound
-sound_happens w (Remove s) (SendRefused why) offers lawful sound = sound
-sound_happens w (Remove s) Taken offers lawful sound = sound
-sound_happens w (Remove s) (TakeRefused why) offers lawful sound = sound
-sound_happens w (Remove s) (Removed horizon count) offers lawful sound = sound
-sound_happens w (Remove s) (Ticked done) offers lawful sound = sound
-sound_happens w (Remove s) (Reaped done) offers lawful sound = sound
-sound_happens w (Remove s) (ReapRefused why) offers lawful sound = sound
-sound_happens w (Remove s) (Filled filled) offers lawful sound = sound
-sound_happens w (Remove s) FillRefused offers lawful sound = sound
-sound_happens w (Tick s now) (Replied reply victim) offers lawful sound = sound
-sound_happens w (Tick s now) (Evicted done) offers lawful sound = sound
-sound_happens w (Tick s now) Sent offers lawful sound = sound
-sound_happens w (Tick s now) (SendRefused why) offers lawful sound = sound
-sound_happens w (Tick s now) Taken offers lawful sound = sound
-sound_happens w (Tick s now) (TakeRefused why) offers lawful sound = sound
-sound_happens w (Tick s now) (Removed horizon count) offers lawful sound = sound
+sound_happens w (Take s p) Taken offers lawful sound = sound_retires (learns w s (carried w p)) s (set_joined (w.sets s) (told_retired w p)) (sound_takes w s p sound)
 sound_happens w (Tick s now) (Ticked done) offers lawful sound = sound_flushed w s now sound
-sound_happens w (Tick s now) (Reaped done) offers lawful sound = sound
-sound_happens w (Tick s now) (ReapRefused why) offers lawful sound = sound
-sound_happens w (Tick s now) (Filled filled) offers lawful sound = sound
-sound_happens w (Tick s now) FillRefused offers lawful sound = sound
-sound_happens w (Reap s now key) (Replied reply victim) offers lawful sound = sound
-sound_happens w (Reap s now key) (Evicted done) offers lawful sound = sound
-sound_happens w (Reap s now key) Sent offers lawful sound = sound
-sound_happens w (Reap s now key) (SendRefused why) offers lawful sound = sound
-sound_happens w (Reap s now key) Taken offers lawful sound = sound
-sound_happens w (Reap s now key) (TakeRefused why) offers lawful sound = sound
-sound_happens w (Reap s now key) (Removed horizon count) offers lawful sound = sound
-sound_happens w (Reap s now key) (Ticked done) offers lawful sound = sound
 sound_happens w (Reap s now key) (Reaped done) offers lawful sound = let v = flushed w s now in sound_issues v s (reaps_on v s now key) (sound_flushed w s now sound)
 sound_happens w (Reap s now key) (ReapRefused why) offers lawful sound = sound_flushed w s now sound
-sound_happens w (Reap s now key) (Filled filled) offers lawful sound = sound
-sound_happens w (Reap s now key) FillRefused offers lawful sound = sound
-sound_happens w (Fill s key bytes) (Replied reply victim) offers lawful sound = sound
-sound_happens w (Fill s key bytes) (Evicted done) offers lawful sound = sound
-sound_happens w (Fill s key bytes) Sent offers lawful sound = sound
-sound_happens w (Fill s key bytes) (SendRefused why) offers lawful sound = sound
-sound_happens w (Fill s key bytes) Taken offers lawful sound = sound
-sound_happens w (Fill s key bytes) (TakeRefused why) offers lawful sound = sound
-sound_happens w (Fill s key bytes) (Removed horizon count) offers lawful sound = sound
-sound_happens w (Fill s key bytes) (Ticked done) offers lawful sound = sound
-sound_happens w (Fill s key bytes) (Reaped done) offers lawful sound = sound
-sound_happens w (Fill s key bytes) (ReapRefused why) offers lawful sound = sound
 sound_happens w (Fill s key bytes) (Filled filled) offers lawful sound = sound_filled filled w s key bytes (offers bytes refl) lawful sound
-sound_happens w (Fill s key bytes) FillRefused offers lawful sound = sound
+sound_happens w (Retire s other) (Retired fresh) offers lawful sound = sound_retires w s (with_site (w.sets s) other) sound
+sound_happens w event trace offers lawful sound = sound
 
 pub sound_nothing : {P : List ℕ → Type 0} → (sites : ℕ) (limits : ℕ → Limits) → Sound P (nothing_known sites limits)
 sound_nothing sites limits = record {
@@ -391,7 +310,7 @@ sound_nothing sites limits = record {
   named = λ t q bytes h. absurd (some_none (sym h));
 }
   where
-    none : (p : ℕ) (op : Operation) → Among (slice_index_or {A = ℕ × List Operation} [] p (0, [])).1 op → ⊥
+    none : (p : ℕ) (op : Operation) → Among (slice_index_or {A = Sending} [] p never_sent).ops op → ⊥
     none zero op h = h
     none (suc p) op h = h
 
@@ -412,98 +331,12 @@ grown_replied w s now request reply victim t op a = let v = flushed w s now in g
 
 pub grown : (w : Known) (e : Event) (t : Trace) (k : ℕ) (op : Operation) → Among (w.at k) op → Among ((happens w e t).at k) op
 grown w (Command s now request) (Replied reply victim) t op a = grown_replied w s now request reply victim t op (grown_flushed w s now t op a)
-grown w (Command s now request) (Evicted done) t op a = a
-grown w (Command s now request) Sent t op a = a
-grown w (Command s now request) (SendRefused why) t op a = a
-grown w (Command s now request) Taken t op a = a
-grown w (Command s now request) (TakeRefused why) t op a = a
-grown w (Command s now request) (Removed horizon count) t op a = a
-grown w (Command s now request) (Ticked done) t op a = a
-grown w (Command s now request) (Reaped done) t op a = a
-grown w (Command s now request) (ReapRefused why) t op a = a
-grown w (Command s now request) (Filled filled) t op a = a
-grown w (Command s now request) FillRefused t op a = a
-grown w (Evict s key) (Replied reply victim) t op a = a
 grown w (Evict s key) (Evicted done) t op a = grown_done done w (evicts w s key) t op a a
-grown w (Evict s key) Sent t op a = a
-grown w (Evict s key) (SendRefused why) t op a = a
-grown w (Evict s key) Taken t op a = a
-grown w (Evict s key) (TakeRefused why) t op a = a
-grown w (Evict s key) (Removed horizon count) t op a = a
-grown w (Evict s key) (Ticked done) t op a = a
-grown w (Evict s key) (Reaped done) t op a = a
-grown w (Evict s key) (ReapRefused why) t op a = a
-grown w (Evict s key) (Filled filled) t op a = a
-grown w (Evict s key) FillRefused t op a = a
-grown w (Send s to) (Replied reply victim) t op a = a
-grown w (Send s to) (Evicted done) t op a = a
-grown w (Send s to) Sent t op a = a
-grown w (Send s to) (SendRefused why) t op a = a
-grown w (Send s to) Taken t op a = a
-grown w (Send s to) (TakeRefused why) t op a = a
-grown w (Send s to) (Removed horizon count) t op a = a
-grown w (Send s to) (Ticked done) t op a = a
-grown w (Send s to) (Reaped done) t op a = a
-grown w (Send s to) (ReapRefused why) t op a = a
-grown w (Send s to) (Filled filled) t op a = a
-grown w (Send s to) FillRefused t op a = a
-grown w (Take s p) (Replied reply victim) t op a = a
-grown w (Take s p) (Evicted done) t op a = a
-grown w (Take s p) Sent t op a = a
-grown w (Take s p) (SendRefused why) t op a = a
 grown w (Take s p) Taken t op a = grows w s (carried w p) (w.held s) t op a
-grown w (Take s p) (TakeRefused why) t op a = a
-grown w (Take s p) (Removed horizon count) t op a = a
-grown w (Take s p) (Ticked done) t op a = a
-grown w (Take s p) (Reaped done) t op a = a
-grown w (Take s p) (ReapRefused why) t op a = a
-grown w (Take s p) (Filled filled) t op a = a
-grown w (Take s p) FillRefused t op a = a
-grown w (Remove s) (Replied reply victim) t op a = a
-grown w (Remove s) (Evicted done) t op a = a
-grown w (Remove s) Sent t op a = a
-grown w (Remove s) (SendRefused why) t op a = a
-grown w (Remove s) Taken t op a = a
-grown w (Remove s) (TakeRefused why) t op a = a
-grown w (Remove s) (Removed horizon count) t op a = a
-grown w (Remove s) (Ticked done) t op a = a
-grown w (Remove s) (Reaped done) t op a = a
-grown w (Remove s) (ReapRefused why) t op a = a
-grown w (Remove s) (Filled filled) t op a = a
-grown w (Remove s) FillRefused t op a = a
-grown w (Tick s now) (Replied reply victim) t op a = a
-grown w (Tick s now) (Evicted done) t op a = a
-grown w (Tick s now) Sent t op a = a
-grown w (Tick s now) (SendRefused why) t op a = a
-grown w (Tick s now) Taken t op a = a
-grown w (Tick s now) (TakeRefused why) t op a = a
-grown w (Tick s now) (Removed horizon count) t op a = a
 grown w (Tick s now) (Ticked done) t op a = grown_flushed w s now t op a
-grown w (Tick s now) (Reaped done) t op a = a
-grown w (Tick s now) (ReapRefused why) t op a = a
-grown w (Tick s now) (Filled filled) t op a = a
-grown w (Tick s now) FillRefused t op a = a
-grown w (Reap s now key) (Replied reply victim) t op a = a
-grown w (Reap s now key) (Evicted done) t op a = a
-grown w (Reap s now key) Sent t op a = a
-grown w (Reap s now key) (SendRefused why) t op a = a
-grown w (Reap s now key) Taken t op a = a
-grown w (Reap s now key) (TakeRefused why) t op a = a
-grown w (Reap s now key) (Removed horizon count) t op a = a
-grown w (Reap s now key) (Ticked done) t op a = a
 grown w (Reap s now key) (Reaped done) t op a = let v = flushed w s now in grown_issues v s (reaps_on v s now key) t op (grown_flushed w s now t op a)
 grown w (Reap s now key) (ReapRefused why) t op a = grown_flushed w s now t op a
-grown w (Reap s now key) (Filled filled) t op a = a
-grown w (Reap s now key) FillRefused t op a = a
-grown w (Fill s key bytes) (Replied reply victim) t op a = a
-grown w (Fill s key bytes) (Evicted done) t op a = a
-grown w (Fill s key bytes) Sent t op a = a
-grown w (Fill s key bytes) (SendRefused why) t op a = a
-grown w (Fill s key bytes) Taken t op a = a
-grown w (Fill s key bytes) (TakeRefused why) t op a = a
-grown w (Fill s key bytes) (Removed horizon count) t op a = a
-grown w (Fill s key bytes) (Ticked done) t op a = a
-grown w (Fill s key bytes) (Reaped done) t op a = a
-grown w (Fill s key bytes) (ReapRefused why) t op a = a
 grown w (Fill s key bytes) (Filled filled) t op a = grown_done (is_filled filled) w (fills w s key bytes) t op a a
-grown w (Fill s key bytes) FillRefused t op a = a
+grown w (Send s to) Sent t op a = a
+grown w (Retire s other) (Retired fresh) t op a = a
+grown w event trace t op a = a

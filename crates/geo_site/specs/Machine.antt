@@ -1,7 +1,8 @@
 -- One site as a machine: what it knows of each site's clock, its floor, what it keeps of each key and the stock of values that it
 -- holds. Each event is one step of it. (Joins of states and of deltas: Almeida et al. 2018; the clock: Lamport 1978.)
 use Rattle.std.specs.Prelude.{◌≡◌, ◌≢◌, ◌==◌, min, ℕ, zero, suc, ◌+◌, ◌≤◌, Bool, true, false, cond, nat_le, List, [], ◌∷◌, length, Option, None, Some, is_some, IfSome}
-use Rattle.geo_stamp.specs.Acks.{row_of}
+use Rattle.geo_stamp.specs.Acks.{Heard, row_of}
+use Rattle.geo_stamp.specs.Retired.{set_fits}
 use Rattle.geo_stamp.specs.Stamps.{Moment, most_sites}
 use Rattle.geo_stamp.specs.Vectors.{zeros, vector_joined, greatest_of, raised}
 use Rattle.geo_records.specs.Keys.{same_key}
@@ -164,9 +165,10 @@ pub record Same (old new : SiteState) : Type 0 where
   pub map : (key : List ℕ) → new.map key ≡ old.map key
   pub stock : stocks.Same old.stock new.stock
 
--- what was heard of each of so many sites has as many entries
-abbrev pub HasRows : ℕ → List (List ℕ) → Type 0
-HasRows sites rows = (q : ℕ) → 1 ≤ q → q ≤ sites → length (row_of rows q) ≡ sites
+-- what was heard of each of so many sites has as many entries, and no site past them is held for retired
+pub record HasRows (sites : ℕ) (heard : Heard) : Type 0 where
+  pub many : (q : ℕ) → 1 ≤ q → q ≤ sites → length (row_of heard.rows q) ≡ sites
+  pub fits : set_fits sites heard.set ≡ true
 
 -- everything that is kept is known by the vector
 abbrev pub Covers : List ℕ → (List ℕ → Record) → Type 0

@@ -1,21 +1,24 @@
 -- Schedules: what each site knows and holds after the events, and what was known when each parcel was sent. (A state is the
 -- join of what was seen: Almeida et al. 2018.)
-use Rattle.std.specs.Prelude.{◌≡◌, ◌≢◌, ℕ, Bool, true, false, cond, if◌then◌else◌, ◌==◌, ◌≤◌, nat_le, List, [], ◌∷◌, ◌++◌, length, Option, None, Some, is_some, slice_index_or}
+use Rattle.std.specs.Prelude.{◌≡◌, ◌≢◌, ℕ, Bool, true, false, not, cond, if◌then◌else◌, ◌==◌, ◌≤◌, nat_le, List, [], ◌∷◌, ◌++◌, length, Option, None, Some, is_some, slice_index_or}
+use Rattle.geo_stamp.specs.Retired.{no_sites, is_in, with_site, set_joined}
 use Rattle.geo_versions.specs.Maps.{has_register}
 use Rattle.geo_records.specs.Operations.{Operation, Act, Among, Record, latest, version_of}
 use Rattle.geo_grammar.specs.declared.request.Request.{Request}
 use Rattle.geo_grammar.specs.declared.reply.Reply.{Reply}
 use Rattle.geo_grammar.specs.declared.reply.Reply.TheVariants.{ClockEnded}
 use Rattle.geo_site.specs.declared.event.Event.{Event}
-use Rattle.geo_site.specs.declared.event.Event.TheVariants.{Command, Evict, Send, Take, Remove, Tick, Reap, Fill}
+use Rattle.geo_site.specs.declared.event.Event.TheVariants.{Command, Evict, Send, Take, Remove, Tick, Reap, Fill, Retire}
 use Rattle.geo_site.specs.declared.event.Trace.{Trace}
-use Rattle.geo_site.specs.declared.event.Trace.TheVariants.{Replied, Evicted, Sent, SendRefused, Taken, TakeRefused, Removed, Ticked, Reaped, ReapRefused, Filled, FillRefused}
+use Rattle.geo_site.specs.declared.event.Trace.TheVariants.{Replied, Evicted, Sent, SendRefused, Taken, TakeRefused, Removed, Ticked, Reaped, ReapRefused, Filled, FillRefused, Retired, RetireRefused}
 use Rattle.geo_site.specs.declared.fill.Filled.{Filled as FilledAs}
 use Rattle.geo_site.specs.declared.fill.Filled.TheVariants.{Done}
 use Rattle.geo_site.specs.declared.setup.Limits.{Limits}
 use Rattle.geo_site.specs.declared.refusal.SendError.{SendError}
 use Rattle.geo_site.specs.declared.refusal.TakeError.{TakeError}
 use Rattle.geo_site.specs.declared.refusal.ReapError.{ReapError}
+use Rattle.geo_site.specs.declared.refusal.RetireError.{RetireError}
+use Rattle.geo_site.specs.declared.refusal.RetireError.TheVariants as retire
 use Rattle.geo_site.specs.declared.refusal.ReapError.TheVariants as reap
 use Rattle.geo_site.specs.declared.refusal.SendError.TheVariants as send
 use Rattle.geo_site.specs.declared.refusal.TakeError.TheVariants as take
@@ -26,16 +29,24 @@ use Rattle.geo_site.specs.Agreement.{Holds}
 use Rattle.geo_site.specs.Fills.{is_filled, FillsAs}
 use Rattle.geo_site.specs.Machine.{act_held, without, class_for, next_operation, IsRecordCount, IsHeldCount}
 
+-- what was known at a site, and which it held for retired, when it sent a parcel, and to whom
+pub record Sending : Type 0 where
+  pub from : ℕ
+  pub to : ℕ
+  pub set : List Bool
+  pub ops : List Operation
+
 -- what each site knows and holds, how many keys it found, did not find and evicted, the moment of the flush that waits there, what it
--- was told at its start, how many sites there are, and for whom and with what each parcel was sent
+-- was told at its start, which sites it holds for retired, how many sites there are, and what was sent
 pub record Known : Type 0 where
   pub at : ℕ → List Operation
   pub held : ℕ → Held
   pub counts : ℕ → Counts
   pub waiting : ℕ → Option ℕ
   pub limits : ℕ → Limits
+  pub sets : ℕ → List Bool
   pub sites : ℕ
-  pub sent : List (ℕ × List Operation)
+  pub sent : List Sending
 
 -- nothing is known, where there are so many sites and this is what each was told at its start
 abbrev pub nothing_known : ℕ → (ℕ → Limits) → Known
@@ -45,17 +56,21 @@ nothing_known sites limits = record {
   counts = λ _. none_counted;
   waiting = λ _. None;
   limits = limits;
+  sets = λ _. no_sites;
   sites = sites;
   sent = [];
 }
 
--- of so many sites each knows every operation up to a time, and none issues another one up to it
-pub record StableAt (sites : ℕ) (at : ℕ → List Operation) (time : ℕ) : Type 0 where
-  pub known : (r s : ℕ) (op : Operation) → 1 ≤ s → s ≤ sites → Among (at r) op → op.stamp.time ≤ time → Among (at s) op
-  pub past : (s : ℕ) → 1 ≤ s → s ≤ sites → time ≤ latest (at s)
+-- of so many sites each outside of a set knows every operation up to a time that another outside of it knows, and none of them issues
+-- another one up to it. Of the operations of a site in the set only those count that one outside of it knows
+pub record StableAt (sites : ℕ) (set : List Bool) (at : ℕ → List Operation) (time : ℕ) : Type 0 where
+  pub known : (r s : ℕ) (op : Operation) → 1 ≤ r → r ≤ sites → is_in set r ≡ false → 1 ≤ s → s ≤ sites → is_in set s ≡ false
+      → Among (at r) op → op.stamp.time ≤ time → Among (at s) op
+  pub past : (s : ℕ) → 1 ≤ s → s ≤ sites → is_in set s ≡ false → time ≤ latest (at s)
 
-abbrev pub Stable : Known → ℕ → Type 0
-Stable w = StableAt w.sites w.at
+-- among the sites that this one does not hold for retired
+abbrev pub Stable : Known → ℕ → ℕ → Type 0
+Stable w site = StableAt w.sites (w.sets site) w.at
 
 -- of what is held, what the versions of the operations name
 abbrev pub still_held : List Operation → Held → Held
@@ -69,6 +84,7 @@ settles w site ops held = record {
   counts = w.counts;
   waiting = w.waiting;
   limits = w.limits;
+  sets = w.sets;
   sites = w.sites;
   sent = w.sent;
 }
@@ -86,12 +102,34 @@ issues w site (act ∷ acts) = issues (settles w site (w.at site ++ new_operatio
 abbrev pub learns : Known → ℕ → List Operation → Known
 learns w site ops = settles w site (w.at site ++ ops) (w.held site)
 
--- what was known when a parcel was sent, and for whom it is
+-- what was known when a parcel was sent, which sites its sender held for retired, from whom and for whom it is
+abbrev pub never_sent : Sending
+never_sent = record { from = 0; to = 0; set = no_sites; ops = [] }
+
 abbrev pub carried : Known → ℕ → List Operation
-carried w parcel = (slice_index_or w.sent parcel (0, [])).1
+carried w parcel = (slice_index_or w.sent parcel never_sent).ops
+
+abbrev pub told_retired : Known → ℕ → List Bool
+told_retired w parcel = (slice_index_or w.sent parcel never_sent).set
+
+abbrev pub sender : Known → ℕ → ℕ
+sender w parcel = (slice_index_or w.sent parcel never_sent).from
 
 abbrev pub addressee : Known → ℕ → ℕ
-addressee w parcel = (slice_index_or w.sent parcel (0, [])).0
+addressee w parcel = (slice_index_or w.sent parcel never_sent).to
+
+-- a site holds these for retired
+abbrev pub holds_retired : Known → ℕ → List Bool → Known
+holds_retired w site set = record {
+  at = w.at;
+  held = w.held;
+  counts = w.counts;
+  waiting = w.waiting;
+  limits = w.limits;
+  sets = λ t. if t == site then set else w.sets t;
+  sites = w.sites;
+  sent = w.sent;
+}
 
 -- what is visible at a site
 abbrev pub visible : Known → ℕ → ℕ → Visible
@@ -109,6 +147,7 @@ counts_keys w site counts = record {
   counts = λ t. if t == site then counts else w.counts t;
   waiting = w.waiting;
   limits = w.limits;
+  sets = w.sets;
   sites = w.sites;
   sent = w.sent;
 }
@@ -121,6 +160,7 @@ lets_go w site victim = record {
   counts = w.counts;
   waiting = w.waiting;
   limits = w.limits;
+  sets = w.sets;
   sites = w.sites;
   sent = w.sent;
 }
@@ -141,6 +181,7 @@ fills w site key bytes = record {
   counts = w.counts;
   waiting = w.waiting;
   limits = w.limits;
+  sets = w.sets;
   sites = w.sites;
   sent = w.sent;
 }
@@ -167,6 +208,7 @@ waits w site waiting = record {
   counts = w.counts;
   waiting = λ t. if t == site then waiting else w.waiting t;
   limits = w.limits;
+  sets = w.sets;
   sites = w.sites;
   sent = w.sent;
 }
@@ -206,12 +248,12 @@ basis w site now kept records items = record {
 }
 
 -- the reply is what the site owes to the request, or want of memory where it may be wanted. It keeps of each key what its operations
--- name, but for what every site knows
+-- name, but for what every site knows that it does not hold for retired
 pub record RepliesTo (w : Known) (site now : ℕ) (request : Request) (reply : Reply) : Type 0 where
   pub kept : List ℕ → Record
   pub records : ℕ
   pub items : ℕ
-  pub holds : (key : List ℕ) → Holds (Stable w) (kept key) (w.at site) key
+  pub holds : (key : List ℕ) → Holds (Stable w site) (kept key) (w.at site) key
   pub recorded : IsRecordCount kept records
   pub held : IsHeldCount (w.held site) items
   pub answers : Answers now (basis w site now kept records items) request reply
@@ -237,14 +279,16 @@ happens w (Send site to) Sent = record {
   counts = w.counts;
   waiting = w.waiting;
   limits = w.limits;
+  sets = w.sets;
   sites = w.sites;
-  sent = w.sent ++ (to, w.at site) ∷ [];
+  sent = w.sent ++ record { from = site; to = to; set = w.sets site; ops = w.at site } ∷ [];
 }
-happens w (Take site parcel) Taken = learns w site (carried w parcel)
+happens w (Take site parcel) Taken = holds_retired (learns w site (carried w parcel)) site (set_joined (w.sets site) (told_retired w parcel))
 happens w (Tick site now) (Ticked done) = flushed w site now
 happens w (Reap site now key) (Reaped done) = let v = flushed w site now in issues v site (reaps_on v site now key)
 happens w (Reap site now key) (ReapRefused why) = flushed w site now
 happens w (Fill site key bytes) (Filled filled) = cond (is_filled filled) (fills w site key bytes) w
+happens w (Retire site other) (Retired fresh) = holds_retired w site (with_site (w.sets site) other)
 happens w event trace = w
 
 -- what is known after a schedule with its trace
@@ -253,17 +297,25 @@ known w [] traces = w
 known w (event ∷ events) [] = w
 known w (event ∷ events) (trace ∷ traces) = known (happens w event trace) events traces
 
--- a send is refused exactly to its own site, but for want of memory
-abbrev pub SendRefusedFor : ℕ → ℕ → SendError → Type 0
-SendRefusedFor site to send.NoSuchSite = to ≡ site
-SendRefusedFor site to send.Memory = to ≢ site
+-- a send is refused exactly to its own site, and to one that it holds for retired, but for want of memory
+abbrev pub SendRefusedFor : List Bool → ℕ → ℕ → SendError → Type 0
+SendRefusedFor set site to send.NoSuchSite = to ≡ site
+SendRefusedFor set site to send.Retired = (to ≢ site) × (is_in set to ≡ true)
+SendRefusedFor set site to send.Memory = (to ≢ site) × (is_in set to ≡ false)
 
--- a take is refused exactly where the parcel is for another, but for want of memory
-abbrev pub TakeRefusedFor : ℕ → ℕ → TakeError → Type 0
-TakeRefusedFor site to take.NotForMe = to ≢ site
-TakeRefusedFor site to take.UnknownSite = ⊥
-TakeRefusedFor site to take.Gap = ⊥
-TakeRefusedFor site to take.Memory = to ≡ site
+-- a take is refused exactly where the parcel is for another, and where it is from a site that this one holds for retired, but for want
+-- of memory
+abbrev pub TakeRefusedFor : List Bool → ℕ → ℕ → ℕ → TakeError → Type 0
+TakeRefusedFor set site from to take.NotForMe = to ≢ site
+TakeRefusedFor set site from to take.UnknownSite = ⊥
+TakeRefusedFor set site from to take.Retired = (to ≡ site) × (is_in set from ≡ true)
+TakeRefusedFor set site from to take.Gap = ⊥
+TakeRefusedFor set site from to take.Memory = (to ≡ site) × (is_in set from ≡ false)
+
+-- a retirement is refused exactly of its own site
+abbrev pub RetireRefusedFor : ℕ → ℕ → RetireError → Type 0
+RetireRefusedFor site other retire.NoSuchSite = other ≡ site
+RetireRefusedFor site other retire.Memory = ⊥
 
 -- a reap deletes exactly a key that is to be reaped, and is refused exactly where no stamp is left for that
 abbrev pub ReapsIn : Known → ℕ → ℕ → List ℕ → Bool → Type 0
@@ -285,16 +337,18 @@ Lawful w (Command site now request) (Replied reply victim) = let v = flushed w s
     RepliesBy (is_stuck (w.waiting site) (latest (w.at site)) now) v site now request reply
     × VictimOf (v.held site) (issues_by v site now request reply) victim
 Lawful w (Evict site key) (Evicted done) = done ≡ is_some (w.held site key)
-Lawful w (Send site to) Sent = to ≢ site
-Lawful w (Send site to) (SendRefused why) = SendRefusedFor site to why
-Lawful w (Take site parcel) Taken = addressee w parcel ≡ site
-Lawful w (Take site parcel) (TakeRefused why) = TakeRefusedFor site (addressee w parcel) why
-Lawful w (Remove site) (Removed horizon count) = Stable w horizon
+Lawful w (Send site to) Sent = (to ≢ site) × (is_in (w.sets site) to ≡ false)
+Lawful w (Send site to) (SendRefused why) = SendRefusedFor (w.sets site) site to why
+Lawful w (Take site parcel) Taken = (addressee w parcel ≡ site) × (is_in (w.sets site) (sender w parcel) ≡ false)
+Lawful w (Take site parcel) (TakeRefused why) = TakeRefusedFor (w.sets site) site (sender w parcel) (addressee w parcel) why
+Lawful w (Remove site) (Removed horizon count) = Stable w site horizon
 Lawful w (Tick site now) (Ticked done) = done ≡ flushes_due (w.waiting site) (latest (w.at site)) now
 Lawful w (Reap site now key) (Reaped done) = ReapsIn (flushed w site now) site now key done
 Lawful w (Reap site now key) (ReapRefused why) = ReapRefusedFor (flushed w site now) site now key why
 Lawful w (Fill site key bytes) (Filled filled) = FilledIn w site key bytes filled
 Lawful w (Fill site key bytes) FillRefused = FilledIn w site key bytes Done
+Lawful w (Retire site other) (Retired fresh) = (other ≢ site) × (fresh ≡ not (is_in (w.sets site) other))
+Lawful w (Retire site other) (RetireRefused why) = RetireRefusedFor site other why
 Lawful w event trace = ⊥
 
 -- each of them is

@@ -6,7 +6,8 @@ use Rattle.geo_slabs.specs.Storage.{class_count, most_pages}
 use Rattle.geo_lru.specs.Rules.{juggled_by}
 use Rattle.geo_values.specs.Stock.{dropped, juggled_in}
 use Rattle.geo_values.specs.Held.{stock_in, count_in as values_count}
-use Rattle.geo_stamp.specs.Acks.{row_of, heard, none_heard, horizon_of}
+use Rattle.geo_stamp.specs.Acks.{Heard, row_of, heard, retires as retires_in, none_heard, horizon_of, looked}
+use Rattle.geo_stamp.specs.Retired.{is_in, set_fits}
 use Rattle.geo_stamp.specs.Vectors.{vector_joined}
 use Rattle.geo_records.specs.Keys.{same_key}
 use Rattle.geo_versions.specs.Maps.{Rec, rec_means, listed_at, since, Rising}
@@ -32,8 +33,10 @@ use Rattle.geo_site.specs.declared.refusal.SetupError.{SetupError}
 use Rattle.geo_site.specs.declared.refusal.SetupError.TheVariants.{Sites, SiteNumber, TooFewPages, TooManyPages, Records}
 use Rattle.geo_site.specs.declared.refusal.SetupError.TheVariants as setups
 use Rattle.geo_site.specs.declared.refusal.TakeError.{TakeError}
-use Rattle.geo_site.specs.declared.refusal.TakeError.TheVariants.{NotForMe, UnknownSite, Gap}
+use Rattle.geo_site.specs.declared.refusal.TakeError.TheVariants.{NotForMe, UnknownSite, Retired, Gap}
 use Rattle.geo_site.specs.declared.refusal.TakeError.TheVariants as takes
+use Rattle.geo_site.specs.declared.refusal.RetireError.{RetireError}
+use Rattle.geo_site.specs.declared.refusal.RetireError.TheVariants as retires
 use Rattle.geo_grammar.specs.declared.reply.Reply.{Reply}
 use Rattle.geo_grammar.specs.declared.reply.Reply.TheVariants.{Values, ClockEnded, OutOfMemory}
 use Rattle.geo_grammar.specs.declared.reply.Found.{Found}
@@ -68,13 +71,21 @@ waiting_in site = site.waiting
 abbrev pub EndFrom : ℕ → List ℕ × Rec → Type 0
 EndFrom least entry = (s : Moment) (e : ℕ) → (rec_means entry.1).1 ≡ Some (s, e) → e ≢ 0 → least ≤ e
 
--- what it last heard of each site's vector
-abbrev pub heard_in : Site → List (List ℕ)
+-- what it last heard of each site, which sites it holds for retired, and the greatest horizon that it kept
+abbrev pub heard_in : Site → Heard
 heard_in site = site.heard
 
--- the time up to which every site is known to know each operation
+-- the sites that it holds for retired
+abbrev pub retired_in : Site → List Bool
+retired_in site = (heard_in site).set
+
+-- the time up to which each operation that a site outside of its set knows is known to every such site
 abbrev pub horizon_in : Site → ℕ
 horizon_in site = horizon_of (heard_in site) site.number site.vector
+
+-- what it heard, with the horizon that it answers kept
+abbrev pub looked_in : Site → Heard
+looked_in site = looked (heard_in site) site.number site.vector
 
 -- how many values it holds
 abbrev pub held_count : Site → ℕ
@@ -89,11 +100,11 @@ abbrev pub knows_all : List ℕ → List (List ℕ × Rec) → Bool
 knows_all v records = list_all (λ e. knows_record v (rec_means e.1)) records
 
 -- a parcel that no other site of as many makes: its sender is the receiver or not configured, its vectors are of another
--- number of sites, or it has a stamp that its `upto` does not know
+-- number of sites, it holds a site for retired that is not configured, or it has a stamp that its `upto` does not know
 abbrev pub is_sound : ℕ → ℕ → Parcel → Bool
 is_sound sites number parcel =
     (nat_le 1 parcel.from && nat_le parcel.from sites) && not (parcel.from == number)
-    && (length parcel.base == sites) && (length parcel.upto == sites)
+    && (length parcel.base == sites) && (length parcel.upto == sites) && set_fits sites parcel.retired
     && knows_floor parcel.upto parcel.floor && knows_all parcel.upto parcel.records
 
 -- how many keys have a record
@@ -150,7 +161,7 @@ FirstVictimFits site (act ∷ acts) = VictimFits act (state_in site).stock
 abbrev pub Remains : Site → Site → Type 0
 Remains old new = (new.number ≡ old.number) × (limits_of new ≡ limits_of old)
 
--- nor does what it heard of the others
+-- nor does what it heard of the others, and which it holds for retired
 abbrev pub Stays : Site → Site → Type 0
 Stays old new = (new.number ≡ old.number) × (limits_of new ≡ limits_of old) × (heard_in new ≡ heard_in old)
 
@@ -283,10 +294,11 @@ pub record ReapDoes (old new : Site) (now : ℕ) (key : List ℕ) (result : Resu
   pub rests : Rests mid new
   pub stays : Stays mid new
 
--- a site takes a parcel that is for it, that another site of as many can have made, and whose base it knows
+-- a site takes a parcel that is for it, that another site of as many can have made, which it does not hold for retired, and whose base
+-- it knows
 abbrev pub Takes : Site → Parcel → Type 0
 Takes site parcel = (parcel.to ≡ site.number) × (is_sound (length site.vector) site.number parcel ≡ true)
-    × (vector_joined site.vector parcel.base ≡ site.vector)
+    × (is_in (retired_in site) parcel.from ≡ false) × (vector_joined site.vector parcel.base ≡ site.vector)
 
 -- it brings a record of a key that has none
 abbrev pub brings_new : Site → Parcel → Bool
@@ -296,8 +308,10 @@ brings_new site parcel = list_any (λ e. not (has_register ((state_in site).map 
 abbrev pub RefusesFor : Site → Parcel → TakeError → Type 0
 RefusesFor site parcel NotForMe = parcel.to ≢ site.number
 RefusesFor site parcel UnknownSite = (parcel.to ≡ site.number) × (is_sound (length site.vector) site.number parcel ≡ false)
+RefusesFor site parcel Retired = (parcel.to ≡ site.number) × (is_sound (length site.vector) site.number parcel ≡ true)
+    × (is_in (retired_in site) parcel.from ≡ true)
 RefusesFor site parcel Gap = (parcel.to ≡ site.number) × (is_sound (length site.vector) site.number parcel ≡ true)
-    × (vector_joined site.vector parcel.base ≢ site.vector)
+    × (is_in (retired_in site) parcel.from ≡ false) × (vector_joined site.vector parcel.base ≢ site.vector)
 RefusesFor site parcel takes.Memory = Takes site parcel × (brings_new site parcel ≡ true)
 
 -- what a take does, by its result
@@ -305,9 +319,21 @@ abbrev pub TakeDoes : Site → Site → Parcel → Result Taken Refused → Type
 TakeDoes old new parcel (Ok taken) = Takes old parcel
     × Same (take old.number (sifted_delta (horizon_in old) (delta_of parcel)) (state_in old)) (state_in new)
     × (IsTrue taken.rose ↔ (vector_joined old.vector parcel.upto ≢ old.vector)) × (held_count new + taken.dropped ≡ held_count old)
-    × (heard_in new ≡ heard (heard_in old) parcel.from parcel.upto)
+    × (heard_in new ≡ looked (heard (looked_in old) parcel.from parcel.upto parcel.retired) old.number new.vector)
 TakeDoes old new parcel (Err refused) = RefusesFor old parcel refused.why × (refused.parcel ≡ parcel) × Same (state_in old) (state_in new)
     × (heard_in new ≡ heard_in old)
+
+-- a number of another site that is configured
+abbrev pub IsOther : Site → ℕ → Type 0
+IsOther site to = (1 ≤ to) × (to ≤ length site.vector) × (to ≢ site.number)
+
+-- what a retirement does, by its result: it tells whether the other site was not held for retired before
+abbrev pub RetireDoes : Site → Site → ℕ → Result Bool RetireError → Type 0
+RetireDoes old new other (Ok fresh) = IsOther old other × (fresh ≡ not (is_in (retired_in old) other)) × Same (state_in old) (state_in new)
+    × (heard_in new ≡ looked (retires_in (looked_in old) other) old.number old.vector)
+RetireDoes old new other (Err retires.NoSuchSite) = (IsOther old other → ⊥) × Same (state_in old) (state_in new)
+    × (heard_in new ≡ heard_in old)
+RetireDoes old new other (Err retires.Memory) = ⊥
 
 -- what a removal does, and how many records it drops
 pub record RemoveDoes (old new : Site) (count : ℕ) : Type 0 where
@@ -320,24 +346,24 @@ pub record RemoveDoes (old new : Site) (count : ℕ) : Type 0 where
 pub record IsSent (site : Site) (to : ℕ) (parcel : Parcel) : Type 0 where
   pub sender : parcel.from ≡ site.number
   pub addressee : parcel.to ≡ to
-  pub base : parcel.base ≡ row_of (heard_in site) to
+  pub base : parcel.base ≡ row_of (heard_in site).rows to
   pub upto : parcel.upto ≡ site.vector
+  pub retired : parcel.retired ≡ retired_in site
   pub floor : parcel.floor ≡ (state_in site).floor
   pub rising : Rising parcel.records
   pub filled : All (λ e. rec_means e.1 ≡ (None, None) → ⊥) parcel.records
-  pub records : (q : List ℕ) → listed_at parcel.records q ≡ since (row_of (heard_in site) to) ((state_in site).map q)
+  pub records : (q : List ℕ) → listed_at parcel.records q ≡ since (row_of (heard_in site).rows to) ((state_in site).map q)
   pub ranges : InRange parcel
 
--- what a send does, by its result
-abbrev pub IsOther : Site → ℕ → Type 0
-IsOther site to = (1 ≤ to) × (to ≤ length site.vector) × (to ≢ site.number)
-
+-- why there is no parcel, tested in this order
 abbrev pub SendRefuses : Site → ℕ → SendError → Type 0
 SendRefuses site to NoSuchSite = IsOther site to → ⊥
-SendRefuses site to sends.Memory = IsOther site to
+SendRefuses site to sends.Retired = IsOther site to × (is_in (retired_in site) to ≡ true)
+SendRefuses site to sends.Memory = IsOther site to × (is_in (retired_in site) to ≡ false)
 
+-- what a send does, by its result
 abbrev pub SendDoes : Site → ℕ → Result Parcel SendError → Type 0
-SendDoes site to (Ok parcel) = IsOther site to × IsSent site to parcel
+SendDoes site to (Ok parcel) = IsOther site to × (is_in (retired_in site) to ≡ false) × IsSent site to parcel
 SendDoes site to (Err why) = SendRefuses site to why
 
 -- what an eviction does: a key's bytes are held no longer, and are counted where they were; no version changes

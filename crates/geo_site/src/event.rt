@@ -1,6 +1,6 @@
 //! What can happen at a site, and what came of it.
 use crate::fill::Filled;
-use crate::refusal::{ReapError, SendError, TakeError};
+use crate::refusal::{ReapError, RetireError, SendError, TakeError};
 use geo_grammar::{Reply, Request, ValueBytes};
 use geo_versions::Key;
 
@@ -52,6 +52,11 @@ pub enum Event {
         key: Key,
         bytes: ValueBytes,
     },
+    /// The site holds another for gone for good from now on, whether that one has stopped or not.
+    Retire {
+        site: u8,
+        other: u8,
+    },
 }
 
 /// What came of an event.
@@ -81,4 +86,8 @@ pub enum Trace {
     Filled(Filled),
     /// Bytes that were offered would be held, and memory was wanted for that.
     FillRefused,
+    /// Whether the other site was not held for gone before.
+    Retired(bool),
+    /// No site was retired.
+    RetireRefused(RetireError),
 }

@@ -170,13 +170,16 @@ fn join_both(
 
 impl Site {
     /// Makes a parcel for another site: what it knows of all keys and has not heard that the other knows. NoSuchSite exactly for
-    /// its own number and for one that is not configured.
+    /// its own number and for one that is not configured, Retired then for one that it holds for gone.
     pub fn send(&self, alloc: Global, to: u8) -> Result<Parcel, SendError>
         ensures { SendDoes self.now to result }
     {
         let sites = self.vector.sites();
         if to == 0 || to as usize > sites || to == self.number {
             return Err(SendError::NoSuchSite);
+        }
+        if self.heard.retired().has(to) {
+            return Err(SendError::Retired);
         }
         let base = self.heard.row(to);
         if base.covers(&self.vector) {
@@ -190,6 +193,7 @@ impl Site {
             to,
             base,
             &self.vector,
+            self.heard.retired(),
         ) {
             Ok(parcel) => {
                 stays_in_range(&parcel);
@@ -202,7 +206,7 @@ impl Site {
     /// A parcel for a site that was heard to know all that is known here. No record is looked at.
     fn nothing_new(&self, alloc: Global, to: u8, base: &Vector) -> Parcel
         requires other { IsOther self.now to }
-        requires row { base.now ≡ row_of (heard_in self.now) to }
+        requires row { base.now ≡ row_of (heard_in self.now).rows to }
         requires known { vector_joined base.now self.now.vector ≡ base.now }
         ensures { IsSent self.now to result }
     {
@@ -211,6 +215,7 @@ impl Site {
             to,
             base: base.copied(),
             upto: self.vector.copied(),
+            retired: *self.heard.retired(),
             floor: self.versions.floor(),
             records: Items::of(Vec::new(alloc)),
         };
@@ -228,6 +233,7 @@ impl Site {
             && parcel.from != self.number
             && parcel.base.sites() == sites
             && parcel.upto.sites() == sites
+            && parcel.retired.fits(sites)
             && knows_stamp(&parcel.upto, parcel.floor)
             && knows_each(&parcel.upto, parcel.records.as_slice())
     }
@@ -241,6 +247,9 @@ impl Site {
         }
         if !self.is_sound_parcel(parcel) {
             return Some(TakeError::UnknownSite);
+        }
+        if self.heard.retired().has(parcel.from) {
+            return Some(TakeError::Retired);
         }
         if !self.vector.covers(&parcel.base) {
             return Some(TakeError::Gap);
@@ -311,13 +320,17 @@ impl Site {
             to: _,
             base: _,
             upto,
+            retired,
             floor,
             records,
         } = parcel;
         // What is old by the horizon that stood before this parcel was heard was known before it.
         let records = self.sifted(records);
         let records = self.news(records);
-        self.heard.heard(from, &upto);
-        Ok(self.join(upto, floor, records))
+        self.heard.look(self.number, &self.vector);
+        self.heard.heard(from, &upto, &retired);
+        let taken = self.join(upto, floor, records);
+        self.heard.look(self.number, &self.vector);
+        Ok(taken)
     }
 }

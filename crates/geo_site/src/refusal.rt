@@ -28,13 +28,27 @@ pub enum SetupError {
     Memory,
 }
 
-/// Why there is no parcel.
+/// Why there is no parcel, tested in this order.
 #[derive(Clone, Copy, Debug, PartialEq, Eq, Error)]
 pub enum SendError {
     /// The number is the sender's own, or of no site that is configured.
     #[error("there is no such other site")]
     NoSuchSite,
+    /// The other site is held for gone for good.
+    #[error("the other site is retired")]
+    Retired,
     /// Memory was wanted.
+    #[error("memory was refused")]
+    Memory,
+}
+
+/// Why a site is not held for gone for good.
+#[derive(Clone, Copy, Debug, PartialEq, Eq, Error)]
+pub enum RetireError {
+    /// The number is the site's own, or of no site that is configured.
+    #[error("there is no such other site")]
+    NoSuchSite,
+    /// Memory was wanted, which a site alone never does.
     #[error("memory was refused")]
     Memory,
 }
@@ -45,10 +59,13 @@ pub enum TakeError {
     /// It is for another site.
     #[error("the parcel is for another site")]
     NotForMe,
-    /// Its sender is this site or not configured, it speaks of another number of sites, or it has a stamp that its `upto` does
-    /// not know.
+    /// Its sender is this site or not configured, it speaks of another number of sites or holds one for retired that is not configured,
+    /// or it has a stamp that its `upto` does not know.
     #[error("the parcel is not of these sites")]
     UnknownSite,
+    /// Its sender is held for gone for good.
+    #[error("the parcel is from a retired site")]
+    Retired,
     /// It tells only what is newer than something that this site does not know yet.
     #[error("the parcel leaves out what is not known yet")]
     Gap,

@@ -8,8 +8,9 @@ use geo_lattice::Items;
 use geo_versions::{Key, Rec, sift};
 
 impl Site {
-    /// The horizon: the time up to which every site is known to know each operation, as far as it was heard, and behind which no
-    /// site issues another (stable operations: Almeida et al. 2018). It takes no memory.
+    /// The horizon: the time up to which every site that this one does not hold for retired is known to know each operation that one of
+    /// them knows, as far as it was heard, and behind which none of them issues another (stable operations: Almeida et al. 2018). It never
+    /// falls, and takes no memory.
     pub fn horizon(&self) -> u64
         ensures { result ≡ horizon_in self.now }
     {

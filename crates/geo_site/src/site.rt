@@ -29,7 +29,7 @@ pub struct Site {
     /// How a set of keys hashes them, as the maps below do.
     pub(crate) hasher: RandomState,
     pub(crate) vector: Vector,
-    /// What it last heard of each site's vector.
+    /// What it last heard of each site, which sites it holds for gone for good, and the greatest horizon that it kept.
     pub(crate) heard: Acks,
     pub(crate) versions: Versions,
     /// The keys whose records changed last, with what it knew then.

@@ -17,7 +17,7 @@ pub struct SiteState {
     /// What it keeps of each key, by rising key.
     pub records: Items<(Key, Rec)>,
     pub vector: Vector,
-    /// What it last heard of each site's vector.
+    /// What it last heard of each site, which sites it holds for gone for good, and the greatest horizon that it kept.
     pub rows: Acks,
     /// SHA-256 and length of what it holds of each key, by rising key.
     pub held: Items<(Key, Digest, u32)>,

@@ -1,5 +1,6 @@
 //! Tables of lines that sites carry out, each with what it is to append.
 mod lines;
+mod retired;
 mod shown;
 mod table;
 mod told;
@@ -103,6 +104,13 @@ fn what_ended_is_deleted_after_its_time(rt: HostRuntime) -> Result<(), Fail> {
 #[test]
 fn what_a_take_refuses_and_what_it_drops(rt: HostRuntime) -> Result<(), Fail> {
     plays(&rt, table::TAKES)
+}
+
+#[test]
+fn what_a_retired_site_told_is_forgotten_once_all_others_say_so(
+    rt: HostRuntime,
+) -> Result<(), Fail> {
+    plays(&rt, retired::RETIREMENTS)
 }
 
 #[test]

@@ -7,6 +7,7 @@ mod follow;
 mod hand;
 mod large;
 mod lines;
+mod retiring;
 mod seeded;
 mod table;
 

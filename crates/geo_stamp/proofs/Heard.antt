@@ -1,20 +1,10 @@
 -- Rows of vectors, one by one.
-use Rattle.std.proofs.Common.{◌≡◌, ℕ, zero, suc, ◌+◌, ◌<◌, min, List, [], ◌∷◌, ◌++◌, length, take, refl, ap, ◌∙◌, arith, get_or}
-use Rattle.std.proofs.lemmas.List.{take_more, get_or-set_same, get_or-set_other, length-set}
-use Rattle.geo_stamp.specs.Vectors.{least_of}
-use Rattle.geo_stamp.specs.Acks.{with_own, least_in}
+use Rattle.std.proofs.Common.{◌≡◌, ℕ, zero, suc, ◌+◌, ◌<◌, List, [], length, refl, ap, ◌∙◌, arith, get_or}
+use Rattle.std.proofs.lemmas.List.{get_or-set_same, get_or-set_other}
+use Rattle.geo_stamp.specs.Acks.{row_of, with_own}
 
--- the least of one row more
-least_in_append : (rows : List (List ℕ)) (row : List ℕ) → least_in (rows ++ row ∷ []) ≡ min (least_in rows) (least_of row)
-least_in_append [] row = omega arith
-least_in_append (r ∷ rows) row = let h = least_in_append rows row in omega (arith, h)
-
-pub least_in_more : (rows : List (List ℕ)) (i : ℕ) → i < length rows → least_in (take (i + 1) rows) ≡ min (least_in (take i rows)) (least_of (get_or rows i []))
-least_in_more rows i lt = ap least_in (take_more rows i [] lt) ∙ least_in_append (take i rows) (get_or rows i [])
-
-pub with_own_length : (rows : List (List ℕ)) (own : ℕ) (v : List ℕ) → length (with_own rows own v) ≡ length rows
-with_own_length rows zero v = refl
-with_own_length rows (suc j) v = length-set rows j v
+pub row_more : (rows : List (List ℕ)) (at : ℕ) → row_of rows (at + 1) ≡ get_or rows at []
+row_more rows at = ap (row_of rows) (let more : at + 1 ≡ suc at = omega arith in more)
 
 pub with_own_here : (rows : List (List ℕ)) (own : ℕ) (v : List ℕ) (at : ℕ) → at + 1 ≡ own → at < length rows → get_or (with_own rows own v) at [] ≡ v
 with_own_here rows zero v at e lt = absurd (omega (arith, e))

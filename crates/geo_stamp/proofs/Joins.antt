@@ -1,8 +1,8 @@
 -- Joining vectors goes entry by entry.
-use Rattle.std.proofs.Common.{◌≡◌, ℕ, zero, suc, ◌≤◌, ◌<◌, max, List, [], ◌∷◌, length, take, refl, sym, ap, arith, get_or, inl, inr}
+use Rattle.std.proofs.Common.{◌≡◌, ℕ, zero, suc, ◌≤◌, ◌<◌, max, List, [], ◌∷◌, length, take, refl, sym, ap, ◌∙◌, ◌+◌, arith, get_or, inl, inr}
 use Rattle.std.proofs.lemmas.Bool.{cases_lt}
 use Rattle.std.proofs.lemmas.List.{ext_get_or, length-take}
-use Rattle.geo_stamp.specs.Vectors.{vector_joined, IsVector}
+use Rattle.geo_stamp.specs.Vectors.{entry_of, vector_joined, IsVector}
 
 pub index_joined : (xs ys : List ℕ) (k : ℕ) → get_or (vector_joined xs ys) k 0 ≡ max (get_or xs k 0) (get_or ys k 0)
 index_joined [] ys k = omega arith
@@ -21,6 +21,9 @@ front_reads zero xs h k = sym (h k (omega arith))
 front_reads (suc n) [] h k = refl
 front_reads (suc n) (x ∷ xs) h zero = refl
 front_reads (suc n) (x ∷ xs) h (suc k) = front_reads n xs (λ j le. h (suc j) (omega arith)) k
+
+pub entry_reads : (n : ℕ) (xs v : List ℕ) → take n xs ≡ v → IsVector xs n → (at : ℕ) → entry_of v (at + 1) ≡ get_or xs at 0
+entry_reads n xs v is h at = ap (entry_of v) (let more : at + 1 ≡ suc at = omega arith in more) ∙ ap (λ (v : List ℕ). get_or v at 0) (sym is) ∙ front_reads n xs h.rest at
 
 pub front_length : (n : ℕ) (xs : List ℕ) → n ≤ length xs → length (take n xs) ≡ n
 front_length n xs le = let h = length-take n xs in omega (arith, h)

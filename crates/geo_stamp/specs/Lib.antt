@@ -1,3 +1,5 @@
 pub mod Stamps
 pub mod Vectors
+pub mod Retired
+pub mod Unions
 pub mod Acks

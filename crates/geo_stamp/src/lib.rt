@@ -6,9 +6,11 @@
 #![tactic(auto)]
 
 pub mod acks;
+pub mod retired;
 pub mod stamp;
 pub mod vector;
 
 pub use acks::Acks;
+pub use retired::Retired;
 pub use stamp::{LAST_TIME, MOST_SITES, Stamp};
 pub use vector::Vector;

@@ -1,7 +1,11 @@
 //! What a site knows of each site's clock.
 ghost use Rattle.std.specs.Prelude.{◌≡◌, ℕ, ◌≤◌, ◌↔◌, max, length, slice_index, IsTrue, IfOk, List, take};
+ghost use Rattle.std.specs.Prelude.{not, true};
 ghost use Rattle.geo_stamp.specs.Vectors.{entry_of, zeros, vector_joined, greatest_of, least_of, raised, Knows};
+ghost use Rattle.geo_stamp.specs.Retired.{is_in};
+ghost use Rattle.geo_stamp.specs.Acks.{least_of_sites};
 
+use crate::retired::Retired;
 use crate::stamp::{LAST_TIME, Stamp};
 use geo_lattice::{Flat, Lattice, Twin};
 use std::alloc::{AllocError, Global};
@@ -87,6 +91,34 @@ impl Vector {
         let mut least = LAST_TIME;
         for clock in clocks {
             least = least.min(*clock);
+        }
+        least
+    }
+
+    /// The least of the entries for the sites up to this number, at most 16, 2^56 - 1 where it is 0.
+    pub fn least_up_to(&self, sites: usize) -> u64
+        requires { sites ≤ 16 }
+        ensures least { result ≡ least_of_sites sites (λ _. true) (entry_of self.now) }
+        ensures range { result ≤ LAST_TIME }
+    {
+        let mut least = LAST_TIME;
+        for at in 0..sites {
+            least = least.min(self.entries[at]);
+        }
+        least
+    }
+
+    /// The least of the entries for the sites up to this number, at most 16, that are not in a set, 2^56 - 1 where there is none.
+    pub fn least_outside(&self, sites: usize, retired: &Retired) -> u64
+        requires { sites ≤ 16 }
+        ensures least { result ≡ least_of_sites sites (λ j. not (is_in retired.now j)) (entry_of self.now) }
+        ensures range { result ≤ LAST_TIME }
+    {
+        let mut least = LAST_TIME;
+        for at in 0..sites {
+            if !retired.has(at as u8 + 1) {
+                least = least.min(self.entries[at]);
+            }
         }
         least
     }

@@ -1,5 +1,5 @@
 -- What a call of a station leaves of the seat that made it.
-use Rattle.std.specs.Prelude.{◌≡◌, ◌≢◌, ◌⊎◌, ℕ, ◌+◌, ◌≤◌, [], ◌∷◌, ◌++◌, Result, Ok, Err}
+use Rattle.std.specs.Prelude.{◌≡◌, ◌≢◌, ◌⊎◌, ℕ, ◌+◌, ◌≤◌, Bool, [], ◌∷◌, ◌++◌, Result, Ok, Err}
 use Rattle.geo_delta.specs.declared.parcel.Parcel.{Parcel}
 use Rattle.geo_grammar.specs.declared.request.Request.{Request}
 use Rattle.geo_grammar.specs.declared.reply.Reply.{Reply}
@@ -11,6 +11,8 @@ use Rattle.geo_site.specs.declared.refusal.SendError.{SendError}
 use Rattle.geo_site.specs.declared.refusal.SendError.TheVariants as sends
 use Rattle.geo_site.specs.declared.refusal.TakeError.{TakeError}
 use Rattle.geo_site.specs.declared.refusal.TakeError.TheVariants as takes
+use Rattle.geo_site.specs.declared.refusal.RetireError.{RetireError}
+use Rattle.geo_site.specs.declared.refusal.RetireError.TheVariants as retire
 use Rattle.geo_history.specs.declared.step.Event.{Event}
 use Rattle.geo_history.specs.declared.step.Event.TheVariants.{Command, Send, Take}
 use Rattle.geo_history.specs.declared.step.Answer.{Answer}
@@ -48,7 +50,7 @@ ActsBy old new now request (Err spent) = HasFlushed old new
 abbrev pub SendRefusedBy : Seated → Seated → ℕ → CallError SendError → Type 0
 SendRefusedBy old new to SeatSpent = new ≡ old
 SendRefusedBy old new to (Site sends.Memory) = new ≡ old
-SendRefusedBy old new to (Site sends.NoSuchSite) = new ≡ called old 1 (Send to) (SendRefused sends.NoSuchSite)
+SendRefusedBy old new to (Site why) = new ≡ called old 1 (Send to) (SendRefused why)
 
 abbrev pub SendsBy : Seated → Seated → ℕ → Result Parcel (CallError SendError) → Type 0
 SendsBy old new to (Ok parcel) = new ≡ called old 1 (Send to) (Sent parcel)
@@ -68,6 +70,16 @@ abbrev pub FillsBy : Seated → Seated → Result Filled (CallError AllocError) 
 FillsBy old new (Ok filled) = new ≡ record old { steps = old.steps + 1 }
 FillsBy old new (Err why) = new ≡ old
 
+-- a retirement is a step that the seat does not keep, a refused one too, but for want of memory and where the seat is spent
+abbrev pub retires_made : CallError RetireError → ℕ
+retires_made SeatSpent = 0
+retires_made (Site retire.Memory) = 0
+retires_made (Site retire.NoSuchSite) = 1
+
+abbrev pub RetiresBy : Seated → Seated → Result Bool (CallError RetireError) → Type 0
+RetiresBy old new (Ok fresh) = new ≡ record old { steps = old.steps + 1 }
+RetiresBy old new (Err why) = new ≡ record old { steps = old.steps + retires_made why }
+
 -- a maintenance makes steps and changes nothing else of a seat
 abbrev pub MaintainsBy : Seated → Seated → Result Maintained Spent → Type 0
 MaintainsBy old new (Ok done) = (new ≡ record old { steps = new.steps }) × Maintains old.steps new.steps done
@@ -77,7 +89,7 @@ MaintainsBy old new (Err spent) = new ≡ old
 abbrev pub sends_made : CallError SendError → ℕ
 sends_made SeatSpent = 0
 sends_made (Site sends.Memory) = 0
-sends_made (Site sends.NoSuchSite) = 1
+sends_made (Site why) = 1
 
 abbrev pub takes_made : CallError TakeError → ℕ
 takes_made SeatSpent = 0

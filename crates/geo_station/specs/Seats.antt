@@ -4,7 +4,7 @@ use Rattle.std.specs.List.{All}
 use Rattle.geo_history.specs.declared.history.History.{History}
 use Rattle.geo_history.specs.declared.history.Opening.{Opening}
 use Rattle.geo_history.specs.declared.step.Event.{Event}
-use Rattle.geo_history.specs.declared.step.Event.TheVariants.{Command, Evict, Send, Take, Remove, Tick, Reap, Fill}
+use Rattle.geo_history.specs.declared.step.Event.TheVariants.{Command, Evict, Send, Take, Remove, Tick, Reap, Fill, Retire}
 use Rattle.geo_history.specs.declared.step.Answer.{Answer}
 use Rattle.geo_history.specs.declared.step.Step.{Step}
 use Rattle.geo_history.specs.Standings.{Standing, who_of}
@@ -53,6 +53,7 @@ is_call Remove = false
 is_call (Tick now) = false
 is_call (Reap now key) = false
 is_call (Fill key bytes) = false
+is_call (Retire other) = false
 
 abbrev pub is_call_of : ℕ → Step → Bool
 is_call_of seat s = (s.seat == seat) && is_call s.event

@@ -16,7 +16,7 @@ use crate::seat::Seat;
 use geo_delta::Parcel;
 use geo_grammar::{Reply, Request, ValueBytes};
 use geo_history::{BoxedParcel, History, Kept};
-use geo_site::{Filled, Refused, SendError, TakeError, Taken};
+use geo_site::{Filled, Refused, RetireError, SendError, TakeError, Taken};
 use geo_versions::{Digest, Key};
 use std::alloc::{AllocError, Global};
 use std::sync::ledger::{Book, Ledger, Share};
@@ -194,11 +194,11 @@ impl<L: Ledger> Desk<L> {
                 account.book(&mut self.book);
                 Ok(parcels)
             }
-            Err(SendError::NoSuchSite) => {
-                account.book(&mut self.book);
-                Err(CallError::Site(SendError::NoSuchSite))
-            }
             Err(SendError::Memory) => Err(CallError::Site(SendError::Memory)),
+            Err(why) => {
+                account.book(&mut self.book);
+                Err(CallError::Site(why))
+            }
         }
     }
 
@@ -245,6 +245,8 @@ impl<L: Ledger> Desk<L> {
 }
 
 impl<L: Ledger> Desk<L> {
+    ghost use Rattle.geo_station.specs.Calls.{retires_made};
+
     /// Offers the site bytes of a key for a seat.
     fn fill_in_era(
         &mut self,
@@ -272,10 +274,40 @@ impl<L: Ledger> Desk<L> {
             Err(refused) => Err(CallError::Site(refused)),
         }
     }
+
+    /// Holds another site for gone for good, for a seat.
+    fn retire_in_era(
+        &mut self,
+        number: u8,
+        account: &mut Account<L>,
+        other: u8,
+    ) -> Result<bool, CallError<RetireError>>
+        ensures made { IfOk result (λ _. account.new.count ≡ account.old.count + 1) }
+        ensures unmade { IfErr result (λ why. account.new.count ≡ account.old.count + retires_made why) }
+        ensures spent { IfErr result (λ why. why ≡ SeatSpent → most_steps ≤ account.old.count) }
+    {
+        if account.is_spent() {
+            return Err(CallError::SeatSpent);
+        }
+        if !self.has_room(number) {
+            return Err(CallError::Site(RetireError::Memory));
+        }
+        match self.kept.retire_for(number, other) {
+            Ok(is_new) => {
+                account.book(&mut self.book);
+                Ok(is_new)
+            }
+            Err(RetireError::Memory) => Err(CallError::Site(RetireError::Memory)),
+            Err(why) => {
+                account.book(&mut self.book);
+                Err(CallError::Site(why))
+            }
+        }
+    }
 }
 
 impl<L: Ledger> Desk<L> {
-    ghost use Rattle.geo_station.specs.Calls.{sends_made, takes_made};
+    ghost use Rattle.geo_station.specs.Calls.{sends_made, takes_made, retires_made};
     ghost use Rattle.geo_station.specs.Eras.{EndsWhereFull};
 
     /// Begins a new era where the steps of this one keep as many bytes as they may, and hands out the history that ends.
@@ -370,6 +402,25 @@ impl<L: Ledger> Desk<L> {
         ensures ended { EndsWhereFull self.new.kept ended.new }
     {
         let outcome = self.fill_in_era(alloc, number, account, key, bytes);
+        *ended = self.end_full(alloc);
+        outcome
+    }
+
+    /// Holds another site for gone for good as [`Desk::retire_in_era`] does, and ends the era where that filled it.
+    pub(crate) fn retire(
+        &mut self,
+        alloc: Global,
+        number: u8,
+        account: &mut Account<L>,
+        other: u8,
+        ended: &mut Ended,
+    ) -> Result<bool, CallError<RetireError>>
+        ensures made { IfOk result (λ _. account.new.count ≡ account.old.count + 1) }
+        ensures unmade { IfErr result (λ why. account.new.count ≡ account.old.count + retires_made why) }
+        ensures spent { IfErr result (λ why. why ≡ SeatSpent → most_steps ≤ account.old.count) }
+        ensures ended { EndsWhereFull self.new.kept ended.new }
+    {
+        let outcome = self.retire_in_era(number, account, other);
         *ended = self.end_full(alloc);
         outcome
     }

@@ -18,7 +18,7 @@ use geo_delta::Parcel;
 use geo_grammar::{Reply, Request, ValueBytes};
 use geo_history::{Answer, BoxedParcel, Event, History, Kept};
 use geo_lattice::Twin;
-use geo_site::{Filled, SendError, TakeError, Taken};
+use geo_site::{Filled, RetireError, SendError, TakeError, Taken};
 use geo_versions::{Digest, Key};
 use std::alloc::{AllocError, Global};
 use std::marker::Model;
@@ -91,7 +91,7 @@ impl<L: Ledger> Station<L> {
 
 impl<L: Ledger> Station<L> {
     ghost use Rattle.sha2.specs.Sha256.{sha256};
-    ghost use Rattle.geo_station.specs.Calls.{ActsBy, SendsBy, TakesBy, FillsBy, MaintainsBy, takes_made};
+    ghost use Rattle.geo_station.specs.Calls.{ActsBy, SendsBy, TakesBy, FillsBy, RetiresBy, MaintainsBy, takes_made};
 
     /// Answers a client's request at a moment in seconds, 1 to 2^40, after a due flush. Where memory was wanted for the answer, its
     /// step, or the seat's copy, it is [`Reply::OutOfMemory`], and nothing was done but the due flush.
@@ -182,6 +182,11 @@ impl<L: Ledger> Station<L> {
                 let answer = Answer::SendRefused(SendError::NoSuchSite);
                 calls.keep(event, answer);
                 Err(CallError::Site(SendError::NoSuchSite))
+            }
+            Err(CallError::Site(SendError::Retired)) => {
+                let answer = Answer::SendRefused(SendError::Retired);
+                calls.keep(event, answer);
+                Err(CallError::Site(SendError::Retired))
             }
             Err(why) => Err(why),
         }
@@ -287,6 +292,35 @@ impl<L: Ledger> Station<L> {
             .desk
             .lock(rt)
             .fill(alloc, *number, account, key, bytes, &mut ended);
+        done
+    }
+
+    /// Holds another site for gone for good, and tells whether the site did not before: nothing is taken from it and nothing sent to it any
+    /// more. It is a step, of which the seat keeps nothing; a refusal is one too, but for want of memory and a seat that is spent.
+    pub fn retire(
+        &self,
+        rt: &impl Wait,
+        alloc: Global,
+        seat: &mut Seat<L>,
+        other: u8,
+    ) -> Result<bool, CallError<RetireError>>
+        ensures retires { RetiresBy seat.old seat.new result }
+        ensures limit { seat.old.steps ≡ most_steps → result ≡ Err refused.SeatSpent }
+        ensures spent { result ≡ Err refused.SeatSpent → most_steps ≤ seat.old.steps }
+    {
+        let Seat {
+            number,
+            account,
+            ..
+        } = seat;
+        if account.is_spent() {
+            return Err(CallError::SeatSpent);
+        }
+        let mut ended = Ok(None);
+        let done = self
+            .desk
+            .lock(rt)
+            .retire(alloc, *number, account, other, &mut ended);
         done
     }
 

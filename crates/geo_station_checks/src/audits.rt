@@ -161,6 +161,7 @@ fn copied_event(alloc: Global, event: &Event) -> Option<Event> {
         Event::Take { parcel } => Some(Event::Take {
             parcel: BoxedParcel::copy_of(alloc, parcel.parcel()).ok()?,
         }),
+        Event::Retire { other } => Some(Event::Retire { other: *other }),
         Event::Fill { key, bytes } => Some(Event::Fill {
             key: key.twin(alloc).ok()?,
             bytes: bytes.twin(alloc).ok()?,
@@ -178,6 +179,7 @@ fn copied_answer(alloc: Global, answer: &Answer) -> Option<Answer> {
         ).ok()?)),
         Answer::Taken(taken) => Some(Answer::Taken(*taken)),
         Answer::Filled(filled) => Some(Answer::Filled(*filled)),
+        Answer::Retired(is_new) => Some(Answer::Retired(*is_new)),
         _ => None,
     }
 }

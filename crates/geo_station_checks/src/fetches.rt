@@ -11,7 +11,7 @@ use geo_gossip::{Peer, fetch, receive};
 use geo_history::Kept;
 use geo_lattice::Items;
 use geo_link::{Link, LinkError, MemoryLink, memory_link};
-use geo_stamp::Vector;
+use geo_stamp::{Retired, Vector};
 use geo_station::{Seat, Station};
 use geo_versions::{Digest, Key};
 use std::alloc::{AllocError, Global};
@@ -88,6 +88,7 @@ fn parcel(alloc: Global, site: u8) -> Message {
         to: 1,
         base: Vector::new(3),
         upto: Vector::new(3),
+        retired: Retired::none(),
         floor: None,
         records: Items::of(Vec::new(alloc)),
     })

@@ -6,7 +6,7 @@ use geo_frame::{FrameFault, Message, fits};
 use geo_grammar::Device;
 use geo_lattice::Items;
 use geo_link::{Link, LinkError, MemoryLink, StreamLink, Tallied, memory_link};
-use geo_stamp::Vector;
+use geo_stamp::{Retired, Vector};
 use geo_tally::{Tally, TallySeat};
 use geo_versions::{Digest, Key};
 use std::alloc::{AllocError, Global};
@@ -56,6 +56,7 @@ fn parcel(alloc: Global, from: u8, to: u8) -> Message {
         to,
         base: Vector::new(2),
         upto,
+        retired: Retired::none(),
         floor: None,
         records: Items::of(Vec::new(alloc)),
     })

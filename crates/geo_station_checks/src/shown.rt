@@ -21,6 +21,7 @@ fn show_event(out: &mut Vec<u8>, event: &Event) -> Result<(), AllocError> {
         Event::Tick { now } => word(out, "tick at", *now),
         Event::Reap { now, .. } => word(out, "reap at", *now),
         Event::Fill { bytes, .. } => word(out, "fill of", bytes.len() as u64),
+        Event::Retire { other } => word(out, "retire", *other as u64),
     }
 }
 
@@ -39,6 +40,8 @@ fn show_answer(out: &mut Vec<u8>, answer: &Answer) -> Result<(), AllocError> {
         Answer::Reaped(deleted) => format!(in alloc; "reaped {deleted}"),
         Answer::ReapRefused(_) => format!(in alloc; "reap refused"),
         Answer::Filled(filled) => format!(in alloc; "{filled:?}"),
+        Answer::Retired(is_new) => format!(in alloc; "retired {is_new}"),
+        Answer::RetireRefused(why) => format!(in alloc; "{why:?}"),
     };
     out.extend_from_slice(text?.as_bytes())
 }

@@ -55,6 +55,8 @@ enum Call {
     Fill(&'static [u8]),
     /// What the site offers of the key a for the SHA-256 of these bytes.
     Offer(&'static [u8]),
+    /// A site is gone for good.
+    Retire(u8),
 }
 
 /// A request's answer in the text of the protocol, unless the seat is spent.
@@ -170,6 +172,7 @@ fn answer<L: Ledger>(
         Call::Missing(after) => miss(rt, alloc, station, after, out),
         Call::Fill(bytes) => fill(rt, alloc, station, seat, bytes, out),
         Call::Offer(bytes) => offer(rt, alloc, station, bytes, out),
+        Call::Retire(other) => say(alloc, out, &station.retire(rt, alloc, seat, other)),
     }
 }
 
@@ -354,6 +357,16 @@ const FILLED: &[Call] = &[
     Call::Offer(b"yo"),
 ];
 
+/// A site is retired once, and no number of none.
+const RETIRED: &[Call] = &[
+    Call::Act(b"set a 0 0 2\r\nhi\r\n"),
+    Call::Retire(2),
+    Call::Retire(2),
+    Call::Retire(1),
+    Call::Retire(3),
+    Call::Send(2),
+];
+
 /// How many sites there are, the calls, and what is shown.
 const ROWS: &[(u8, &[Call], &[u8])] = &[
     (1, &[], b"0 calls, false, Missing\nshare 0\n"),
@@ -403,6 +416,20 @@ const ROWS: &[(u8, &[Call], &[u8])] = &[
           era 1 behind 3, share 5\n\
           seat 0 step 4: act at 100; VALUE a 0 2\r\nhi\r\nEND\r\n\n\
           seat 0 step 5: act at 100; DELETED\r\n\n",
+    ),
+    // A retirement is a step, a refused one too, and no call that the seat keeps; nothing is sent to a retired site.
+    (
+        2,
+        RETIRED,
+        b"STORED\r\nOk(true)\nOk(false)\nErr(Site(NoSuchSite))\nErr(Site(NoSuchSite))\nSome(Site(Retired))\n\
+          2 calls, false, Missing\n\
+          share 6\n\
+          seat 0 step 1: act at 100; STORED\r\n\n\
+          seat 0 step 2: retire 2; retired true\n\
+          seat 0 step 3: retire 2; retired false\n\
+          seat 0 step 4: retire 1; NoSuchSite\n\
+          seat 0 step 5: retire 3; NoSuchSite\n\
+          seat 0 step 6: send to 2; Retired\n",
     ),
     // A fill is a step, and no call that the seat keeps; to look for what is missing and to offer it are no steps.
     (

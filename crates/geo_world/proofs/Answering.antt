@@ -28,17 +28,20 @@ use Rattle.geo_site.specs.Schedule.{Known, Stable, StableAt, issues_on, issues_b
 use Rattle.geo_site.specs.Agreement.{UpTo}
 use Rattle.geo_site.proofs.Steps.{state_version, state_later, state_removes, state_same}
 use Rattle.geo_site.proofs.Records.{holds_more}
-use Rattle.geo_stamp.specs.Acks.{row_of, with_own, horizon_of}
-use Rattle.geo_stamp.specs.Vectors.{entry_of}
+use Rattle.geo_stamp.specs.Acks.{Heard, row_of, horizon_of}
+use Rattle.geo_stamp.specs.Retired.{is_in}
+use Rattle.geo_stamp.specs.Vectors.{entry_of, vector_joined}
+use Rattle.geo_laws.proofs.Joins.{joined_same}
 use Rattle.geo_world.specs.Agreement.{about, Stands, Agrees}
 use Rattle.geo_world.specs.Tables.{OwesOver}
-use Rattle.geo_world.proofs.Horizon.{horizon_at_most, horizon_at_least, horizon_in_range, own_here, stable_below}
+use Rattle.geo_world.proofs.Horizon.{OwnRises, stable_below}
+use Rattle.geo_world.proofs.Moving.{answer_behind, answer_stable, own_moves}
 use Rattle.geo_world.proofs.Bounding.{bounded_same, vector_was, vector_here, vector_there, rows_stay}
 use Rattle.geo_world.specs.Bounds.{vectors, rows}
 use Rattle.std.proofs.lemmas.Bool.{cases_eq}
 use Rattle.geo_world.proofs.Worlds.{some_none}
 use Rattle.geo_site.proofs.Victims.{AreQuiet, one_quiet, request_goes, victim_fits}
-use Rattle.geo_world.proofs.Changing.{reached_stable, agrees_changed, count_same, agrees_still, agrees_acts, agrees_carried, agrees_flushed, agrees_evicted, agrees_missing, agrees_filled}
+use Rattle.geo_world.proofs.Changing.{agrees_changed, passed_still, count_same, agrees_still, agrees_acts, agrees_carried, agrees_flushed, agrees_evicted, agrees_missing, agrees_filled}
 
 -- an element that is written twice
 pub set_twice : {A : Type 0} (xs : List A) (k : ℕ) (x y : A) → slice_set (slice_set xs k x) k y ≡ slice_set xs k y
@@ -85,13 +88,14 @@ module _ (sites : List Site) (parcels : List Parcel) (w : Known) (agrees : Agree
   pub request_lawful : IsRecordCount (state_in old).map (record_count old) → IsHeldCount (state_in old).stock.held (held_count old) → RequestDoes old new now request reply → RepliesTo w s now request reply
   request_lawful recorded held does =
       let st = agrees.each k s old at_number got in
-      let stable = reached_stable sites parcels w agrees k s at_number hi old got st.horizon st.reached in
+      let stable = answer_stable sites parcels w agrees k s at_number hi old got in
+      let reached = st.reached in
       let over = request_over recorded held does in
       record {
         kept = (state_in old).map;
         records = over.records;
         items = over.items;
-        holds = λ key. holds_more (UpTo st.horizon) (Stable w) (λ time le. subst (λ n. StableAt n w.at time) (sym agrees.numbers) (stable_below (length sites) w.at st.horizon time le stable)) ((state_in old).map key) (w.at s) key (st.state.holds key);
+        holds = λ key. holds_more (UpTo st.horizon) (Stable w s) (λ time le. subst (λ n. StableAt n (w.sets s) w.at time) (sym agrees.numbers) (stable_below (length sites) (w.sets s) w.at (horizon_of (heard_in old) s old.vector) time (omega (arith, le, reached)) stable)) ((state_in old).map key) (w.at s) key (st.state.holds key);
         recorded = over.recorded;
         held = over.held;
         answers = over.answers;
@@ -270,49 +274,41 @@ module _ (sites : List Site) (parcels : List Parcel) (w : Known) (agrees : Agree
 
 -- ---- a removal
 module _ (sites : List Site) (parcels : List Parcel) (w : Known) (agrees : Agrees sites parcels w) (k s : ℕ) (at_number : s ≡ k + 1) (hi : s ≤ length sites) (old new : Site) (got : slice_get sites k ≡ Some old) where
-  lo : 1 ≤ s
-  lo = omega (arith, at_number)
-
-  reach : (q j : ℕ) → 1 ≤ q → q ≤ length sites → 1 ≤ j → j ≤ length sites → horizon_of (heard_in old) s old.vector ≤ entry_of (row_of (with_own (heard_in old) s old.vector) q) j
-  reach = let st = agrees.each k s old at_number got in horizon_at_most (length sites) s (heard_in old) old.vector lo hi st.state.many st.rows
-
   own_horizon : horizon_in old ≡ horizon_of (heard_in old) s old.vector
   own_horizon = let st = agrees.each k s old at_number got in ap (λ m. horizon_of (heard_in old) m old.vector) st.own
 
   pub remove_lawful : (horizon count : ℕ) → horizon ≡ horizon_in old → Lawful w (Remove s) (Removed horizon count)
   remove_lawful horizon count is =
-      subst₂ (λ n h. StableAt n w.at h) (sym agrees.numbers) (sym (is ∙ own_horizon)) (reached_stable sites parcels w agrees k s at_number hi old got (horizon_of (heard_in old) s old.vector) reach)
+      subst₂ (λ n h. StableAt n (w.sets s) w.at h) (sym agrees.numbers) (sym (is ∙ own_horizon)) (answer_stable sites parcels w agrees k s at_number hi old got)
 
   pub remove_agrees : (horizon count : ℕ) → RemoveDoes old new count → Agrees (slice_set sites k new) parcels (happens w (Remove s) (Removed horizon count))
   remove_agrees horizon count does =
       let st = agrees.each k s old at_number got in
       let n = length sites in
+      let later = slice_set sites k new in
       let h = horizon_of (heard_in old) s old.vector in
-      let later : st.horizon ≤ h = horizon_at_least n s (heard_in old) old.vector lo hi st.state.many st.rows st.horizon st.top st.reached in
-      let some = st.rows s lo hi in
-      let behind : h ≤ latest (w.at s) = (
-      let r = reach s s lo hi lo hi in
-      let e = ap (λ v. entry_of v s) (own_here (heard_in old) s old.vector (omega (arith, some, lo, hi))) in
-      let own = st.state.tells.own in
-      omega (arith, r, e, own)) in
       let left : Same (removed h (state_in old)) (state_in new) = subst (λ h. Same (removed h (state_in old)) (state_in new)) own_horizon does.left in
-      let state = state_same n s h (removed h (state_in old)) (state_in new) (w.at s) (w.held s) (state_removes n s h (state_in old) (w.at s) (w.held s) (state_later n s st.horizon h (state_in old) (w.at s) (w.held s) st.state later behind)) left in
+      let state = state_same n s h (removed h (state_in old)) (state_in new) (w.at s) (w.held s) (state_removes n s h (state_in old) (w.at s) (w.held s) (state_later n s st.horizon h (state_in old) (w.at s) (w.held s) st.state st.reached (answer_behind sites parcels w agrees k s at_number hi old got))) left in
       let vector : new.vector ≡ old.vector = left.vector in
-      agrees_changed sites parcels w w agrees k s at_number new
+      let rises : OwnRises s old.vector new.vector = record { many = ap length vector; others = λ j ne. ap (λ v. entry_of v j) vector; above = ap (λ v. vector_joined v old.vector) vector ∙ joined_same old.vector ∙ sym vector } in
+      let heard = does.stays.2 in
+      let moves = own_moves sites parcels w agrees k s at_number hi old got new rises (ap (λ (h : Heard). h.rows) heard) (ap (λ (h : Heard). h.told) heard) (λ j one has. ap (λ (h : Heard). is_in h.set j) heard ∙ has) in
+      agrees_changed sites parcels w w agrees k s at_number hi old new got
       (record {
         own = does.stays.0 ∙ st.own;
         horizon = h;
-        top = horizon_in_range (heard_in old) s old.vector;
         state = state;
-        reached = subst₂ (λ (all : List (List ℕ)) (v : List ℕ). (q j : ℕ) → 1 ≤ q → q ≤ n → 1 ≤ j → j ≤ n → h ≤ entry_of (row_of (with_own all s v) q) j) (sym does.stays.2) (sym vector) reach;
+        reached = let e : horizon_of (heard_in new) s new.vector ≡ h = (λ i. horizon_of (heard i) s (vector i)) in omega (arith, e);
         counts = does.rests.0 ∙ st.counts;
         waiting = does.rests.1 ∙ st.waiting;
         limits = does.stays.1 ∙ st.limits;
-        rows = λ other first last. ap (λ all. length (row_of all other)) does.stays.2 ∙ st.rows other first last;
+        set = ap (λ (h : Heard). h.set) heard ∙ st.set;
+        rows = λ other first last. ap (λ (h : Heard). length (row_of h.rows other)) heard ∙ st.rows other first last;
       })
-      (λ t ne. refl) refl refl (λ time stable. stable)
-      (bounded_same n (vectors sites) (vectors (slice_set sites k new)) (rows sites) (rows (slice_set sites k new)) parcels w.at w.at w.sent w.sent
+      (λ t ne. refl) refl refl (λ t op a. a)
+      (bounded_same n (vectors sites) (vectors later) (rows sites) (rows later) parcels w.at w.at w.sent w.sent
       (λ t. elim (cases_eq t s) [
-        | inl e ↦ ap (vectors (slice_set sites k new)) e ∙ vector_here sites k s at_number hi old new got ∙ vector ∙ sym (vector_was sites k s at_number hi old new got) ∙ ap (vectors sites) (sym e)
+        | inl e ↦ ap (vectors later) e ∙ vector_here sites k s at_number hi old new got ∙ vector ∙ sym (vector_was sites k s at_number hi old new got) ∙ ap (vectors sites) (sym e)
         | inr ne ↦ vector_there sites k s at_number hi old new got t ne
-      ]) (rows_stay sites k s at_number hi old new got does.stays.2) (λ t. refl) refl agrees.bounds)
+      ]) (rows_stay sites k s at_number hi old new got (ap (λ (h : Heard). h.rows) heard)) (λ t. refl) refl agrees.bounds)
+      moves (passed_still sites parcels w w agrees k s at_number hi old new got moves heard)

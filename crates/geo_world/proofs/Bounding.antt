@@ -1,11 +1,12 @@
 -- What vectors promise is kept as operations are issued, sent and taken.
-use Rattle.std.proofs.Common.{◌≡◌, ◌≢◌, ℕ, zero, suc, ◌+◌, ◌≤◌, ◌<◌, max, cond, ◌==◌, List, [], ◌∷◌, ◌++◌, length, Some, refl, sym, ap, ◌∙◌, subst, ◌⊎◌, inl, inr, arith, slice_get, slice_set, slice_index, slice_index_or, replicate}
+use Rattle.std.proofs.Common.{◌≡◌, ◌≢◌, ℕ, zero, suc, ◌+◌, ◌≤◌, ◌<◌, max, Bool, cond, ◌==◌, List, [], ◌∷◌, ◌++◌, length, Some, refl, sym, ap, ◌∙◌, subst, ◌⊎◌, inl, inr, arith, slice_get, slice_set, slice_index, slice_index_or, replicate}
 use Rattle.std.proofs.lemmas.Bool.{cases_eq, cases_lt}
 use Rattle.std.proofs.lemmas.Bool.Decides.{eqb_tells}
 use Rattle.std.proofs.lemmas.Option.{slice_get_within}
 use Rattle.std.proofs.lemmas.List.{get_or_append_left}
 use Rattle.std.proofs.Math.Seq.{get_or-append_seam}
-use Rattle.geo_stamp.specs.Acks.{row_of, heard, none_heard}
+use Rattle.geo_stamp.specs.Acks.{row_of, told_of, row_joined, none_heard}
+use Rattle.geo_stamp.specs.Retired.{no_sites}
 use Rattle.geo_stamp.specs.Vectors.{entry_of, zeros, vector_joined, raised, greatest_of, Knows}
 use Rattle.geo_laws.proofs.Joins.{joined_assoc, joined_comm, joined_same}
 use Rattle.geo_records.specs.Operations.{Operation, Act, Among, latest}
@@ -14,13 +15,13 @@ use Rattle.geo_delta.specs.declared.parcel.Parcel.{Parcel}
 use Rattle.geo_site.specs.declared.site.Site.{Site}
 use Rattle.geo_site.specs.Entries.{Held}
 use Rattle.geo_site.specs.Machine.{SiteState, clock_of, issue, issue_all, act_held, without, victim_by}
-use Rattle.geo_site.specs.Schedule.{Known, StableAt, still_held, settles, new_operation, issues}
+use Rattle.geo_site.specs.Schedule.{Known, Sending, never_sent, still_held, settles, new_operation, issues}
 use Rattle.geo_site.specs.Agreement.{StateOf}
 use Rattle.geo_site.proofs.Entries.{Within, entry_joined, entry_stays}
-use Rattle.geo_site.proofs.Sound.{here, there, among_left, among_right}
+use Rattle.geo_site.proofs.Sound.{here, there, among_left, among_right, grows}
 use Rattle.geo_site.proofs.Steps.{among_append, state_issues}
-use Rattle.geo_site.specs.Sites.{heard_in}
-use Rattle.geo_world.specs.Bounds.{at_number, vectors, rows, IsAbove, told_in, Bounded}
+use Rattle.geo_site.specs.Sites.{heard_in, retired_in}
+use Rattle.geo_world.specs.Bounds.{at_number, vectors, sets, rows, tolds, reached, IsAbove, told_in, Bounded}
 use Rattle.geo_world.proofs.Worlds.{some_none, some_same, get_appended}
 
 -- ---- vectors above vectors
@@ -58,7 +59,7 @@ pub record Grows (n s : ℕ) (V V' : ℕ → List ℕ) (H' : ℕ → ℕ → Lis
   pub most : (q : ℕ) → entry_of (V' s) q ≤ latest (at' q)
   pub heard_known : (r q : ℕ) → 1 ≤ q → q ≤ n → IsAbove (V' q) (H' r q)
 
-module _ (n s : ℕ) (V V' : ℕ → List ℕ) (H H' : ℕ → ℕ → List ℕ) (parcels : List Parcel) (at at' : ℕ → List Operation) (more : List Operation) (sent : List (ℕ × List Operation)) (b : Bounded n V H parcels at sent) (g : Grows n s V V' H' at at' more) where
+module _ (n s : ℕ) (V V' : ℕ → List ℕ) (H H' : ℕ → ℕ → List ℕ) (parcels : List Parcel) (at at' : ℕ → List Operation) (more : List Operation) (sent : List Sending) (b : Bounded n V H parcels at sent) (g : Grows n s V V' H' at at' more) where
   keeps : (t : ℕ) (op : Operation) → Among (at t) op → Among (at' t) op
   keeps t op a = elim (cases_eq t s) [
     | inl e ↦ subst (λ t. Among (at' t) op) (sym e) (subst (λ ops. Among ops op) (sym g.gains) (among_left (at s) more op (subst (λ t. Among (at t) op) e a)))
@@ -128,18 +129,8 @@ module _ (n s : ℕ) (V V' : ℕ → List ℕ) (H H' : ℕ → ℕ → List ℕ)
     sent_base = λ p parcel got. above_trans (V' parcel.to) (V parcel.to) parcel.base (above parcel.to) (b.sent_base p parcel got);
   }
 
-  -- what every site knows it knows still
-  pub stable_grows : (time : ℕ) → StableAt n at time → StableAt n at' time
-  stable_grows time stable = record {
-    known = λ r q op lo hi a le. elim (told r op a) [
-      | inl k ↦ keeps q op (stable.known k.0 q op lo hi k.1 le)
-      | inr new ↦ let late = stable.past s g.low g.high in let after = new.1 in absurd (omega (arith, late, after, le))
-    ];
-    past = λ q lo hi. let l = later q in let p = stable.past q lo hi in omega (arith, l, p);
-  }
-
 -- ---- the same, said otherwise
-pub bounded_same : (n : ℕ) (V V' : ℕ → List ℕ) (H H' : ℕ → ℕ → List ℕ) (parcels : List Parcel) (at at' : ℕ → List Operation) (sent sent' : List (ℕ × List Operation)) → ((t : ℕ) → V' t ≡ V t) → ((r q : ℕ) → H' r q ≡ H r q) → ((t : ℕ) → at' t ≡ at t) → sent' ≡ sent
+pub bounded_same : (n : ℕ) (V V' : ℕ → List ℕ) (H H' : ℕ → ℕ → List ℕ) (parcels : List Parcel) (at at' : ℕ → List Operation) (sent sent' : List Sending) → ((t : ℕ) → V' t ≡ V t) → ((r q : ℕ) → H' r q ≡ H r q) → ((t : ℕ) → at' t ≡ at t) → sent' ≡ sent
     → Bounded n V H parcels at sent → Bounded n V' H' parcels at' sent'
 bounded_same n V V' H H' parcels at at' sent sent' v h a s b =
     let vs : V' ≡ V = λ i t. v t i in
@@ -234,26 +225,13 @@ module _ (n s : ℕ) (H : ℕ → ℕ → List ℕ) (parcels : List Parcel) (lo 
       let stands = subst (λ (o : List Operation). StateOf n s low (issue s act st) o left) (sym (here w s more h)) (state_issues n s low st (w.at s) held act ok (record { above = lo; below = omega (arith, many, hi) })) in
       bounded_issues acts v (issue s act st) left U V' (bounded_grows n s V U H H parcels w.at v.at (new_operation w s act ∷ []) w.sent b g) low stands at_s is (λ t ne. others t ne ∙ sym (elsewhere t ne))
 
-  -- and what every site knew it knows once they are issued
-  pub stable_issues : (acts : List Act) (w : Known) (st : SiteState) (held : Held) (V : ℕ → List ℕ) → Bounded n V H parcels w.at w.sent → (h : ℕ) → StateOf n s h st (w.at s) held → V s ≡ st.vector → (time : ℕ) → StableAt n w.at time → StableAt n (issues w s acts).at time
-  stable_issues [] w st held V b low ok mine time stable = stable
-  stable_issues (act ∷ acts) w st held V b low ok mine time stable =
-      let more = w.at s ++ new_operation w s act ∷ [] in
-      let h = act_held act (w.held s) in
-      let v = settles w s more h in
-      let next = (issue s act st).vector in
-      let U : ℕ → List ℕ = λ t. cond (t == s) next (V t) in
-      let at_s : U s ≡ next = put_here V s next in
-      let elsewhere : (t : ℕ) → t ≢ s → U t ≡ V t = λ t ne. put_there V s next t ne in
-      let many = ok.many in
-      let g = grows_issue w st act held V U b low ok mine at_s elsewhere in
-      let left = still_held more (act_held act (without (victim_by act st.stock) held)) in
-      let stands = subst (λ (o : List Operation). StateOf n s low (issue s act st) o left) (sym (here w s more h)) (state_issues n s low st (w.at s) held act ok (record { above = lo; below = omega (arith, many, hi) })) in
-      stable_issues acts v (issue s act st) left U (bounded_grows n s V U H H parcels w.at v.at (new_operation w s act ∷ []) w.sent b g) low stands at_s time
-      (stable_grows n s V U H H parcels w.at v.at (new_operation w s act ∷ []) w.sent b g time stable)
+-- who knows an operation knows it once others are issued
+pub issues_known : (w : Known) (s : ℕ) (acts : List Act) (t : ℕ) (op : Operation) → Among (w.at t) op → Among ((issues w s acts).at t) op
+issues_known w s [] t op a = a
+issues_known w s (act ∷ acts) t op a = issues_known (settles w s (w.at s ++ new_operation w s act ∷ []) (act_held act (w.held s))) s acts t op (grows w s (new_operation w s act ∷ []) (act_held act (w.held s)) t op a)
 
 -- ---- a site takes a parcel
-module _ (n s p : ℕ) (V V' : ℕ → List ℕ) (H H' : ℕ → ℕ → List ℕ) (parcels : List Parcel) (at at' : ℕ → List Operation) (sent : List (ℕ × List Operation)) (parcel : Parcel)
+module _ (n s p : ℕ) (V V' : ℕ → List ℕ) (H H' : ℕ → ℕ → List ℕ) (parcels : List Parcel) (at at' : ℕ → List Operation) (sent : List Sending) (parcel : Parcel)
     (b : Bounded n V H parcels at sent) (got : slice_get parcels p ≡ Some parcel) (lo : 1 ≤ s) (hi : s ≤ n) where
   -- what the parcel leaves out is known
   pub left_known : parcel.to ≡ s → (op : Operation) → Among (told_in sent p) op → Knows parcel.base op.stamp → Among (at s) op
@@ -324,20 +302,17 @@ module _ (n s p : ℕ) (V V' : ℕ → List ℕ) (H H' : ℕ → ℕ → List �
     pub bounded_takes : Bounded n V' H' parcels at' sent
     bounded_takes = bounded_grows n s V V' H H' parcels at at' (told_in sent p) sent b grows_take
 
-    pub stable_takes : (time : ℕ) → StableAt n at time → StableAt n at' time
-    stable_takes = stable_grows n s V V' H H' parcels at at' (told_in sent p) sent b grows_take
-
 -- ---- a site sends a parcel
-module _ (n s to : ℕ) (V : ℕ → List ℕ) (H : ℕ → ℕ → List ℕ) (parcels : List Parcel) (at : ℕ → List Operation) (sent : List (ℕ × List Operation)) (parcel : Parcel)
+module _ (n s to : ℕ) (set : List Bool) (V : ℕ → List ℕ) (H : ℕ → ℕ → List ℕ) (parcels : List Parcel) (at : ℕ → List Operation) (sent : List Sending) (parcel : Parcel)
     (b : Bounded n V H parcels at sent) (many : length sent ≡ length parcels) (from : parcel.from ≡ s) (addressee : parcel.to ≡ to) (upto : parcel.upto ≡ V s) (base : parcel.base ≡ H s to) (lo : 1 ≤ to) (hi : to ≤ n) where
-  abbrev new : ℕ × List Operation
-  new = (to, at s)
+  abbrev new : Sending
+  new = record { from = s; to = to; set = set; ops = at s }
 
   told_old : (p : ℕ) (x : Parcel) → slice_get parcels p ≡ Some x → told_in (sent ++ new ∷ []) p ≡ told_in sent p
-  told_old p x got = let lt = slice_get_within parcels p x got in let d : ℕ × List Operation = (0, []) in ap (λ (x : ℕ × List Operation). x.1) (get_or_append_left sent (new ∷ []) d p (omega (arith, lt, many)))
+  told_old p x got = let lt = slice_get_within parcels p x got in ap (λ (x : Sending). x.ops) (get_or_append_left sent (new ∷ []) never_sent p (omega (arith, lt, many)))
 
   told_new : (p : ℕ) → p ≡ length parcels → told_in (sent ++ new ∷ []) p ≡ at s
-  told_new p e = let d : ℕ × List Operation = (0, []) in ap (λ p. told_in (sent ++ new ∷ []) p) (e ∙ sym many) ∙ ap (λ (x : ℕ × List Operation). x.1) (get_or-append_seam sent new [] d)
+  told_new p e = ap (λ p. told_in (sent ++ new ∷ []) p) (e ∙ sym many) ∙ ap (λ (x : Sending). x.ops) (get_or-append_seam sent new [] never_sent)
 
   pub bounded_sends : Bounded n V H (parcels ++ parcel ∷ []) at (sent ++ new ∷ [])
   bounded_sends = record {
@@ -431,20 +406,57 @@ module _ (sites : List Site) (k s : ℕ) (is_place : s ≡ k + 1) (hi : s ≤ le
   pub vector_there : (t : ℕ) → t ≢ s → vectors (slice_set sites k new) t ≡ vectors sites t
   vector_there t ne = set_there (λ site. site.vector) [] sites k new t (λ e. ne (e ∙ sym place))
 
-  pub row_was : (q : ℕ) → rows sites s q ≡ row_of (heard_in old) q
-  row_was q = ap (λ t. rows sites t q) place ∙ ap (λ h. row_of h q) (at_found heard_in [] sites k old got)
+  module _ {A : Type 0} (f : Site → A) (none : A) where
+    pub at_was : at_number f none sites s ≡ f old
+    at_was = ap (at_number f none sites) place ∙ at_found f none sites k old got
 
-  pub row_here : (q : ℕ) → rows (slice_set sites k new) s q ≡ row_of (heard_in new) q
-  row_here q = ap (λ t. rows (slice_set sites k new) t q) place ∙ ap (λ h. row_of h q) (set_here heard_in [] sites k new (omega (arith, hi, is_place)))
+    pub at_here : at_number f none (slice_set sites k new) s ≡ f new
+    at_here = ap (at_number f none (slice_set sites k new)) place ∙ set_here f none sites k new (omega (arith, hi, is_place))
+
+    pub at_there : (t : ℕ) → t ≢ s → at_number f none (slice_set sites k new) t ≡ at_number f none sites t
+    at_there t ne = set_there f none sites k new t (λ e. ne (e ∙ sym place))
+
+  pub row_was : (q : ℕ) → rows sites s q ≡ row_of (heard_in old).rows q
+  row_was q = ap (λ h. row_of h q) (at_was (λ site. (heard_in site).rows) [])
+
+  pub row_here : (q : ℕ) → rows (slice_set sites k new) s q ≡ row_of (heard_in new).rows q
+  row_here q = ap (λ h. row_of h q) (at_here (λ site. (heard_in site).rows) [])
 
   pub row_there : (r q : ℕ) → r ≢ s → rows (slice_set sites k new) r q ≡ rows sites r q
-  row_there r q ne = ap (λ h. row_of h q) (set_there heard_in [] sites k new r (λ e. ne (e ∙ sym place)))
+  row_there r q ne = ap (λ h. row_of h q) (at_there (λ site. (heard_in site).rows) [] r ne)
 
-  pub rows_stay : heard_in new ≡ heard_in old → (r q : ℕ) → rows (slice_set sites k new) r q ≡ rows sites r q
+  pub rows_stay : (heard_in new).rows ≡ (heard_in old).rows → (r q : ℕ) → rows (slice_set sites k new) r q ≡ rows sites r q
   rows_stay same r q = elim (cases_eq r s) [
     | inl e ↦ ap (λ t. rows (slice_set sites k new) t q) e ∙ row_here q ∙ ap (λ h. row_of h q) same ∙ sym (row_was q) ∙ ap (λ t. rows sites t q) (sym e)
     | inr ne ↦ row_there r q ne
   ]
+
+  pub set_was : sets sites s ≡ retired_in old
+  set_was = at_was retired_in no_sites
+
+  pub set_is : sets (slice_set sites k new) s ≡ retired_in new
+  set_is = at_here retired_in no_sites
+
+  pub set_else : (t : ℕ) → t ≢ s → sets (slice_set sites k new) t ≡ sets sites t
+  set_else t ne = at_there retired_in no_sites t ne
+
+  pub told_was : (q : ℕ) → tolds sites s q ≡ told_of (heard_in old).told q
+  told_was q = ap (λ h. told_of h q) (at_was (λ site. (heard_in site).told) [])
+
+  pub told_is : (q : ℕ) → tolds (slice_set sites k new) s q ≡ told_of (heard_in new).told q
+  told_is q = ap (λ h. told_of h q) (at_here (λ site. (heard_in site).told) [])
+
+  pub told_else : (r q : ℕ) → r ≢ s → tolds (slice_set sites k new) r q ≡ tolds sites r q
+  told_else r q ne = ap (λ h. told_of h q) (at_there (λ site. (heard_in site).told) [] r ne)
+
+  pub reached_was : reached sites s ≡ (heard_in old).reached
+  reached_was = at_was (λ site. (heard_in site).reached) 0
+
+  pub reached_is : reached (slice_set sites k new) s ≡ (heard_in new).reached
+  reached_is = at_here (λ site. (heard_in site).reached) 0
+
+  pub reached_else : (t : ℕ) → t ≢ s → reached (slice_set sites k new) t ≡ reached sites t
+  reached_else t ne = at_there (λ site. (heard_in site).reached) 0 t ne
 
 -- ---- rows that are heard
 heard_at : (all : List (List ℕ)) (j : ℕ) (x : List ℕ) → 1 ≤ length (slice_index_or all j []) → slice_index_or (slice_set all j x) j [] ≡ x
@@ -459,11 +471,11 @@ heard_not (y ∷ ys) zero (suc i) x ne = refl
 heard_not (y ∷ ys) (suc j) zero x ne = refl
 heard_not (y ∷ ys) (suc j) (suc i) x ne = heard_not ys j i x (λ e. ne (ap suc e))
 
-pub heard_here : (all : List (List ℕ)) (j : ℕ) (v : List ℕ) → 1 ≤ length (row_of all j) → row_of (heard all j v) j ≡ vector_joined (row_of all j) v
+pub heard_here : (all : List (List ℕ)) (j : ℕ) (v : List ℕ) → 1 ≤ length (row_of all j) → row_of (row_joined all j v) j ≡ vector_joined (row_of all j) v
 heard_here all zero v h = absurd (omega arith)
 heard_here all (suc j) v h = heard_at all j (vector_joined (slice_index_or all j []) v) h
 
-pub heard_there : (all : List (List ℕ)) (j i : ℕ) (v : List ℕ) → i ≢ j → row_of (heard all j v) i ≡ row_of all i
+pub heard_there : (all : List (List ℕ)) (j i : ℕ) (v : List ℕ) → i ≢ j → row_of (row_joined all j v) i ≡ row_of all i
 heard_there all zero i v ne = refl
 heard_there all (suc j) zero v ne = refl
 heard_there all (suc j) (suc i) v ne = heard_not all j i (vector_joined (slice_index_or all j []) v) (λ e. ne (ap suc e))
@@ -473,6 +485,6 @@ none_at zero n j lt = absurd (omega arith)
 none_at (suc m) n zero lt = refl
 none_at (suc m) n (suc j) lt = none_at m n j (omega arith)
 
-pub none_row : (n s : ℕ) → 1 ≤ s → s ≤ 16 → row_of (none_heard n) s ≡ zeros n
+pub none_row : (n s : ℕ) → 1 ≤ s → s ≤ 16 → row_of (none_heard n).rows s ≡ zeros n
 none_row n zero lo hi = absurd (omega arith)
 none_row n (suc j) lo hi = none_at 16 n j (omega arith)

@@ -3,7 +3,7 @@ use Rattle.std.proofs.Common.{◌≡◌, ℕ, ◌+◌, ◌<◌, ◌≤◌, Bool,
 use Rattle.std.proofs.lemmas.List.{take_more}
 use Rattle.std.proofs.lemmas.Option.{slice_get-get_or}
 use Rattle.geo_site.specs.declared.event.Event.{Event}
-use Rattle.geo_site.specs.declared.event.Event.TheVariants.{Command, Evict, Send, Take, Remove, Tick, Reap, Fill}
+use Rattle.geo_site.specs.declared.event.Event.TheVariants.{Command, Evict, Send, Take, Remove, Tick, Reap, Fill, Retire}
 use Rattle.geo_world.specs.There.{is_there, made_by, made_in, all_there, CannotCome}
 
 both : (a b : Bool) → a && b ≡ true → (a ≡ true) × (b ≡ true)
@@ -31,6 +31,7 @@ made_most p (Remove site) = omega arith
 made_most p (Tick site now) = omega arith
 made_most p (Reap site now key) = omega arith
 made_most p (Fill site key bytes) = omega arith
+made_most p (Retire site other) = omega arith
 
 -- the events up to an index are there, and make so many parcels
 pub record AreThere (sites : ℕ) (events : List Event) (index parcels : ℕ) : Type 0 where

@@ -9,8 +9,10 @@ use Rattle.geo_grammar.specs.declared.request.Request.{Request}
 use Rattle.geo_grammar.specs.declared.reply.Reply.{Reply}
 use Rattle.geo_site.specs.declared.site.Site.{Site}
 use Rattle.geo_site.specs.declared.setup.Limits.{Limits}
-use Rattle.geo_site.specs.declared.event.Event.TheVariants.{Command, Tick, Reap}
-use Rattle.geo_site.specs.declared.event.Trace.TheVariants.{Replied, Ticked, Reaped, ReapRefused}
+use Rattle.geo_site.specs.declared.event.Event.TheVariants.{Command, Tick, Reap, Retire}
+use Rattle.geo_site.specs.declared.event.Trace.TheVariants.{Replied, Ticked, Reaped, ReapRefused, Retired, RetireRefused}
+use Rattle.geo_site.specs.declared.refusal.RetireError.{RetireError}
+use Rattle.geo_site.specs.declared.refusal.RetireError.TheVariants as retire
 use Rattle.geo_site.specs.declared.refusal.ReapError.{ReapError}
 use Rattle.geo_site.specs.declared.refusal.ReapError.TheVariants.{ClockEnded, Memory}
 use Rattle.std.specs.declared.alloc.AllocError.{AllocError}
@@ -18,24 +20,24 @@ use Rattle.geo_site.specs.declared.fill.Filled.{Filled}
 use Rattle.geo_site.specs.Fills.{FillDoes, after_fill}
 use Rattle.geo_site.specs.Entries.{issued, accesses, due_acts, is_stuck, is_done}
 use Rattle.geo_site.specs.Machine.{SiteState, Same, fresh, issue, issue_all, accessed, take, removed, sifted_delta, visible_in, IsRecordCount}
-use Rattle.geo_site.specs.Sites.{state_in, heard_in, horizon_in, delta_of, clock_in, waiting_in, HasIssued, HasIssuedAfter, FlushDoes, RequestDoes, RequestDoesBy, ActDoes, TickDoes, ReapDoes, ReapResult, RemoveDoes, EvictDoes, IsSent}
+use Rattle.geo_site.specs.Sites.{state_in, heard_in, looked_in, horizon_in, delta_of, clock_in, waiting_in, HasIssued, HasIssuedAfter, FlushDoes, RequestDoes, RequestDoesBy, ActDoes, TickDoes, ReapDoes, ReapResult, RemoveDoes, EvictDoes, RetireDoes, IsSent}
 use Rattle.geo_site.specs.Schedule.{Known, issues_on, reaps_on, flushed}
-use Rattle.geo_stamp.specs.Acks.{heard, none_heard}
+use Rattle.geo_stamp.specs.Acks.{Heard, heard, looked, retires, none_heard}
 use Rattle.geo_world.specs.Agreement.{Agrees}
-use Rattle.geo_world.specs.Tables.{Table, Tables, brings_nothing, empty_tables, issue_all_at, take_at, remove_at, brought_at, horizon_at, keeps, issued_at, flushed_at, kept_after, table_in, brought_in, Keep, OwesOver, OwesBy, CountsDropped}
+use Rattle.geo_world.specs.Tables.{Table, Tables, brings_nothing, empty_tables, issue_all_at, take_at, remove_at, retire_at, brought_at, horizon_at, keeps, issued_at, flushed_at, kept_after, table_in, brought_in, Keep, OwesOver, OwesBy, CountsDropped}
 use Rattle.geo_world.proofs.Worlds.{some_none, get_appended}
 use Rattle.geo_world.proofs.Opening.{Silent}
 use Rattle.geo_world.proofs.Changing.{get_written, put_here, put_there}
 use Rattle.geo_world.proofs.Answering.{set_twice, seen, stuck_is, request_over, between, there_still, found_still, acts_are}
 
 -- a state with what was heard
-abbrev table_of : List (List ℕ) → SiteState → Table
-table_of rows st = record { vector = st.vector; rows = rows; floor = st.floor; kept = st.map }
+abbrev table_of : Heard → SiteState → Table
+table_of all st = record { vector = st.vector; heard = all; floor = st.floor; kept = st.map }
 
-table_same : (rows later : List (List ℕ)) (old new : SiteState) → later ≡ rows → Same old new → table_of later new ≡ table_of rows old
-table_same rows later old new e same = λ i. record { vector = same.vector i; rows = e i; floor = same.floor i; kept = λ key. same.map key i }
+table_same : (before after : Heard) (old new : SiteState) → after ≡ before → Same old new → table_of after new ≡ table_of before old
+table_same before after old new e same = λ i. record { vector = same.vector i; heard = e i; floor = same.floor i; kept = λ key. same.map key i }
 
-table_issues : (n : ℕ) (rows : List (List ℕ)) (acts : List Act) (st : SiteState) → table_of rows (issue_all n acts st) ≡ issue_all_at n acts (table_of rows st)
+table_issues : (n : ℕ) (rows : Heard) (acts : List Act) (st : SiteState) → table_of rows (issue_all n acts st) ≡ issue_all_at n acts (table_of rows st)
 table_issues n rows [] st = refl
 table_issues n rows (act ∷ acts) st = table_issues n rows acts (issue n act st)
 
@@ -113,10 +115,24 @@ module _ (sites : List Site) (parcels : List Parcel) (all : Tables) (keep : Keep
   pub keep_not_filled : (key bytes : List ℕ) (refused : AllocError) → FillDoes old new key bytes (Err refused) → Keep (slice_set sites k new) parcels all
   keep_not_filled key bytes refused does = keep_still does.stays.2 does.does.1
 
-  pub keep_taken : (p : ℕ) (parcel : Parcel) → slice_get parcels p ≡ Some parcel → old.number ≡ s → Same (take old.number (sifted_delta (horizon_in old) (delta_of parcel)) (state_in old)) (state_in new) → heard_in new ≡ heard (heard_in old) parcel.from parcel.upto
+  pub keep_taken : (p : ℕ) (parcel : Parcel) → slice_get parcels p ≡ Some parcel → old.number ≡ s → Same (take old.number (sifted_delta (horizon_in old) (delta_of parcel)) (state_in old)) (state_in new) → heard_in new ≡ looked (heard (looked_in old) parcel.from parcel.upto parcel.retired) old.number new.vector
       → Keep (slice_set sites k new) parcels (keeps all s (take_at s (slice_index_or all.sent p brings_nothing) (all.at s)))
-  keep_taken p parcel got_parcel own same rows = let brought = keep.each_sent p parcel got_parcel in keep_put (take_at s (slice_index_or all.sent p brings_nothing) (all.at s))
-      (table_same (heard (heard_in old) parcel.from parcel.upto) (heard_in new) (take old.number (sifted_delta (horizon_in old) (delta_of parcel)) (state_in old)) (state_in new) rows same ∙ (λ i. take_at (own i) (brought i) (table_here i)))
+  keep_taken p parcel got_parcel own same is =
+      let brought = keep.each_sent p parcel got_parcel in
+      let after = take old.number (sifted_delta (horizon_in old) (delta_of parcel)) (state_in old) in
+      let hears = heard (looked_in old) parcel.from parcel.upto parcel.retired in
+      keep_put (take_at s (slice_index_or all.sent p brings_nothing) (all.at s))
+      (table_same (looked hears old.number after.vector) (heard_in new) after (state_in new) (is ∙ ap (looked hears old.number) same.vector) same ∙ (λ i. take_at (own i) (brought i) (table_here i)))
+
+  module _ (other : ℕ) where
+    pub keep_retired : (fresh : Bool) → old.number ≡ s → RetireDoes old new other (Ok fresh) → Keep (slice_set sites k new) parcels (keeps all s (retire_at s other (all.at s)))
+    keep_retired fresh own does =
+        keep_put (retire_at s other (all.at s))
+        (table_same (looked (retires (looked_in old) other) old.number old.vector) (heard_in new) (state_in old) (state_in new) does.3 does.2 ∙ (λ i. retire_at (own i) other (table_here i)))
+
+    pub keep_not_retired : (why : RetireError) → RetireDoes old new other (Err why) → Keep (slice_set sites k new) parcels all
+    keep_not_retired retire.NoSuchSite does = keep_still does.2 does.1
+    keep_not_retired retire.Memory does = absurd does
 
 -- ---- a send
 pub keep_sent : (sites : List Site) (parcels : List Parcel) (all : Tables) (k s to : ℕ) (site : Site) (parcel : Parcel) → Keep sites parcels all → s ≡ k + 1 → slice_get sites k ≡ Some site → site.number ≡ s → IsSent site to parcel
@@ -125,7 +141,7 @@ keep_sent sites parcels all k s to site parcel keep at_number got own sent =
     let b = brought_at s to (all.at s) in
     let d = brings_nothing in
     let here = keep.each k s site at_number got in
-    let cut : brought_in parcel ≡ brought_at site.number to (table_in site) = (λ i. record { from = sent.sender i; delta = record { upto = sent.upto i; floor = sent.floor i; map = λ key. sent.records key i } }) in
+    let cut : brought_in parcel ≡ brought_at site.number to (table_in site) = (λ i. record { from = sent.sender i; set = sent.retired i; delta = record { upto = sent.upto i; floor = sent.floor i; map = λ key. sent.records key i } }) in
     let is : brought_in parcel ≡ b = cut ∙ (λ i. brought_at (own i) to (here i)) in
     record {
       each = keep.each;

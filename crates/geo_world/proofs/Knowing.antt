@@ -76,4 +76,4 @@ shown_is site ops held now k = λ i key. entry_in now (spec.version_of (k.operat
 
 -- what rests from one change to the next
 pub rests_on : (old mid new : Knowledge) → KeepsCounts old mid → KeepsCounts mid new → KeepsCounts old new
-rests_on old mid new a b = record { counts = b.counts ∙ a.counts; waiting = b.waiting ∙ a.waiting; reap_after = b.reap_after ∙ a.reap_after }
+rests_on old mid new a b = record { counts = b.counts ∙ a.counts; waiting = b.waiting ∙ a.waiting; reap_after = b.reap_after ∙ a.reap_after; retired = b.retired ∙ a.retired }

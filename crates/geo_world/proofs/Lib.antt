@@ -1,4 +1,5 @@
 pub mod Worlds
+pub mod Reports
 pub mod Bounding
 pub mod Opening
 pub mod Changing
@@ -11,7 +12,9 @@ pub mod Requesting
 pub mod Touching
 pub mod Happening
 pub mod Horizon
+pub mod Moving
 pub mod Alone
 mod Coming
 mod Keeping
 mod Paging
+pub mod Surviving

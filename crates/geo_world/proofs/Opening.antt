@@ -1,6 +1,7 @@
 -- A world that was just opened: no site knows anything.
 use Rattle.std.proofs.Common.{◌≡◌, ℕ, zero, suc, ◌+◌, ◌≤◌, max, List, [], ◌∷◌, ◌++◌, length, None, Some, refl, sym, ap, ◌∙◌, subst, subst₂, inl, inr, arith, slice_get, Bool, true, false, ◌&&◌, nat_le, true≢false, ◌⊎◌}
-use Rattle.geo_stamp.specs.Acks.{row_of, none_heard}
+use Rattle.geo_stamp.specs.Acks.{Heard, row_of, told_of, none_heard}
+use Rattle.geo_stamp.specs.Retired.{no_sites, is_in}
 use Rattle.geo_stamp.specs.Vectors.{entry_of, zeros, vector_joined}
 use Rattle.std.proofs.lemmas.Bool.Decides.{nat_tests}
 use Rattle.geo_site.specs.declared.setup.Limits.{Limits}
@@ -15,10 +16,12 @@ use Rattle.geo_site.proofs.Entries.{entry_at_most}
 use Rattle.geo_site.proofs.Steps.{state_fresh, state_same, zeros_length}
 use Rattle.geo_delta.specs.declared.parcel.Parcel.{Parcel}
 use Rattle.geo_world.specs.Agreement.{Stands, Agrees, nothing_about}
-use Rattle.geo_world.specs.Bounds.{Bounded, vectors, rows, IsAbove}
+use Rattle.geo_world.specs.Bounds.{Bounded, vectors, sets, rows, tolds, reached, views, IsAbove}
+use Rattle.geo_world.specs.Reports.{Passed}
+use Rattle.geo_world.proofs.Reports.{none_passed}
 use Rattle.geo_world.proofs.Bounding.{at_cases, at_place, bounded_nothing, none_row}
 use Rattle.geo_world.proofs.Worlds.{some_none, some_same, get_appended}
-use Rattle.std.proofs.Common.{◌<◌, Ok, get_or}
+use Rattle.std.proofs.Common.{◌<◌, Ok, get_or, slice_index_or, replicate}
 use Rattle.std.proofs.lemmas.Option.{slice_get-get_or}
 use Rattle.geo_site.specs.Sites.{OpenDoes}
 use Rattle.geo_world.specs.Doing.{EachOpens}
@@ -44,13 +47,13 @@ silent_of n number a b pages limits most site is at_most none waits heard same f
       stands = record {
         own = is ∙ p;
         horizon = 0;
-        top = omega arith;
-        reached = λ q j q1 qn j1 jn. omega arith;
+        reached = omega arith;
         state = state_same n number 0 (fresh n pages) (state_in site) [] (λ _. None) (state_fresh n number pages) (subst (λ m. Same (fresh m pages) (state_in site)) q same);
         counts = none;
         waiting = waits;
         limits = at_most ∙ r;
-        rows = λ other lo hi. ap (λ h. length (row_of h other)) heard_none ∙ ap length (none_row n other lo (omega (arith, few, q, hi))) ∙ zeros_length n;
+        set = ap (λ (h : Heard). h.set) heard_none;
+        rows = λ other lo hi. ap (λ (h : Heard). length (row_of h.rows other)) heard_none ∙ ap length (none_row n other lo (omega (arith, few, q, hi))) ∙ zeros_length n;
       };
       heard_none = heard_none;
       pages = pages;
@@ -76,6 +79,24 @@ entry_nothing : (s : ℕ) → entry_of [] s ≡ 0
 entry_nothing zero = refl
 entry_nothing (suc j) = refl
 
+-- nobody is held for retired
+same_at : {A : Type 0} (m : ℕ) (x : A) (j : ℕ) → slice_index_or (replicate m x) j x ≡ x
+same_at zero x j = refl
+same_at (suc m) x zero = refl
+same_at (suc m) x (suc j) = same_at m x j
+
+in_nobody : (j : ℕ) → is_in no_sites j ≡ false
+in_nobody zero = refl
+in_nobody (suc j) = same_at 16 false j
+
+told_nothing : (t : ℕ) → told_of [] t ≡ no_sites
+told_nothing zero = refl
+told_nothing (suc t) = refl
+
+told_fresh : (t : ℕ) → told_of (replicate 16 no_sites) t ≡ no_sites
+told_fresh zero = refl
+told_fresh (suc t) = same_at 16 no_sites t
+
 module _ (limits : ℕ → Limits) (sites : List Site) (few : length sites ≤ 16) (each : (k number : ℕ) (site : Site) → number ≡ k + 1 → slice_get sites k ≡ Some site → Silent (length sites) number site (limits number)) where
   no_entry : (r s : ℕ) → entry_of (vectors sites r) s ≡ 0
   no_entry r s = elim (at_cases (λ site. site.vector) [] sites r) [
@@ -88,9 +109,21 @@ module _ (limits : ℕ → Limits) (sites : List Site) (few : length sites ≤ 1
   ]
 
   row_zeros : (r s : ℕ) → 1 ≤ s → s ≤ length sites → (rows sites r s ≡ []) ⊎ (rows sites r s ≡ zeros (length sites))
-  row_zeros r s lo hi = elim (at_cases heard_in [] sites r) [
+  row_zeros r s lo hi = elim (at_cases (λ site. (heard_in site).rows) [] sites r) [
     | inl e ↦ inl (ap (λ h. row_of h s) e ∙ row_nothing s)
-    | inr p ↦ inr (ap (λ h. row_of h s) (p.4 ∙ (each p.0 r p.1 p.2 p.3).heard_none) ∙ none_row (length sites) s lo (omega (arith, few, hi)))
+    | inr p ↦ inr (ap (λ h. row_of h s) (p.4 ∙ ap (λ (h : Heard). h.rows) (each p.0 r p.1 p.2 p.3).heard_none) ∙ none_row (length sites) s lo (omega (arith, few, hi)))
+  ]
+
+  told_none : (r t j : ℕ) → is_in (tolds sites r t) j ≡ false
+  told_none r t j = elim (at_cases (λ site. (heard_in site).told) [] sites r) [
+    | inl e ↦ ap (λ h. is_in (told_of h t) j) e ∙ ap (λ a. is_in a j) (told_nothing t) ∙ in_nobody j
+    | inr p ↦ ap (λ h. is_in (told_of h t) j) (p.4 ∙ ap (λ (h : Heard). h.told) (each p.0 r p.1 p.2 p.3).heard_none) ∙ ap (λ a. is_in a j) (told_fresh t) ∙ in_nobody j
+  ]
+
+  nothing_reached : (r : ℕ) → reached sites r ≡ 0
+  nothing_reached r = elim (at_cases (λ site. (heard_in site).reached) 0 sites r) [
+    | inl e ↦ e
+    | inr p ↦ p.4 ∙ ap (λ (h : Heard). h.reached) (each p.0 r p.1 p.2 p.3).heard_none
   ]
 
   above_row : (r s : ℕ) → 1 ≤ s → s ≤ length sites → IsAbove (vectors sites s) (rows sites r s)
@@ -111,6 +144,19 @@ module _ (limits : ℕ → Limits) (sites : List Site) (few : length sites ≤ 1
     as_many = refl;
     each_sent = λ p parcel got. absurd (some_none (sym got));
     bounds = bounds_open;
+    reports = record {
+      told = λ s t a b ne j one h. absurd (true≢false (sym h ∙ told_none s t j));
+      sent_set = λ m sent. absurd (some_none (sym sent.1));
+      report = λ s t a b ne. inl (λ j one. told_none s t j);
+      chain = λ m l sent. absurd (some_none (sym sent.1));
+      pinned = λ set retired time a b c t d e. let z = no_entry t retired in omega (arith, z);
+    };
+    passed = λ p one. record {
+      set = no_sites;
+      out = in_nobody p;
+      within = λ j a h. absurd (true≢false (sym h ∙ in_nobody j));
+      passed = subst (λ time. Passed (length sites) (views sites) no_sites time) (sym (nothing_reached p)) (none_passed (length sites) (views sites) no_sites);
+    };
   }
 
 pub agrees_open : (limits : ℕ → Limits) (sites : List Site) (parcels : List Parcel) (n : ℕ) → length sites ≡ n → n ≤ 16 → parcels ≡ [] → ((k number : ℕ) (site : Site) → number ≡ k + 1 → slice_get sites k ≡ Some site → Silent n number site (limits number)) → Agrees sites parcels (nothing_known n limits)

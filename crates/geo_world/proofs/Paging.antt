@@ -11,11 +11,12 @@ use Rattle.geo_lru.specs.Rules.{victim_of}
 use Rattle.geo_site.specs.declared.site.Site.{Site}
 use Rattle.geo_site.specs.declared.setup.Setup.{Setup}
 use Rattle.geo_site.specs.declared.event.Event.{Event}
-use Rattle.geo_site.specs.declared.event.Event.TheVariants.{Command, Evict, Send, Take, Remove, Tick, Reap, Fill}
+use Rattle.geo_site.specs.declared.event.Event.TheVariants.{Command, Evict, Send, Take, Remove, Tick, Reap, Fill, Retire}
 use Rattle.geo_site.specs.declared.event.Trace.{Trace}
-use Rattle.geo_site.specs.declared.event.Trace.TheVariants.{Replied, Evicted, Taken, TakeRefused, Removed, Ticked, Reaped, ReapRefused, Filled as FilledAs, FillRefused}
+use Rattle.geo_site.specs.declared.event.Trace.TheVariants.{Replied, Evicted, Taken, TakeRefused, Removed, Ticked, Reaped, ReapRefused, Filled as FilledAs, FillRefused, Retired, RetireRefused}
 use Rattle.geo_site.specs.declared.refusal.ReapError.{ReapError}
 use Rattle.geo_site.specs.declared.refusal.ReapError.TheVariants.{ClockEnded, Memory}
+use Rattle.geo_site.specs.declared.refusal.RetireError.TheVariants as retire
 use Rattle.geo_grammar.specs.declared.request.Request.{Request}
 use Rattle.geo_grammar.specs.declared.reply.Reply.{Reply}
 use Rattle.std.specs.Prelude.{Result}
@@ -189,6 +190,8 @@ there_pages old new (Reap site now key) (Reaped done) does = reap_pages does.mid
 there_pages old new (Reap site now key) (ReapRefused why) does = reap_pages does.mid new now key (Err why) does.does ∙ flush_pages old does.mid now does.flush
 there_pages old new (Fill site key bytes) (FilledAs filled) does = same_pages (after_fill filled key bytes (state_in old)) (state_in new) does.does.1 ∙ fill_pages filled (state_in old) key bytes does.does.0
 there_pages old new (Fill site key bytes) FillRefused does = same_pages (state_in old) (state_in new) does.does.does.1
+there_pages old new (Retire site other) (Retired fresh) does = same_pages (state_in old) (state_in new) does.2
+there_pages old new (Retire site other) (RetireRefused retire.NoSuchSite) does = same_pages (state_in old) (state_in new) does.1
 there_pages old new event trace does = absurd does
 
 -- ---- all sites

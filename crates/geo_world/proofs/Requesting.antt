@@ -37,7 +37,7 @@ one_issued now seen key (Arith up by) noreply h = refl
 
 -- ---- a request that is carried out: keys are counted, bytes go and are counted, and then operations are issued
 counts_twice : (w : schedule.Known) (s : ℕ) (c d : Counts) → counts_keys (counts_keys w s c) s d ≡ counts_keys w s d
-counts_twice w s c d = λ i. record { at = w.at; held = w.held; counts = λ t. by (t == s) (w.counts t) i; waiting = w.waiting; limits = w.limits; sites = w.sites; sent = w.sent }
+counts_twice w s c d = λ i. record { at = w.at; held = w.held; counts = λ t. by (t == s) (w.counts t) i; waiting = w.waiting; limits = w.limits; sets = w.sets; sites = w.sites; sent = w.sent }
   where
     by : (t : Bool) (x : Counts) → cond t d (cond t c x) ≡ cond t d x
     by true x = refl

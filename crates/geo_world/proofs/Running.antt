@@ -1,7 +1,8 @@
 -- One event more of a schedule.
-use Rattle.std.proofs.Common.{◌≡◌, ℕ, zero, suc, ◌+◌, ◌<◌, ◌≤◌, Bool, true, false, ◌&&◌, List, [], ◌∷◌, ◌++◌, length, take, refl, sym, ap, ◌∙◌, subst, subst₂, arith, true≢false, get_or}
+use Rattle.std.proofs.Common.{◌≡◌, ℕ, zero, suc, ◌+◌, ◌<◌, ◌≤◌, Bool, true, false, ◌&&◌, ◌||◌, Some, List, [], ◌∷◌, ◌++◌, length, take, refl, sym, ap, ◌∙◌, subst, subst₂, arith, true≢false, get_or}
 use Rattle.std.proofs.lemmas.List.{take_more, take_all}
-use Rattle.std.specs.List.{list_all}
+use Rattle.std.specs.List.{list_all, list_any}
+use Rattle.std.proofs.lemmas.Option.{slice_get-get_or}
 use Rattle.geo_delta.specs.declared.parcel.Parcel.{Parcel}
 use Rattle.geo_site.specs.declared.site.Site.{Site}
 use Rattle.geo_site.specs.declared.event.Event.{Event}
@@ -14,7 +15,7 @@ use Rattle.geo_versions.proofs.Meaning.{state_same}
 use Rattle.geo_site.specs.Sites.{state_in}
 use Rattle.geo_site.proofs.Steps.{state_version}
 use Rattle.geo_world.specs.Tables.{Tables, kept_after, kept, Keep, Tallies, EachTallies, Tabled}
-use Rattle.geo_world.specs.Running.{HasAllRun}
+use Rattle.geo_world.specs.Running.{HasAllRun, wants_memory, Lacks}
 use Rattle.geo_world.specs.Agreement.{SiteKnown, Stands, Agrees, ShowsVersions, SameVersions}
 
 there_more : (n : ℕ) (w : Known) (es : List Event) (ts : List Trace) (e : Event) (t : Trace) → EachLawful w es ts → EachThere n w es ts → is_there n (length (known w es ts).sent) e ≡ true → EachThere n w (es ++ e ∷ []) (ts ++ t ∷ [])
@@ -66,6 +67,33 @@ module _ (first : Known) (none : Tables) (sites sites' : List Site) (parcels par
         tallies = subst (λ es. EachTallies first none es (traces ++ trace ∷ [])) (sym more) (tallies_more first none (take index events) traces event trace run.lawful run.tallies t.0);
         keep = subst (λ all. Keep sites' parcels' all) (sym (ap (λ es. kept first none es (traces ++ trace ∷ [])) more ∙ kept_more first none (take index events) traces event trace run.lawful)) t.1;
       }
+
+-- the event that a run has come to is not there
+pub lacks_at : (n : ℕ) (first : Known) (none : Tables) (sites : List Site) (parcels : List Parcel) (events : List Event) (traces : List Trace) (index : ℕ) (event : Event) → HasRun first none sites parcels events traces index → length sites ≡ n → index < length events → event ≡ get_or events index event
+    → list_any wants_memory traces ≡ false → is_there (length sites) (length parcels) event ≡ false → Lacks n first events index
+lacks_at n first none sites parcels events traces index event run many lt at spared missing = record {
+  traces = traces;
+  told = run.told;
+  lawful = run.lawful;
+  there = subst (λ n. EachThere n first (take index events) traces) many run.there;
+  spared = spared;
+  event = event;
+  at = slice_get-get_or events index event lt ∙ ap Some (sym at);
+  missing = ap (λ n. is_there n (length (known first (take index events) traces).sent) event) (sym many) ∙ ap (λ p. is_there (length sites) p event) run.agrees.as_many ∙ missing;
+}
+
+-- whether memory was wanted by one trace more
+pub any_more : (ts : List Trace) (t : Trace) → list_any wants_memory (ts ++ t ∷ []) ≡ (list_any wants_memory ts || wants_memory t)
+any_more [] t = by (wants_memory t)
+  where
+    by : (b : Bool) → (b || false) ≡ b
+    by true = refl
+    by false = refl
+any_more (u ∷ ts) t = by (wants_memory u) (any_more ts t)
+  where
+    by : (b : Bool) → list_any wants_memory (ts ++ t ∷ []) ≡ (list_any wants_memory ts || wants_memory t) → (b || list_any wants_memory (ts ++ t ∷ [])) ≡ ((b || list_any wants_memory ts) || wants_memory t)
+    by true h = refl
+    by false h = h
 
 -- each of the events is in time
 pub in_time_at : (events : List Event) (i : ℕ) (event : Event) → all_in_time events ≡ true → i < length events → event ≡ get_or events i event → is_in_time event ≡ true

@@ -1,27 +1,27 @@
 -- Sites and parcels of the code are what is known of them.
 use Rattle.std.specs.Prelude.{Result, Ok, Err, ◌≡◌, ◌≢◌, ℕ, ◌+◌, ◌≤◌, Bool, true, false, List, [], length, Option, Some, None, slice_get, slice_index_or}
-use Rattle.geo_stamp.specs.Acks.{row_of, with_own}
-use Rattle.geo_stamp.specs.Vectors.{entry_of}
-use Rattle.geo_stamp.specs.Stamps.{last_time}
-use Rattle.geo_records.specs.Operations.{Operation, version_in, version_of, floor_of}
+use Rattle.geo_stamp.specs.Acks.{row_of, horizon_of}
+use Rattle.geo_stamp.specs.Retired.{no_sites, set_fits}
+use Rattle.geo_records.specs.Operations.{Operation, Among, version_in, version_of, floor_of}
 use Rattle.geo_delta.specs.declared.parcel.Parcel.{Parcel}
 use Rattle.geo_site.specs.declared.site.Site.{Site}
 use Rattle.geo_site.specs.Entries.{Held, Counts, none_counted}
 use Rattle.geo_site.specs.Machine.{knows_floor}
-use Rattle.geo_site.specs.Sites.{state_in, counts_in, waiting_in, limits_of, heard_in, delta_of, knows_all}
-use Rattle.geo_site.specs.Schedule.{Known, StableAt, happens, Lawful}
+use Rattle.geo_site.specs.Sites.{state_in, counts_in, waiting_in, limits_of, heard_in, retired_in, delta_of, knows_all}
+use Rattle.geo_site.specs.Schedule.{Known, Sending, never_sent, happens, Lawful}
 use Rattle.geo_site.specs.declared.setup.Setup.{Setup}
 use Rattle.geo_site.specs.declared.setup.Limits.{Limits}
 use Rattle.geo_site.specs.declared.event.Event.{Event}
-use Rattle.geo_site.specs.declared.event.Event.TheVariants.{Command, Evict, Send, Take, Remove, Tick, Reap, Fill}
+use Rattle.geo_site.specs.declared.event.Event.TheVariants.{Command, Evict, Send, Take, Remove, Tick, Reap, Fill, Retire}
 use Rattle.geo_site.specs.declared.event.Trace.{Trace}
 use Rattle.geo_site.specs.Agreement.{StateOf, DeltaOf}
 use Rattle.geo_world.specs.declared.outcome.WorldError.{WorldError}
 use Rattle.geo_world.specs.declared.outcome.WorldError.TheVariants.{Setups, BadEvent, Memory}
 use Rattle.geo_world.specs.declared.world.World.{World}
 use Rattle.geo_world.specs.Setups.{are_setups, start}
-use Rattle.geo_world.specs.There.{is_there, all_there, CannotCome}
-use Rattle.geo_world.specs.Bounds.{Bounded, vectors, rows}
+use Rattle.geo_world.specs.There.{is_there}
+use Rattle.geo_world.specs.Reports.{OneOf, Reported, HasPassed}
+use Rattle.geo_world.specs.Bounds.{Bounded, vectors, rows, reached, views}
 
 -- what is known of one site
 pub record SiteKnown : Type 0 where
@@ -30,6 +30,7 @@ pub record SiteKnown : Type 0 where
   pub counts : Counts
   pub waiting : Option ℕ
   pub limits : Limits
+  pub set : List Bool
 
 abbrev pub about : Known → ℕ → SiteKnown
 about w number = record {
@@ -38,46 +39,56 @@ about w number = record {
   counts = w.counts number;
   waiting = w.waiting number;
   limits = w.limits number;
+  set = w.sets number;
 }
 
 abbrev pub nothing_about : Limits → SiteKnown
-nothing_about limits = record { ops = []; held = λ _. None; counts = none_counted; waiting = None; limits = limits }
+nothing_about limits = record { ops = []; held = λ _. None; counts = none_counted; waiting = None; limits = limits; set = no_sites }
 
--- the site has this number among so many, and is what is known of it, but for what it dropped up to a horizon that each entry of all
--- vectors that it heard has reached
+-- the site has this number among so many, and is what is known of it, but for what it dropped up to the horizon that it answers, or
+-- one before it
 pub record Stands (sites number : ℕ) (site : Site) (known : SiteKnown) : Type 0 where
   pub own : site.number ≡ number
   pub horizon : ℕ
-  pub top : horizon ≤ last_time
   pub state : StateOf sites number horizon (state_in site) known.ops known.held
-  pub reached : (q j : ℕ) → 1 ≤ q → q ≤ sites → 1 ≤ j → j ≤ sites
-      → horizon ≤ entry_of (row_of (with_own (heard_in site) number site.vector) q) j
+  pub reached : horizon ≤ horizon_of (heard_in site) number site.vector
   pub counts : counts_in site ≡ known.counts
   pub waiting : waiting_in site ≡ known.waiting
   pub limits : limits_of site ≡ known.limits
-  pub rows : (other : ℕ) → 1 ≤ other → other ≤ sites → length (row_of (heard_in site) other) ≡ sites
+  pub set : retired_in site ≡ known.set
+  pub rows : (other : ℕ) → 1 ≤ other → other ≤ sites → length (row_of (heard_in site).rows other) ≡ sites
 
--- the parcel is for its addressee, from another site, knows all its stamps, and is what its sender knew and the base does not, but for
--- what every site knows
-pub record Carries (sites : ℕ) (at : ℕ → List Operation) (parcel : Parcel) (sent : ℕ × List Operation) : Type 0 where
-  pub addressee : parcel.to ≡ sent.0
+-- the addressee knows all up to a time that the sender knew
+abbrev pub Reaches : (ℕ → List Operation) → Sending → ℕ → Type 0
+Reaches at sent time = (op : Operation) → Among sent.ops op → op.stamp.time ≤ time → Among (at sent.to) op
+
+-- the parcel is for its addressee, from another site, knows all its stamps, holds no site for retired that is not there, and is what its
+-- sender knew and the base does not, but for what the addressee knows
+pub record Carries (sites : ℕ) (at : ℕ → List Operation) (parcel : Parcel) (sent : Sending) : Type 0 where
+  pub sender : parcel.from ≡ sent.from
+  pub addressee : parcel.to ≡ sent.to
+  pub retired : parcel.retired ≡ sent.set
+  pub fits : set_fits sites parcel.retired ≡ true
   pub other : parcel.from ≢ parcel.to
   pub from_first : 1 ≤ parcel.from
   pub from_last : parcel.from ≤ sites
   pub base : length parcel.base ≡ sites
   pub floor_known : knows_floor parcel.upto parcel.floor ≡ true
   pub records_known : knows_all parcel.upto parcel.records ≡ true
-  pub delta : DeltaOf sites parcel.from (StableAt sites at) parcel.base (delta_of parcel) sent.1
+  pub delta : DeltaOf sites parcel.from (Reaches at sent) parcel.base (delta_of parcel) sent.ops
 
--- each site and each parcel is what is known of it, and no vector promises more than is known
+-- each site and each parcel is what is known of it, no vector promises more than is known, what is told of sets holds, and each site has
+-- passed the horizon that it kept
 pub record Agrees (sites : List Site) (parcels : List Parcel) (w : Known) : Type 0 where
   pub each : (k number : ℕ) (site : Site) → number ≡ k + 1 → slice_get sites k ≡ Some site
       → Stands (length sites) number site (about w number)
   pub numbers : w.sites ≡ length sites
   pub as_many : length w.sent ≡ length parcels
   pub each_sent : (p : ℕ) (parcel : Parcel) → slice_get parcels p ≡ Some parcel
-      → Carries (length sites) w.at parcel (slice_index_or w.sent p (0, []))
+      → Carries (length sites) w.at parcel (slice_index_or w.sent p never_sent)
   pub bounds : Bounded (length sites) (vectors sites) (rows sites) parcels w.at w.sent
+  pub reports : Reported (length sites) (views sites) parcels
+  pub passed : (p : ℕ) → OneOf (length sites) p → HasPassed (length sites) (views sites) p (reached sites p)
 
 -- the site's floor and versions are those that the operations name
 pub record ShowsVersions (site : Site) (ops : List Operation) : Type 0 where
@@ -118,6 +129,7 @@ moves_parcel (Remove site) = false
 moves_parcel (Tick site now) = false
 moves_parcel (Reap site now key) = false
 moves_parcel (Fill site key bytes) = false
+moves_parcel (Retire site other) = false
 
 -- what a step does, by its result: it is lawful and keeps the agreement; or its event is not there, or memory was wanted for a parcel,
 -- and the world is as it was
@@ -130,9 +142,3 @@ StepDoes old new event index (Err (BadEvent at)) = (at ≡ index)
     × (is_there (length old.sites.items) (length old.parcels.items) event ≡ false) × SameWorld old new
 StepDoes old new event index (Err Memory) = (is_there (length old.sites.items) (length old.parcels.items) event ≡ true)
     × (moves_parcel event ≡ true) × SameWorld old new
-
--- why a run has no outcome: an event cannot be there, whatever comes of those before it; or memory was wanted where each event can be
-abbrev pub RunRefuses : List Setup → List Event → WorldError → Type 0
-RunRefuses setups events Setups = are_setups setups ≡ false
-RunRefuses setups events (BadEvent index) = (are_setups setups ≡ true) × CannotCome (length setups) events index
-RunRefuses setups events Memory = (are_setups setups ≡ true) × (all_there (length setups) 0 events ≡ true)

@@ -13,13 +13,13 @@ use Rattle.geo_site.specs.declared.setup.Setup.{Setup}
 use Rattle.geo_site.specs.declared.exchange.Taken.{Taken as TakenOf}
 use Rattle.geo_site.specs.declared.exchange.Refused.{Refused as RefusedOf}
 use Rattle.geo_site.specs.declared.event.Event.{Event}
-use Rattle.geo_site.specs.declared.event.Event.TheVariants.{Command, Evict, Send, Take, Remove, Tick, Reap, Fill}
+use Rattle.geo_site.specs.declared.event.Event.TheVariants.{Command, Evict, Send, Take, Remove, Tick, Reap, Fill, Retire}
 use Rattle.geo_site.specs.declared.event.Trace.{Trace}
-use Rattle.geo_site.specs.declared.event.Trace.TheVariants.{Replied, Evicted, Taken, TakeRefused, Removed, Ticked, Reaped, ReapRefused, Filled, FillRefused}
+use Rattle.geo_site.specs.declared.event.Trace.TheVariants.{Replied, Evicted, Taken, TakeRefused, Removed, Ticked, Reaped, ReapRefused, Filled, FillRefused, Retired, RetireRefused}
 use Rattle.geo_site.specs.Entries.{is_done}
 use Rattle.geo_site.specs.Fills.{FillDoes}
 use Rattle.geo_site.specs.Machine.{class_for}
-use Rattle.geo_site.specs.Sites.{state_in, victim_in, issued_in, horizon_in, ActDoes, EvictDoes, TakeDoes, RemoveDoes, TickDoes, ReapDoes, OpenDoes}
+use Rattle.geo_site.specs.Sites.{state_in, victim_in, issued_in, horizon_in, ActDoes, EvictDoes, TakeDoes, RemoveDoes, TickDoes, ReapDoes, RetireDoes, OpenDoes}
 
 -- a victim goes only where the slab class of the bytes that are written is full, once the bytes that their key had are out
 abbrev pub WasFull : Stock → List Act → Option (List ℕ) → Type 0
@@ -65,6 +65,8 @@ DoesThere old new (Reap site now key) (Reaped done) = ReapDoes old new now key (
 DoesThere old new (Reap site now key) (ReapRefused why) = ReapDoes old new now key (Err why)
 DoesThere old new (Fill site key bytes) (Filled filled) = FillDoes old new key bytes (Ok filled)
 DoesThere old new (Fill site key bytes) FillRefused = RefusesFill old new key bytes
+DoesThere old new (Retire site other) (Retired fresh) = RetireDoes old new other (Ok fresh)
+DoesThere old new (Retire site other) (RetireRefused why) = RetireDoes old new other (Err why)
 DoesThere old new event trace = ⊥
 
 -- the site of an event
@@ -77,6 +79,7 @@ site_of (Remove site) = site
 site_of (Tick site now) = site
 site_of (Reap site now key) = site
 site_of (Fill site key bytes) = site
+site_of (Retire site other) = site
 
 -- an event does so at its site, and changes no other
 pub record DoesAlone (old new : List Site) (event : Event) (trace : Trace) : Type 0 where

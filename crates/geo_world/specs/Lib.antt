@@ -1,3 +1,4 @@
+pub mod Reports
 pub mod Setups
 pub mod There
 pub mod Bounds
@@ -6,3 +7,4 @@ pub mod Doing
 pub mod Tables
 pub mod Plain
 pub mod Running
+pub mod Surviving

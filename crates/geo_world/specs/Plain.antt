@@ -7,6 +7,7 @@ use Rattle.geo_site.specs.Entries.{Held, Visible, Counts, named_by, entry_in, la
 use Rattle.geo_site.specs.Schedule as spec_known
 use Rattle.geo_site.specs.Schedule.{issues}
 use Rattle.geo_world.specs.declared.plain.known.Known.{Known}
+use Rattle.geo_world.specs.declared.plain.known.Sending.{Sending}
 use Rattle.geo_world.specs.declared.plain.known.PlainError.{PlainError}
 use Rattle.geo_world.specs.declared.plain.known.PlainError.TheVariants.{NotThere, ClockEnded, Memory}
 use Rattle.geo_site.specs.declared.event.Event.{Event}
@@ -70,21 +71,23 @@ pub record KeepsCounts (old new : Knowledge) : Type 0 where
   pub counts : counts_of new ≡ counts_of old
   pub waiting : new.waiting ≡ old.waiting
   pub reap_after : new.reap_after ≡ old.reap_after
+  pub retired : new.retired ≡ old.retired
 
 -- an act with a stamp
 abbrev pub stamped : Moment → spec.Act → spec.Operation
 stamped stamp act = record { stamp = stamp; act = act }
 
 -- the sites and what was sent are what is known
-abbrev pub sent_of : ℕ × List Operation → ℕ × List spec.Operation
-sent_of s = (s.0, operations_of s.1)
+abbrev pub sent_of : Sending → spec_known.Sending
+sent_of s = record { from = s.from; to = s.to; set = s.retired; ops = operations_of s.ops }
 
-pub record Meets (sites : List Knowledge) (sent : List (ℕ × List Operation)) (w : spec_known.Known) : Type 0 where
+pub record Meets (sites : List Knowledge) (sent : List Sending) (w : spec_known.Known) : Type 0 where
   pub each : (k number : ℕ) (site : Knowledge) → number ≡ k + 1 → slice_get sites k ≡ Some site → Knows site (w.at number) (w.held number)
   pub counted : (k number : ℕ) (site : Knowledge) → number ≡ k + 1 → slice_get sites k ≡ Some site → counts_of site ≡ w.counts number
   pub waits : (k number : ℕ) (site : Knowledge) → number ≡ k + 1 → slice_get sites k ≡ Some site → site.waiting ≡ w.waiting number
   pub reaps : (k number : ℕ) (site : Knowledge) → number ≡ k + 1 → slice_get sites k ≡ Some site
       → site.reap_after ≡ (w.limits number).reap_after
+  pub retires : (k number : ℕ) (site : Knowledge) → number ≡ k + 1 → slice_get sites k ≡ Some site → site.retired ≡ w.sets number
   pub sent_is : map sent_of sent ≡ w.sent
 
 -- the bytes that are lent

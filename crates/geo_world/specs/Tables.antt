@@ -1,7 +1,8 @@
--- What each site keeps along a schedule, by the events and their traces alone: its vector, what it heard of the others, its floor, and
--- its record of each key. (Joins of states and of deltas: Almeida et al. 2018; the clock: Lamport 1978.)
+-- What each site keeps along a schedule, by the events and their traces alone: its vector, what it heard of the others and whom it holds
+-- for retired, its floor, and its record of each key. (Joins of states and of deltas: Almeida et al. 2018; the clock: Lamport 1978.)
 use Rattle.std.specs.Prelude.{◌≡◌, ℕ, ◌+◌, cond, if◌then◌else◌, ◌==◌, Bool, true, false, List, [], ◌∷◌, ◌++◌, length, Option, None, Some, slice_get, slice_index_or}
-use Rattle.geo_stamp.specs.Acks.{row_of, none_heard, heard, horizon_of}
+use Rattle.geo_stamp.specs.Acks.{Heard, row_of, none_heard, heard, retires, horizon_of, looked}
+use Rattle.geo_stamp.specs.Retired.{no_sites}
 use Rattle.geo_stamp.specs.Stamps.{Moment}
 use Rattle.geo_stamp.specs.Vectors.{zeros, vector_joined, greatest_of, raised}
 use Rattle.geo_versions.specs.Maps.{since, remaining, recent_both, floor_in, record_in}
@@ -12,9 +13,9 @@ use Rattle.geo_grammar.specs.declared.reply.Reply.{Reply}
 use Rattle.geo_grammar.specs.declared.reply.Reply.TheVariants.{ClockEnded}
 use Rattle.geo_site.specs.declared.site.Site.{Site}
 use Rattle.geo_site.specs.declared.event.Event.{Event}
-use Rattle.geo_site.specs.declared.event.Event.TheVariants.{Command, Send, Take, Remove, Tick, Reap}
+use Rattle.geo_site.specs.declared.event.Event.TheVariants.{Command, Send, Take, Remove, Tick, Reap, Retire}
 use Rattle.geo_site.specs.declared.event.Trace.{Trace}
-use Rattle.geo_site.specs.declared.event.Trace.TheVariants.{Replied, Sent, Taken, Removed, Ticked, Reaped, ReapRefused}
+use Rattle.geo_site.specs.declared.event.Trace.TheVariants.{Replied, Sent, Taken, Removed, Ticked, Reaped, ReapRefused, Retired}
 use Rattle.geo_site.specs.Entries.{Answers, due_acts, is_stuck, is_done}
 use Rattle.geo_site.specs.Machine.{Delta, next_operation, IsRecordCount, IsHeldCount}
 use Rattle.geo_site.specs.Sites.{heard_in, delta_of}
@@ -25,13 +26,14 @@ use Rattle.geo_site.specs.Schedule.{Known, basis, happens, flushed, issues_on, r
 -- what a site keeps
 pub record Table : Type 0 where
   pub vector : List ℕ
-  pub rows : List (List ℕ)
+  pub heard : Heard
   pub floor : Option Moment
   pub kept : List ℕ → Record
 
--- what a parcel brings, and from whom
+-- what a parcel brings, from whom, and whom that one holds for retired
 pub record Brought : Type 0 where
   pub from : ℕ
+  pub set : List Bool
   pub delta : Delta
 
 -- what every site keeps, and what each parcel brings
@@ -41,17 +43,20 @@ pub record Tables : Type 0 where
 
 -- at the start no site keeps anything
 abbrev pub empty_table : ℕ → Table
-empty_table sites = record { vector = zeros sites; rows = none_heard sites; floor = None; kept = λ _. (None, None) }
+empty_table sites = record { vector = zeros sites; heard = none_heard sites; floor = None; kept = λ _. (None, None) }
 
 abbrev pub empty_tables : ℕ → Tables
 empty_tables sites = record { at = λ _. empty_table sites; sent = [] }
 
 abbrev pub brings_nothing : Brought
-brings_nothing = record { from = 0; delta = record { upto = []; floor = None; map = λ _. (None, None) } }
+brings_nothing = record { from = 0; set = no_sites; delta = record { upto = []; floor = None; map = λ _. (None, None) } }
 
--- the time up to which the site knows that every site knows each operation
+-- the horizon that the site answers, and what it heard with that horizon kept
 abbrev pub horizon_at : ℕ → Table → ℕ
-horizon_at number t = horizon_of t.rows number t.vector
+horizon_at number t = horizon_of t.heard number t.vector
+
+abbrev pub looked_at : ℕ → Table → Heard
+looked_at number t = looked t.heard number t.vector
 
 -- it issues an operation: the join with that operation's one record
 abbrev pub issue_at : ℕ → Act → Table → Table
@@ -60,7 +65,7 @@ issue_at number act t =
     let floor = floor_joined t.floor (flush_of op) in
     record {
       vector = raised t.vector number (greatest_of t.vector + 1);
-      rows = t.rows;
+      heard = t.heard;
       floor = floor;
       kept = λ key. above_both floor (record_joined (t.kept key) (body_of key op, expiry_of key op));
     }
@@ -73,11 +78,12 @@ issue_all_at number (act ∷ acts) t = issue_all_at number acts (issue_at number
 -- it takes a parcel: the join with its records as they were cut, sifted by the horizon that stood before
 abbrev pub take_at : ℕ → Brought → Table → Table
 take_at number b t =
-    let vector = vector_joined t.vector b.delta.upto in
+    let joined = vector_joined t.vector b.delta.upto in
+    let vector = raised joined number (greatest_of joined) in
     let floor = floor_joined t.floor b.delta.floor in
     record {
-      vector = raised vector number (greatest_of vector);
-      rows = heard t.rows b.from b.delta.upto;
+      vector = vector;
+      heard = looked (heard (looked_at number t) b.from b.delta.upto b.set) number vector;
       floor = floor;
       kept = λ key. above_both floor (record_joined (t.kept key) (recent_both (horizon_at number t) (b.delta.map key)));
     }
@@ -86,16 +92,26 @@ take_at number b t =
 abbrev pub remove_at : ℕ → Table → Table
 remove_at number t = record {
   vector = t.vector;
-  rows = t.rows;
+  heard = t.heard;
   floor = t.floor;
   kept = λ key. remaining (horizon_at number t) (t.kept key);
+}
+
+-- it holds another site for retired
+abbrev pub retire_at : ℕ → ℕ → Table → Table
+retire_at number other t = record {
+  vector = t.vector;
+  heard = looked (retires (looked_at number t) other) number t.vector;
+  floor = t.floor;
+  kept = t.kept;
 }
 
 -- what it cuts for another: the records that it did not hear the other to know
 abbrev pub brought_at : ℕ → ℕ → Table → Brought
 brought_at number to t = record {
   from = number;
-  delta = record { upto = t.vector; floor = t.floor; map = λ key. since (row_of t.rows to) (t.kept key) };
+  set = t.heard.set;
+  delta = record { upto = t.vector; floor = t.floor; map = λ key. since (row_of t.heard.rows to) (t.kept key) };
 }
 
 -- a site keeps this now
@@ -121,6 +137,7 @@ kept_after w all (Remove site) (Removed horizon count) = keeps all site (remove_
 kept_after w all (Tick site now) (Ticked done) = flushed_at w all site now
 kept_after w all (Reap site now key) (Reaped done) = issued_at (flushed_at w all site now) site (reaps_on (flushed w site now) site now key)
 kept_after w all (Reap site now key) (ReapRefused why) = flushed_at w all site now
+kept_after w all (Retire site other) (Retired fresh) = keeps all site (retire_at site other (all.at site))
 kept_after w all event trace = all
 
 -- what is kept after a schedule with its trace
@@ -131,10 +148,10 @@ kept w all (event ∷ events) (trace ∷ traces) = kept (happens w event trace) 
 
 -- a site of the code, and a parcel, are what is kept and brought
 abbrev pub table_in : Site → Table
-table_in site = record { vector = site.vector; rows = heard_in site; floor = floor_in site.versions; kept = record_in site.versions }
+table_in site = record { vector = site.vector; heard = heard_in site; floor = floor_in site.versions; kept = record_in site.versions }
 
 abbrev pub brought_in : Parcel → Brought
-brought_in parcel = record { from = parcel.from; delta = delta_of parcel }
+brought_in parcel = record { from = parcel.from; set = parcel.retired; delta = delta_of parcel }
 
 pub record Keep (sites : List Site) (parcels : List Parcel) (all : Tables) : Type 0 where
   pub each : (k number : ℕ) (site : Site) → number ≡ k + 1 → slice_get sites k ≡ Some site → table_in site ≡ all.at number

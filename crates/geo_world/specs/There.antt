@@ -2,7 +2,7 @@
 use Rattle.std.specs.Prelude.{◌≡◌, ℕ, ◌+◌, ◌^◌, Bool, true, false, cond, ◌==◌, ◌&&◌, nat_le, nat_lt, List, [], ◌∷◌, length, Option, None, Some, take, slice_get}
 use Rattle.std.specs.List.{list_all}
 use Rattle.geo_site.specs.declared.event.Event.{Event}
-use Rattle.geo_site.specs.declared.event.Event.TheVariants.{Command, Evict, Send, Take, Remove, Tick, Reap, Fill}
+use Rattle.geo_site.specs.declared.event.Event.TheVariants.{Command, Evict, Send, Take, Remove, Tick, Reap, Fill, Retire}
 use Rattle.geo_site.specs.declared.event.Trace.{Trace}
 use Rattle.geo_site.specs.Schedule.{Known, happens}
 
@@ -20,6 +20,7 @@ is_there sites parcels (Remove site) = is_site sites site
 is_there sites parcels (Tick site now) = is_site sites site
 is_there sites parcels (Reap site now key) = is_site sites site
 is_there sites parcels (Fill site key bytes) = is_site sites site
+is_there sites parcels (Retire site other) = is_site sites site && is_site sites other
 
 -- how many parcels there are after an event, where a send to another site makes one
 abbrev pub made_by : ℕ → Event → ℕ
@@ -31,6 +32,7 @@ made_by parcels (Remove site) = parcels
 made_by parcels (Tick site now) = parcels
 made_by parcels (Reap site now key) = parcels
 made_by parcels (Fill site key bytes) = parcels
+made_by parcels (Retire site other) = parcels
 
 abbrev pub made_in : ℕ → List Event → ℕ
 made_in parcels [] = parcels
@@ -63,6 +65,7 @@ is_in_time (Remove site) = true
 is_in_time (Tick site now) = nat_le now (2 ^ 40)
 is_in_time (Reap site now key) = nat_le now (2 ^ 40)
 is_in_time (Fill site key bytes) = true
+is_in_time (Retire site other) = true
 
 abbrev pub all_in_time : List Event → Bool
 all_in_time events = list_all is_in_time events

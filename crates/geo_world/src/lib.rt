@@ -1,8 +1,8 @@
 //! Schedules of events over several sites, and the theorem about them.
 //!
-//! [`run_schedule`] runs any list of commands, evictions, sends, takes, removals, ticks and reaps, in which parcels may be lost,
-//! repeated and reordered, and its contract says what every site then holds and what every client was answered. It stands on the
-//! public contracts of sites and parcels alone.
+//! [`run_schedule`] runs any list of commands, evictions, sends, takes, removals, ticks, reaps, fills and retirements, in which parcels
+//! may be lost, repeated and reordered, and its contract says what every site then holds and what every client was answered. It
+//! stands on the public contracts of sites and parcels alone.
 #![tactic(auto)]
 
 mod open;

@@ -7,14 +7,16 @@ ghost use Rattle.geo_site.specs.Served.{NoCollision, AllServe};
 ghost use Rattle.geo_world.specs.Setups.{are_setups, start};
 ghost use Rattle.geo_world.specs.There.{is_in_time, all_in_time, EachThere};
 ghost use Rattle.geo_world.specs.Tables.{empty_tables, kept, Keep, EachTallies};
-ghost use Rattle.geo_world.specs.Agreement.{Agrees, ShowsVersions, SameVersions, RunRefuses};
+ghost use Rattle.geo_world.specs.Agreement.{Agrees, ShowsVersions, SameVersions};
+ghost use Rattle.geo_world.specs.Running.{wants_memory, RunRefuses};
+ghost use Rattle.geo_world.specs.Surviving.{named, EachStable};
 ghost use Rattle.geo_world.specs.Doing.{RunsAlone, HavePages};
 
 use crate::open::are_good;
 use crate::outcome::{Outcome, WorldError};
 use crate::there::first_missing;
 use crate::world::World;
-use geo_site::{Event, LAST_MOMENT, Setup};
+use geo_site::{Event, LAST_MOMENT, SendError, Setup, TakeError, Trace};
 use std::alloc::Global;
 
 /// Whether the moment of an event, if it has one, is one of a schedule.
@@ -29,7 +31,8 @@ pub(crate) fn is_in_time_event(event: &Event) -> bool
         | Event::Send { .. }
         | Event::Take { .. }
         | Event::Remove { .. }
-        | Event::Fill { .. } => true,
+        | Event::Fill { .. }
+        | Event::Retire { .. } => true,
     }
 }
 
@@ -40,16 +43,28 @@ pub fn are_in_time(events: &[Event]) -> bool
     events.iter().all(is_in_time_event)
 }
 
-/// Runs a schedule: any list of commands, evictions, sends, takes, removals, ticks, reaps and fills over the sites that the setups
-/// make, in which a parcel may be taken never, often and in any order. An eviction drops the bytes of a key at one site, a removal what
-/// is left of keys that every site knows to be deleted, a tick carries out a flush that waits and is due, and a reap deletes what a
+/// Whether memory was wanted for a parcel.
+fn wanted_memory(trace: &Trace) -> bool
+    ensures { result ≡ wants_memory trace.now }
+{
+    matches!(
+        trace,
+        Trace::SendRefused(SendError::Memory) | Trace::TakeRefused(TakeError::Memory)
+    )
+}
+
+/// Runs a schedule: any list of commands, evictions, sends, takes, removals, ticks, reaps, fills and retirements over the sites that the
+/// setups make, in which a parcel may be taken never, often and in any order. An eviction drops the bytes of a key at one site, a removal
+/// what is left of keys that every site knows to be deleted, a tick carries out a flush that waits and is due, and a reap deletes what a
 /// site wrote itself and ended long ago: they are events like the others, and come when the schedule says. A store evicts by itself
 /// where its slab class is full, and its trace tells which key. A fill offers a site bytes of a key, any at all: it holds them where its
-/// version names their SHA-256 and length, it has none, and their class has room.
+/// version names their SHA-256 and length, it has none, and their class has room. A retirement tells one site that another is gone for
+/// good, whether that one has stopped or not: the sites that hold it for gone go on without it.
 ///
 /// Whatever the schedule, each event has a trace that it can have: each reply is plain memcached's over what its site then
 /// holds, or the refusal that is due; a store evicts no key but another one of which bytes of the same class were held; a
-/// parcel's addressee never finds a gap. What a site keeps of each key is a function of the events and their traces, and so are
+/// parcel's addressee never finds a gap, and refuses it exactly where it holds the sender for gone. The horizon that a removal goes by is
+/// stable among all sites that no retirement names. What a site keeps of each key is a function of the events and their traces, and so are
 /// whether its map is full, how many records `stats` tells, and what a removal drops and goes by.
 ///
 /// In the end sites and parcels are what is known along the schedule. Each site's floor and versions are those of the operations
@@ -60,7 +75,8 @@ pub fn are_in_time(events: &[Event]) -> bool
 /// class is full, and each site keeps the pages that its setup tells.
 ///
 /// An event that names a site or a parcel that cannot be there is told before anything is done, so that want of memory never takes
-/// its place. Where a parcel is missing because its send wanted memory, the run wanted it.
+/// its place. Where a parcel is missing because its send wanted memory, the run wanted it; where it is missing because it was for a site
+/// that its sender held for gone, the event that names it is told.
 pub fn run_schedule(
     alloc: Global,
     setups: Vec<Setup>,
@@ -83,6 +99,7 @@ pub fn run_schedule(
         ((known (start setups.items) events.now o.traces.items).at (k + 1)) → SameVersions one other) }
     ensures served { IfOk result (λ o. NoCollision (known (start setups.items) events.now o.traces.items) events.now
         → AllServe (start setups.items) events.now o.traces.items) }
+    ensures survivors { IfOk result (λ o. EachStable (named events.now) (start setups.items) events.now o.traces.items) }
     ensures alone { IfOk result (λ o. RunsAlone setups.items events.now o.traces.items o.sites.items) }
     ensures pages { IfOk result (λ o. HavePages setups.items o.sites.items) }
     ensures refused { IfErr result (RunRefuses setups.items events.now) }
@@ -95,11 +112,15 @@ pub fn run_schedule(
     }
     let mut world = World::open(alloc, setups)?;
     let mut traces = Vec::new(alloc);
+    let mut wanted = false;
     for (index, event) in events.iter().enumerate() {
-        // Each event can be there: one that is not lacks a parcel whose send wanted memory.
-        let Ok(trace) = world.step(alloc, event, index) else {
-            return Err(WorldError::Memory);
+        // Each event can be there: one that is not lacks a parcel whose send wanted memory, or was refused as its addressee is retired.
+        let trace = match world.step(alloc, event, index) {
+            Ok(trace) => trace,
+            Err(WorldError::BadEvent(_)) if !wanted => return Err(WorldError::BadEvent(index)),
+            Err(_) => return Err(WorldError::Memory),
         };
+        wanted |= wanted_memory(&trace);
         if traces.push(trace).is_err() {
             return Err(WorldError::Memory);
         }

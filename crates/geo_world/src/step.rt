@@ -45,7 +45,7 @@ impl World {
         Trace::Evicted(at.evict(key))
     }
 
-    /// What every site knows to be deleted is dropped.
+    /// What every site that is not held for gone knows to be deleted is dropped.
     fn remove(&mut self, site: u8) -> Trace
         requires there { is_site (length self.old.sites.items) site ≡ true }
         ensures lawful { HasLawfulTrace self.old (Event.Remove site) result }
@@ -106,6 +106,23 @@ impl World {
         match at.fill(alloc, key, &blob) {
             Ok(filled) => Trace::Filled(filled),
             Err(_) => Trace::FillRefused,
+        }
+    }
+
+    /// Another site is held for gone for good.
+    fn retire(&mut self, site: u8, other: u8) -> Trace
+        requires there { is_site (length self.old.sites.items) site ≡ true }
+        requires other_there { is_site (length self.old.sites.items) other ≡ true }
+        ensures lawful { HasLawfulTrace self.old (Event.Retire site other) result }
+        ensures kept { LeadsOn self.old self.new (Event.Retire site other) result }
+        ensures alone { DoesAlone self.old.sites.items self.new.sites.items (Event.Retire site other) result }
+        ensures tables { TabledIn self.old self.new (Event.Retire site other) result }
+        ensures as_many { length self.new.sites.items ≡ length self.old.sites.items }
+    {
+        let at = &mut self.sites[site as usize - 1];
+        match at.retire(other) {
+            Ok(fresh) => Trace::Retired(fresh),
+            Err(why) => Trace::RetireRefused(why),
         }
     }
 
@@ -180,6 +197,7 @@ impl World {
             Event::Tick { site, now } => Ok(self.tick(*site, *now)),
             Event::Reap { site, now, key } => Ok(self.reap(alloc, *site, *now, key)),
             Event::Fill { site, key, bytes } => Ok(self.fill(alloc, *site, key, bytes)),
+            Event::Retire { site, other } => Ok(self.retire(*site, *other)),
         }
     }
 }

@@ -23,6 +23,7 @@ pub(crate) fn is_at_hand(sites: usize, parcels: usize, event: &Event) -> bool
         | Event::Fill { site, .. }
         | Event::Reap { site, .. } => has_site(sites, *site),
         Event::Send { site, to } => has_site(sites, *site) && has_site(sites, *to),
+        Event::Retire { site, other } => has_site(sites, *site) && has_site(sites, *other),
         Event::Take { site, parcel } => has_site(sites, *site) && *parcel < parcels,
     }
 }

@@ -3,14 +3,14 @@ ghost use Rattle.std.specs.Prelude.{◌≡◌, ◌≤◌, ◌<◌};
 
 use crate::base::text::{check, join, show_number, show_numbers};
 use geo_lattice::Twin;
-use geo_stamp::{Acks, LAST_TIME, Stamp, Vector};
+use geo_stamp::{Acks, LAST_TIME, Retired, Stamp, Vector};
 use std::alloc::AllocError;
 use std::process::Abort;
 use std::test::Fail;
 
 mod table;
 
-use table::{ACKS, At, Hearing, STAMPS, Step, VECTORS, VectorRow};
+use table::{ACKS, At, Hearing, LEASTS, SETS, STAMPS, Step, VECTORS, VectorRow};
 
 /// Shows whether a stamp is later than the one before it, and what it is.
 fn show_stamp(out: &mut String, before: At, at: At) -> Result<(), AllocError> {
@@ -106,9 +106,79 @@ fn a_vector_is_raised_and_joined(rt: HostRuntime) -> Result<(), Fail> {
     Ok(())
 }
 
-/// What was heard of a site, 1 to 16, joined to what was heard of it before.
-fn hear(acks: &mut Acks, site: u8, times: &[u64]) {
-    acks.heard(site.clamp(1, 16), &clocks(times));
+#[test]
+fn the_least_entry_is_that_of_the_sites_asked_for(rt: HostRuntime) -> Result<(), Fail> {
+    let mut out = String::new(rt.alloc());
+    for (times, sites, retired, want) in LEASTS {
+        let vector = clocks(times);
+        let sites = (*sites).min(16);
+        out.clear();
+        show_number(&mut out, vector.least_up_to(sites))?;
+        show_number(&mut out, vector.least_outside(sites, &set_of(retired)))?;
+        check(&rt, out.as_str(), want);
+    }
+    Ok(())
+}
+
+/// A set of these sites.
+fn set_of(sites: &[u8]) -> Retired {
+    let mut set = Retired::none();
+    for site in sites {
+        set.add((*site).clamp(1, 16));
+    }
+    set
+}
+
+/// Shows the sites of a set.
+fn show_set(out: &mut String, set: &Retired) -> Result<(), AllocError> {
+    out.push_str(if set.is_empty() { " none" } else { " of" })?;
+    for site in 0..=17 {
+        if set.has(site) {
+            show_number(out, u64::from(site))?;
+        }
+    }
+    Ok(())
+}
+
+/// Shows the union of two sets, its number, the set of that number, and whether it fits two sites.
+fn show_union(out: &mut String, one: &[u8], other: &[u8]) -> Result<(), AllocError> {
+    let mut all = set_of(one);
+    join(out, &mut all, set_of(other).twin(*out.allocator())?)?;
+    show_set(out, &all)?;
+    show_number(out, all.bits())?;
+    show_set(out, &Retired::of_bits(all.bits()))?;
+    out.push_str(if all.fits(2) { " fits" } else { " fits not" })
+}
+
+#[test]
+fn sets_of_retired_sites_are_joined_and_are_numbers(rt: HostRuntime) -> Result<(), Fail> {
+    let mut out = String::new(rt.alloc());
+    for (one, other, want) in SETS {
+        out.clear();
+        show_union(&mut out, one, other)?;
+        check(&rt, out.as_str(), want);
+    }
+    Ok(())
+}
+
+/// What a site, 1 to 16, tells, joined to what was heard of it before.
+fn hear(acks: &mut Acks, site: u8, times: &[u64], retired: &[u8]) {
+    acks.heard(site.clamp(1, 16), &clocks(times), &set_of(retired));
+}
+
+/// Retires a site, and shows whether it was not retired before.
+fn retire(out: &mut String, acks: &mut Acks, site: u8) -> Result<(), AllocError> {
+    let is_new = acks.retire(site.clamp(1, 16));
+    out.push_str(if is_new { " new" } else { " again" })
+}
+
+/// Keeps the horizon of a site that knows so much in a copy, and shows what is kept.
+fn look(out: &mut String, acks: &mut Acks, site: u8, times: &[u64]) -> Result<(), AllocError> {
+    let mut looked = acks.copied();
+    looked.look(site.clamp(1, 16), &clocks(times));
+    show_number(out, looked.reached())?;
+    *acks = looked;
+    Ok(())
 }
 
 /// Shows the horizon of a site that knows so much.
@@ -119,9 +189,17 @@ fn show_horizon(out: &mut String, acks: &Acks, site: u8, times: &[u64]) -> Resul
 fn hear_or_ask(out: &mut String, acks: &mut Acks, what: Hearing) -> Result<(), AllocError> {
     match what {
         Hearing::Heard(site, times) => {
-            hear(acks, site, times);
+            hear(acks, site, times, &[]);
             Ok(())
         }
+        Hearing::Told(site, times, retired) => {
+            hear(acks, site, times, retired);
+            Ok(())
+        }
+        Hearing::Retire(site) => retire(out, acks, site),
+        Hearing::Look(site, times) => look(out, acks, site, times),
+        Hearing::Set => show_set(out, acks.retired()),
+        Hearing::SetOf(site) => show_set(out, &acks.told(site.clamp(1, 16))),
         Hearing::Row(site) => show_vector(out, acks.row(site.clamp(1, 16))),
         Hearing::Horizon(site, times) => show_horizon(out, acks, site, times),
     }

@@ -7,7 +7,7 @@ use super::show::{frame, push_number, push_parcel};
 use geo_delta::{Buffer, Parcel, cut};
 use geo_frame::Message;
 use geo_lattice::Twin;
-use geo_stamp::{Stamp, Vector};
+use geo_stamp::{Retired, Stamp, Vector};
 use geo_versions::{Body, Digest, Key, Length, Rec, Versions};
 use std::alloc::{AllocError, Global};
 use std::hash::RandomState;
@@ -125,6 +125,13 @@ fn clocks(first: u32, second: u32) -> Vector {
     vector
 }
 
+/// The second site has retired.
+fn retired() -> Retired {
+    let mut retired = Retired::none();
+    retired.add(2);
+    retired
+}
+
 /// The parcel that the changes give from a base.
 fn parcel(site: &Site, alloc: Global, base: &Vector) -> Result<Parcel, AllocError>
     requires { Traced nothing_pending (record_in site.now.versions) site.now.changes }
@@ -137,6 +144,7 @@ fn parcel(site: &Site, alloc: Global, base: &Vector) -> Result<Parcel, AllocErro
         2,
         base,
         &site.vector,
+        &retired(),
     )
 }
 

@@ -3,7 +3,7 @@ use super::show::{frame, push_message};
 use geo_delta::Parcel;
 use geo_frame::{FrameFault, Message, decode, wanted};
 use geo_lattice::{Items, Lww, Pair};
-use geo_stamp::{Stamp, Vector};
+use geo_stamp::{Retired, Stamp, Vector};
 use geo_versions::{Body, Digest, Key, Length, Rec};
 use std::alloc::{AllocError, Global};
 use std::test::Fail;
@@ -39,7 +39,7 @@ fn records(alloc: Global, count: usize) -> Result<Vec<(Key, Rec)>, Fail> {
     Ok(records)
 }
 
-fn parcel(records: Vec<(Key, Rec)>) -> Parcel {
+fn parcel(records: Vec<(Key, Rec)>, retired: Retired) -> Parcel {
     let mut upto = Vector::new(2);
     upto.raise(1, 1);
     Parcel {
@@ -47,6 +47,7 @@ fn parcel(records: Vec<(Key, Rec)>) -> Parcel {
         to: 2,
         base: Vector::new(2),
         upto,
+        retired,
         floor: None,
         records: Items::of(records),
     }
@@ -54,7 +55,15 @@ fn parcel(records: Vec<(Key, Rec)>) -> Parcel {
 
 /// The bytes of the example's frame with its record, or without one.
 fn written(alloc: Global, count: usize) -> Result<Vec<u8>, Fail> {
-    let parcel = parcel(records(alloc, count)?);
+    let parcel = parcel(records(alloc, count)?, Retired::none());
+    frame(alloc, &Message::Parcel(parcel))
+}
+
+/// The bytes of the frame without a record that tells that the second site has retired.
+fn written_retired(alloc: Global) -> Result<Vec<u8>, Fail> {
+    let mut retired = Retired::none();
+    retired.add(2);
+    let parcel = parcel(records(alloc, 0)?, retired);
     frame(alloc, &Message::Parcel(parcel))
 }
 
@@ -217,6 +226,10 @@ fn writes_the_bytes_of_the_examples(rt: HostRuntime) -> Result<(), Fail> {
     assert_eq!(rt;
         written(alloc, 0)?.as_slice(),
         joined(alloc, &second::EXAMPLE, second::EMPTY)?.as_slice()
+    );
+    assert_eq!(rt;
+        written_retired(alloc)?.as_slice(),
+        joined(alloc, &second::EXAMPLE, second::RETIRED)?.as_slice()
     );
     assert_eq!(rt; asked(alloc)?.as_slice(), second::ASK.as_slice());
     let yo = Vec::from_slice(alloc, b"yo")?;

@@ -1,7 +1,7 @@
 //! Messages as texts.
 use geo_delta::Parcel;
 use geo_frame::{Message, encode, fits};
-use geo_stamp::{Stamp, Vector};
+use geo_stamp::{Retired, Stamp, Vector};
 use geo_versions::{Body, Digest, Key, Rec};
 use std::alloc::{AllocError, Global};
 use std::test::Fail;
@@ -63,12 +63,25 @@ fn push_clocks(out: &mut Vec<u8>, vector: &Vector, behind: &[u8]) -> Result<(), 
     push_number(out, vector.entry(2), behind)
 }
 
-/// A parcel of two sites: from which to which, what the one knows and the other is taken to know, a floor, and the records.
+/// The sites that have retired, if any.
+fn push_retired(out: &mut Vec<u8>, retired: &Retired) -> Result<(), AllocError> {
+    for site in 1..17 {
+        if retired.has(site) {
+            out.extend_from_slice(b" without ")?;
+            push_number(out, site as u64, b"")?;
+        }
+    }
+    Ok(())
+}
+
+/// A parcel of two sites: from which to which, what the one knows and the other is taken to know, who has retired, a floor, and the
+/// records.
 pub fn push_parcel(out: &mut Vec<u8>, parcel: &Parcel) -> Result<(), AllocError> {
     push_number(out, parcel.from as u64, b" to ")?;
     push_number(out, parcel.to as u64, b", ")?;
     push_clocks(out, &parcel.base, b" up to ")?;
     push_clocks(out, &parcel.upto, b"")?;
+    push_retired(out, &parcel.retired)?;
     out.extend_from_slice(if parcel.floor.is_some() {
         b" with a floor:"
     } else {

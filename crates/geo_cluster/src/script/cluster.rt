@@ -87,6 +87,9 @@ impl Cluster {
                 let bytes = ValueBytes::of(text);
                 self.happen(alloc, Event::Fill { site, key, bytes })
             }
+            ScriptLine::Retire { site, other } => {
+                self.happen(alloc, Event::Retire { site, other })
+            }
             ScriptLine::Versions { site } => self.versions(alloc, site),
         }
     }

@@ -53,6 +53,11 @@ pub enum ScriptLine {
         key: Key,
         text: Vec<u8>,
     },
+    /// A site holds another for gone for good.
+    Retire {
+        site: u8,
+        other: u8,
+    },
     /// What a site knows is printed.
     Versions {
         site: u8,

@@ -2,7 +2,7 @@
 ghost use Rattle.std.specs.Prelude.{◌≡◌, ◌≤◌, None, Some, true, MatchOption, IfErr, IfOk, IfSome, option_copied};
 ghost use Rattle.std.specs.Option.{option_map, option_and_then, is_some};
 ghost use Rattle.geo_cluster.specs.Numbers.{ranged_of};
-ghost use Rattle.geo_cluster.specs.Sayings.{split_of, site_of, moment_of, parcel_of, key_of, front_number, option_number, client_said, send_said, sites_said, take_said, site_key_of, said_to_reap, said_to_evict, key_text_of, said_to_fill, said, skips, SaysAt, SaysTick, SaysRemove, SaysVersions};
+ghost use Rattle.geo_cluster.specs.Sayings.{split_of, site_of, moment_of, parcel_of, key_of, front_number, option_number, client_said, send_said, retire_said, sites_said, take_said, site_key_of, said_to_reap, said_to_evict, key_text_of, said_to_fill, said_by_other, said, skips, SaysAt, SaysTick, SaysRemove, SaysVersions};
 ghost use Rattle.geo_cluster.specs.Reads.{said_by, IsInRange};
 ghost use Rattle.geo_cluster.specs.Wants.{has_text, CarriesAt};
 
@@ -77,6 +77,19 @@ fn send_line(args: &[u8]) -> Option<ScriptLine>
         return None;
     }
     Some(ScriptLine::Send { from, to })
+}
+
+fn retire_line(args: &[u8]) -> Option<ScriptLine>
+    ensures said { option_map said_by result ≡ option_and_then retire_said (split_of args.now) }
+    ensures range { IfSome result (λ l. IsInRange l) }
+{
+    let (site, other) = split_at(b' ', args)?;
+    let site = site_number(site)?;
+    let other = site_number(other)?;
+    if site == other {
+        return None;
+    }
+    Some(ScriptLine::Retire { site, other })
 }
 
 fn take_line(args: &[u8]) -> Option<ScriptLine>
@@ -255,6 +268,26 @@ fn sites_line(args: &[u8]) -> Option<ScriptLine>
     })
 }
 
+/// A line with numbers alone that is no event of a site's own, or retires another.
+fn other_line(name: &[u8], args: &[u8]) -> Option<ScriptLine>
+    ensures said { option_map said_by result ≡ said_by_other name.now args.now }
+    ensures range { IfSome result (λ l. IsInRange l) }
+{
+    if name == b"versions".as_slice() {
+        return versions_line(args);
+    }
+    if name == b"at".as_slice() {
+        return at_line(args);
+    }
+    if name == b"sites".as_slice() {
+        return sites_line(args);
+    }
+    if name == b"retire".as_slice() {
+        return retire_line(args);
+    }
+    None
+}
+
 /// What a line says, without its line end: None where it is a bad line, whatever sites and parcels there are. Words are
 /// separated by exactly one space; a client's text is the rest of its line, and begins behind one. Memory is wanted for a text or a
 /// key alone.
@@ -287,19 +320,10 @@ pub fn parse_line(alloc: Global, line: &[u8]) -> Result<Option<ScriptLine>, Allo
     if name == b"evict".as_slice() {
         return evict_line(alloc, args);
     }
-    if name == b"versions".as_slice() {
-        return Ok(versions_line(args));
-    }
-    if name == b"at".as_slice() {
-        return Ok(at_line(args));
-    }
-    if name == b"sites".as_slice() {
-        return Ok(sites_line(args));
-    }
     if name == b"fill".as_slice() {
         return fill_line(alloc, args);
     }
-    Ok(None)
+    Ok(other_line(name, args))
 }
 
 /// Whether a text spells a key. It takes no memory.

@@ -1,9 +1,9 @@
 //! What the lines of a script print.
 ghost use Rattle.std.specs.Prelude.{◌≡◌, Some, IfOk};
-ghost use Rattle.geo_cluster.specs.Prints.{client_text, number_text, done_text, filled_text, refused_text, trace_text};
+ghost use Rattle.geo_cluster.specs.Prints.{client_text, number_text, done_text, filled_text, refused_text, unsent_text, trace_text};
 
 use crate::script::escape::push_all_escaped;
-use geo_site::{Filled, ReapError, TakeError, Trace};
+use geo_site::{Filled, ReapError, SendError, TakeError, Trace};
 use itoa::Buffer;
 use std::alloc::{AllocError, Global};
 
@@ -52,7 +52,18 @@ fn refused_line(alloc: Global, why: TakeError) -> Result<Vec<u8>, AllocError>
         TakeError::NotForMe => number_line(alloc, b"refused ", 1),
         TakeError::UnknownSite => number_line(alloc, b"refused ", 2),
         TakeError::Gap => number_line(alloc, b"refused ", 3),
+        TakeError::Retired => number_line(alloc, b"refused ", 5),
         TakeError::Memory => Err(AllocError),
+    }
+}
+
+/// `refused 4`, for a parcel that was not made as its addressee is retired. No line sends to its own site.
+fn unsent_line(alloc: Global, why: SendError) -> Result<Vec<u8>, AllocError>
+    ensures { IfOk result (λ text. unsent_text why ≡ Some text.items) }
+{
+    match why {
+        SendError::Retired => number_line(alloc, b"refused ", 4),
+        SendError::NoSuchSite | SendError::Memory => Err(AllocError),
     }
 }
 
@@ -76,6 +87,7 @@ pub fn trace_line(alloc: Global, parcels: usize, trace: &Trace) -> Result<Vec<u8
     match trace {
         Trace::Evicted(done) => done_line(alloc, b"evicted\n", *done),
         Trace::Sent => number_line(alloc, b"parcel ", parcels),
+        Trace::SendRefused(why) => unsent_line(alloc, *why),
         Trace::Taken => Vec::from_slice(alloc, b"taken\n"),
         Trace::TakeRefused(why) => refused_line(alloc, *why),
         Trace::Removed { count, .. } => number_line(alloc, b"removed ", *count),
@@ -83,9 +95,10 @@ pub fn trace_line(alloc: Global, parcels: usize, trace: &Trace) -> Result<Vec<u8
         Trace::Reaped(done) => done_line(alloc, b"reaped\n", *done),
         Trace::ReapRefused(ReapError::ClockEnded) => Vec::from_slice(alloc, b"clock ended\n"),
         Trace::Filled(filled) => filled_line(alloc, *filled),
+        Trace::Retired(fresh) => done_line(alloc, b"retired\n", *fresh),
         Trace::Replied(..)
-        | Trace::SendRefused(_)
         | Trace::ReapRefused(ReapError::Memory)
-        | Trace::FillRefused => Err(AllocError),
+        | Trace::FillRefused
+        | Trace::RetireRefused(_) => Err(AllocError),
     }
 }

@@ -5,7 +5,7 @@ use crate::site::shown::{
 use crate::site::told::told;
 use geo_delta::Parcel;
 use geo_grammar::{Item, Reader, Request, ValueBytes, Verb, fault_text, push_answer};
-use geo_site::{ReapError, SendError, Site};
+use geo_site::{ReapError, RetireError, SendError, Site};
 use geo_versions::Key;
 use std::alloc::{AllocError, Global};
 
@@ -50,6 +50,7 @@ pub fn step(
         "send" => send(alloc, site, parcels, small(rest), out),
         "take" => take_kept(alloc, site, parcels, number(rest) as usize, out),
         "told" => take_told(alloc, site, rest, out),
+        "lost" => take_lost(alloc, site, rest, out),
         "say" => say(alloc, site, NOW, rest, out),
         "at" => say_at(alloc, site, rest, out),
         "begin" => begin(alloc, site, rest, out),
@@ -72,6 +73,9 @@ fn ask(
     match word {
         "reap" => reap(alloc, site, rest, out),
         "due" => push_due(site, number(rest), out),
+        "retire" => retire(site, small(rest), out),
+        "horizon" => push_count(alloc, out, site.horizon()),
+        "remove" => push_count(alloc, out, site.remove() as u64),
         "tick" => push(
             out,
             if site.tick(number(rest)) {
@@ -298,6 +302,7 @@ fn send(
             Ok(())
         }
         Err(SendError::NoSuchSite) => push(out, "no such site"),
+        Err(SendError::Retired) => push(out, "retired"),
         Err(SendError::Memory) => push(out, "no memory"),
     }
 }
@@ -338,4 +343,30 @@ fn take_told(
 ) -> Result<(), AllocError> {
     let parcel = told(alloc, rest)?;
     take(alloc, site, parcel, out)
+}
+
+/// `lost SITE PARCEL`: the same, of a sender that holds a site, 1 to 16, for retired.
+fn take_lost(
+    alloc: Global,
+    site: &mut Site,
+    rest: &str,
+    out: &mut Vec<u8>,
+) -> Result<(), AllocError> {
+    let (lost, rest) = cut(rest);
+    let mut parcel = told(alloc, rest)?;
+    parcel.retired.add(small(lost).clamp(1, 16));
+    take(alloc, site, parcel, out)
+}
+
+/// `retire OTHER`: whether another site was not held for retired before.
+fn retire(site: &mut Site, other: u8, out: &mut Vec<u8>) -> Result<(), AllocError> {
+    push(
+        out,
+        match site.retire(other) {
+            Ok(true) => "retired",
+            Ok(false) => "nothing",
+            Err(RetireError::NoSuchSite) => "no such site",
+            Err(RetireError::Memory) => "no memory",
+        },
+    )
 }

@@ -2,7 +2,7 @@
 use geo_delta::Parcel;
 use geo_grammar::{Request, push_answer};
 use geo_site::{Acted, Refused, Site, TakeError, Taken};
-use geo_stamp::Vector;
+use geo_stamp::{Retired, Vector};
 use geo_versions::{Digest, Version};
 use std::alloc::{AllocError, Global};
 
@@ -86,7 +86,18 @@ pub fn push_site(alloc: Global, site: &Site, out: &mut Vec<u8>) -> Result<(), Al
     push_vector(alloc, out, site.known())
 }
 
-/// From whom to whom a parcel goes, how many records it has, the key of the first, its base, and what it knows.
+/// The sites of a set, where there are any.
+fn push_retired(alloc: Global, out: &mut Vec<u8>, retired: &Retired) -> Result<(), AllocError> {
+    for site in 1..17 {
+        if retired.has(site) {
+            push(out, " without")?;
+            push_count(alloc, out, site as u64)?;
+        }
+    }
+    Ok(())
+}
+
+/// From whom to whom a parcel goes, how many records it has, the key of the first, its base, what it knows, and who is retired.
 pub fn push_parcel(alloc: Global, out: &mut Vec<u8>, parcel: &Parcel) -> Result<(), AllocError> {
     push_count(alloc, out, parcel.from as u64)?;
     push_count(alloc, out, parcel.to as u64)?;
@@ -97,7 +108,8 @@ pub fn push_parcel(alloc: Global, out: &mut Vec<u8>, parcel: &Parcel) -> Result<
         out.extend_from_slice(key.bytes())?;
     }
     push_vector(alloc, out, &parcel.base)?;
-    push_vector(alloc, out, &parcel.upto)
+    push_vector(alloc, out, &parcel.upto)?;
+    push_retired(alloc, out, &parcel.retired)
 }
 
 /// How many values were dropped, and whether the site's vector rose.
@@ -114,6 +126,7 @@ pub fn push_refused(alloc: Global, out: &mut Vec<u8>, refused: &Refused) -> Resu
         match refused.why {
             TakeError::NotForMe => " not for me",
             TakeError::UnknownSite => " unknown site",
+            TakeError::Retired => " retired",
             TakeError::Gap => " gap",
             TakeError::Memory => " no memory",
         },

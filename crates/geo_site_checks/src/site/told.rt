@@ -2,7 +2,7 @@
 use crate::site::lines::{cut, number, small};
 use geo_delta::Parcel;
 use geo_lattice::{Items, Lww, Pair};
-use geo_stamp::{LAST_TIME, Stamp, Vector};
+use geo_stamp::{LAST_TIME, Retired, Stamp, Vector};
 use geo_versions::{Body, Digest, Key, Length, Rec};
 use std::alloc::{AllocError, Global};
 
@@ -71,6 +71,7 @@ pub fn told(alloc: Global, text: &str) -> Result<Parcel, AllocError> {
         to: small(to),
         base: vector(time(base)),
         upto: vector(time(upto)),
+        retired: Retired::none(),
         floor: Stamp::new(number(flush), 2),
         records: Items::of(writes(alloc, rest)?),
     })

@@ -4,7 +4,7 @@ ghost use Rattle.std.specs.Prelude.{◌≤◌};
 use super::dice::{Dice, EVENTS};
 use super::key;
 use geo_grammar::{Request, ValueBytes, Verb};
-use geo_lattice::Items;
+use geo_lattice::{Items, Twin};
 use geo_site::Event;
 use geo_versions::Key;
 use std::alloc::Global;
@@ -99,27 +99,57 @@ fn request(alloc: Global, dice: &mut Dice) -> Result<Request, Fail> {
     }
 }
 
-fn command(alloc: Global, dice: &mut Dice, site: u8, index: usize) -> Result<Event, Fail> {
+/// A client's request at a site.
+pub fn command(alloc: Global, dice: &mut Dice, site: u8, index: usize) -> Result<Event, Fail> {
     let now = dice.now(index);
     let request = request(alloc, dice)?;
     Ok(Event::Command { site, now, request })
 }
 
-fn evict(alloc: Global, dice: &mut Dice, site: u8) -> Result<Event, Fail> {
+pub fn evict(alloc: Global, dice: &mut Dice, site: u8) -> Result<Event, Fail> {
     let key = key(alloc, dice.name())?;
     Ok(Event::Evict { site, key })
 }
 
-fn reap(alloc: Global, dice: &mut Dice, site: u8, index: usize) -> Result<Event, Fail> {
+pub fn reap(alloc: Global, dice: &mut Dice, site: u8, index: usize) -> Result<Event, Fail> {
     let now = dice.now(index);
     let key = key(alloc, dice.name())?;
     Ok(Event::Reap { site, now, key })
 }
 
-/// Bytes that the site's version of the key may name.
-fn fill(alloc: Global, dice: &mut Dice, site: u8) -> Result<Event, Fail> {
+/// The bytes that the last set of a key wrote before, but for so many.
+fn set_before<'a>(before: &'a [Event], key: &Key, passed: u64) -> Option<&'a ValueBytes> {
+    let mut left = passed;
+    for event in before.iter().rev() {
+        let Event::Command { request, .. } = event else {
+            continue;
+        };
+        match request {
+            Request::Store {
+                verb: Verb::Set,
+                key: own,
+                bytes,
+                ..
+            } if own == key => {
+                if left == 0 {
+                    return Some(bytes);
+                }
+                left = left.wrapping_sub(1);
+            }
+            _ => {}
+        }
+    }
+    None
+}
+
+/// Bytes that the site's version of the key may name: mostly those that the last set of it wrote, if there was one.
+pub fn fill(alloc: Global, dice: &mut Dice, site: u8, before: &[Event]) -> Result<Event, Fail> {
     let key = key(alloc, dice.name())?;
-    let bytes = ValueBytes::of(dice.bytes().to_vec(alloc)?);
+    let passed = if dice.below(3) == 0 { 1 } else { 0 };
+    let bytes = match set_before(before, &key, passed) {
+        Some(bytes) => bytes.twin(alloc)?,
+        None => ValueBytes::of(dice.bytes().to_vec(alloc)?),
+    };
     Ok(Event::Fill { site, key, bytes })
 }
 
@@ -152,6 +182,7 @@ fn event(
     sites: u8,
     faces: u64,
     index: usize,
+    before: &[Event],
     addressees: &mut Vec<u8>,
 ) -> Result<Event, Fail>
     requires positive { 1 ≤ sites }
@@ -161,7 +192,7 @@ fn event(
         23 | 24 | 25 => Ok(Event::Remove { site }),
         0 | 1 | 2 | 3 | 4 | 5 | 16 | 17 => command(alloc, dice, site, index),
         18 | 19 => evict(alloc, dice, site),
-        20 | 21 | 22 => fill(alloc, dice, site),
+        20 | 21 | 22 => fill(alloc, dice, site, before),
         12 | 13 => Ok(Event::Tick {
             site,
             now: dice.now(index),
@@ -184,7 +215,9 @@ fn add_events(
 {
     let faces = if removes { 26 } else { 23 };
     for index in 0..EVENTS {
-        events.push(event(alloc, dice, sites, faces, index, addressees)?)?;
+        let before = events.as_slice();
+        let next = event(alloc, dice, sites, faces, index, before, addressees)?;
+        events.push(next)?;
     }
     add_stats(events, dice, sites)
 }

@@ -4,7 +4,8 @@ ghost use Rattle.std.specs.Prelude.{◌≤◌};
 use super::due::{Table, replies_as_due};
 use super::evicts::evicts_as_due;
 use geo_grammar::{Reply, Request, ValueBytes};
-use geo_site::{Event, Filled, SendError, Setup, Site, TakeError, Trace};
+use geo_site::{Event, Filled, RetireError, SendError, Setup, Site, TakeError, Trace};
+use geo_stamp::Retired;
 use geo_versions::Key;
 use geo_world::Outcome;
 use geo_world::plain::knowledge::Knowledge;
@@ -32,27 +33,52 @@ fn flushed(alloc: Global, known: &mut Known, site: u8, now: u64) -> Result<&Know
     site_of(known, site)
 }
 
-/// Whether a site knows each operation that any site knows up to a time.
-fn knows_up_to(site: &Knowledge, known: &Known, time: u64) -> bool {
-    known.sites.iter().all(|other| {
-        other.ops.iter().all(|op| {
-            op.stamp.time() > time || site.ops.iter().any(|own| own.stamp == op.stamp)
-        })
+/// Whether a site knows each operation up to a time that any site outside of a set knows.
+fn knows_up_to(site: &Knowledge, known: &Known, retired: Retired, time: u64) -> bool {
+    known.sites.iter().zip(1..=16u8).all(|(other, number)| {
+        retired.has(number)
+            || other.ops.iter().all(|op| {
+                op.stamp.time() > time || site.ops.iter().any(|own| own.stamp == op.stamp)
+            })
     })
 }
 
-/// Whether each site knows every operation up to a time, and issues no other one there.
-fn is_stable(known: &Known, time: u64) -> bool {
-    known.sites.iter().all(|site| latest(site.ops.as_slice()) >= time
-        && knows_up_to(site, known, time))
+/// Whether each site that another does not hold for retired knows every operation up to a time that one of these sites knows, and issues
+/// no other one there.
+fn is_stable(known: &Known, site: u8, time: u64) -> Result<bool, Fail> {
+    let retired = site_of(known, site)?.retired;
+    Ok(
+        known
+            .sites
+            .iter()
+            .zip(1..=16u8)
+            .filter(|(_, number)| !retired.has(*number))
+            .all(|(site, _)| latest(site.ops.as_slice()) >= time
+                && knows_up_to(site, known, retired, time)),
+    )
 }
 
-/// Whom a parcel is for.
-fn addressee(known: &Known, parcel: usize) -> Option<u8> {
-    match known.sent.get(parcel) {
-        Some(sent) => Some(sent.0),
-        None => None,
-    }
+/// Whether a parcel is made for another site: not for itself, nor for one that is held for retired.
+fn is_sent(known: &Known, site: u8, to: u8) -> Result<bool, Fail> {
+    Ok(site != to && !site_of(known, site)?.retired.has(to))
+}
+
+/// What comes of a take, by whom the parcel is for and from.
+fn is_taken(
+    known: &Known,
+    site: u8,
+    parcel: usize,
+    refusal: Option<TakeError>,
+) -> Result<bool, Fail> {
+    let sent = known.sent.get(parcel).ok_or("no parcel")?;
+    let due = if sent.to != site {
+        Some(TakeError::NotForMe)
+    } else if site_of(known, site)?.retired.has(sent.from) {
+        Some(TakeError::Retired)
+    } else {
+        None
+    };
+    Ok(due == refusal)
 }
 
 /// Whether a command evicts and answers what it is due to, after a flush that is due.
@@ -126,14 +152,23 @@ fn is_due(
         (Event::Fill { site, key, bytes }, Trace::Filled(told)) => {
             Ok(*told == filled(site_of(known, *site)?, key, bytes))
         }
-        (Event::Remove { .. }, Trace::Removed { horizon, .. }) => Ok(is_stable(known, *horizon)),
-        (Event::Send { site, to }, Trace::Sent) => Ok(site != to),
-        (Event::Send { site, to }, Trace::SendRefused(SendError::NoSuchSite)) => Ok(site == to),
-        (Event::Take { site, parcel }, Trace::Taken) => {
-            Ok(addressee(known, *parcel) == Some(*site))
+        (Event::Remove { site }, Trace::Removed { horizon, .. }) => {
+            is_stable(known, *site, *horizon)
         }
-        (Event::Take { site, parcel }, Trace::TakeRefused(TakeError::NotForMe)) => {
-            Ok(addressee(known, *parcel).unwrap_or(*site) != *site)
+        (Event::Send { site, to }, Trace::Sent) => is_sent(known, *site, *to),
+        (Event::Send { site, to }, Trace::SendRefused(SendError::NoSuchSite)) => Ok(site == to),
+        (Event::Send { site, to }, Trace::SendRefused(SendError::Retired)) => {
+            Ok(site != to && !is_sent(known, *site, *to)?)
+        }
+        (Event::Take { site, parcel }, Trace::Taken) => is_taken(known, *site, *parcel, None),
+        (Event::Take { site, parcel }, Trace::TakeRefused(why)) => {
+            is_taken(known, *site, *parcel, Some(*why))
+        }
+        (Event::Retire { site, other }, Trace::Retired(fresh)) => {
+            Ok(site != other && *fresh != site_of(known, *site)?.retired.has(*other))
+        }
+        (Event::Retire { site, other }, Trace::RetireRefused(RetireError::NoSuchSite)) => {
+            Ok(site == other)
         }
         _ => Ok(false),
     }

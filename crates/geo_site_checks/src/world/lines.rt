@@ -1,6 +1,6 @@
 //! Events as lines: a site's number, a word, and what the word wants. What comes of them is shown as text.
 use geo_grammar::{Item, Reader, Request, push_reply};
-use geo_site::{Event, SendError, Site, TakeError, Trace};
+use geo_site::{Event, RetireError, SendError, Site, TakeError, Trace};
 use geo_versions::Key;
 use geo_world::{Outcome, WorldError};
 use std::alloc::{AllocError, Global};
@@ -81,6 +81,10 @@ fn event(alloc: Global, line: &str) -> Result<Option<Event>, AllocError> {
             now: number(rest),
         })),
         "remove" => Ok(Some(Event::Remove { site })),
+        "retire" => Ok(Some(Event::Retire {
+            site,
+            other: small(rest),
+        })),
         _ => Ok(None),
     }
 }
@@ -118,11 +122,18 @@ fn word(trace: &Trace) -> &'static str {
         Trace::Evicted(true) => "evicted",
         Trace::Ticked(true) => "flushed",
         Trace::Reaped(true) => "reaped",
-        Trace::Evicted(false) | Trace::Ticked(false) | Trace::Reaped(false) => "nothing",
+        Trace::Retired(true) => "retired",
+        Trace::Evicted(false)
+        | Trace::Ticked(false)
+        | Trace::Reaped(false)
+        | Trace::Retired(false) => "nothing",
         Trace::Sent => "sent",
-        Trace::SendRefused(SendError::NoSuchSite) => "no such site",
+        Trace::SendRefused(SendError::NoSuchSite) | Trace::RetireRefused(RetireError::NoSuchSite) =>
+            "no such site",
+        Trace::SendRefused(SendError::Retired) => "not to a retired site",
         Trace::Taken => "taken",
         Trace::TakeRefused(TakeError::NotForMe) => "not for me",
+        Trace::TakeRefused(TakeError::Retired) => "not from a retired site",
         _ => "another trace",
     }
 }

@@ -6,7 +6,7 @@ use super::due::Table;
 use super::follow::named;
 use super::{Plan, key, run, setups};
 use geo_grammar::Reply;
-use geo_site::{Event, Trace};
+use geo_site::{Event, SendError, TakeError, Trace};
 use geo_versions::Key;
 use std::alloc::Global;
 use std::hash::RandomState;
@@ -15,8 +15,8 @@ use std::test::Fail;
 const SCHEDULES: u64 = 400;
 
 /// What schedules were worth: versions that were named, and how often parcels were taken, maps were full, values were touched,
-/// flushes were carried out when they were due, keys were reaped, deletes were dropped, values that were missing were offered, and
-/// values were evicted, for what was stored and by themselves.
+/// flushes were carried out when they were due, keys were reaped, deletes were dropped, values that were missing were offered,
+/// values were evicted, for what was stored and by themselves, sites were retired, and parcels were refused for that, at either end.
 #[derive(Clone, Copy)]
 pub struct Worth {
     pub named: u64,
@@ -25,10 +25,13 @@ pub struct Worth {
     touched: u64,
     ticked: u64,
     reaped: u64,
-    removed: u64,
+    pub removed: u64,
     filled: u64,
     pub evicted: u64,
     pub victims: u64,
+    pub retired: u64,
+    pub unsent: u64,
+    pub untaken: u64,
 }
 
 impl Worth {
@@ -44,6 +47,9 @@ impl Worth {
             filled: 0,
             evicted: 0,
             victims: 0,
+            retired: 0,
+            unsent: 0,
+            untaken: 0,
         }
     }
 
@@ -59,6 +65,9 @@ impl Worth {
             Trace::Ticked(true) => &mut self.ticked,
             Trace::Reaped(true) => &mut self.reaped,
             Trace::Removed { count, .. } if *count > 0 => &mut self.removed,
+            Trace::Retired(true) => &mut self.retired,
+            Trace::SendRefused(SendError::Retired) => &mut self.unsent,
+            Trace::TakeRefused(TakeError::Retired) => &mut self.untaken,
             _ => return,
         };
         *count = count.wrapping_add(1);
@@ -160,7 +169,7 @@ fn lacking(worth: &Worth) -> &'static str {
         "reaped"
     } else if worth.evicted <= SCHEDULES / 10 {
         "evicted"
-    } else if worth.filled == 0 {
+    } else if worth.filled <= SCHEDULES / 100 {
         "filled"
     } else if worth.victims > 0 {
         // Each class has more chunks than there are keys.

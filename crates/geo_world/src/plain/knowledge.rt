@@ -17,7 +17,7 @@ use crate::plain::operation::{Act, Operation};
 use geo_grammar::ValueBytes;
 use geo_lattice::{Items, Twin};
 use geo_memcache::{Ask, Decision, Entry, decide, live};
-use geo_stamp::{LAST_TIME, Stamp};
+use geo_stamp::{LAST_TIME, Retired, Stamp};
 use geo_versions::{Key, Version};
 use std::alloc::{AllocError, Global};
 
@@ -47,6 +47,8 @@ pub struct Knowledge {
     pub waiting: Option<u64>,
     /// How many seconds after its end a write of its own is kept.
     pub reap_after: u32,
+    /// The sites that it holds for gone for good.
+    pub retired: Retired,
 }
 
 /// Whether a key is one of these.
@@ -143,6 +145,7 @@ impl Knowledge {
         ensures counts { IfOk result (λ _. counts_of self.new ≡ evicted_on (Some key.now) (counts_of self.old)) }
         ensures waiting { self.new.waiting ≡ self.old.waiting }
         ensures reap_after { self.new.reap_after ≡ self.old.reap_after }
+        ensures retired { self.new.retired ≡ self.old.retired }
     {
         let key = key.twin(alloc)?;
         self.changes.push(Change::Dropped(key))?;

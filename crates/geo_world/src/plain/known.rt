@@ -1,6 +1,7 @@
 //! What all sites know along a schedule with its trace.
 ghost use Rattle.std.specs.Prelude.{[], ◌≡◌, ◌≤◌, ◌<◌, length, IfOk, IfErr, true, false};
-ghost use Rattle.geo_site.specs.Schedule.{Known as Knowing, happens, known, learns, fills, carried, Lawful, EachLawful};
+ghost use Rattle.geo_site.specs.Schedule.{Known as Knowing, happens, known, fills, holds_retired, Lawful, EachLawful};
+ghost use Rattle.geo_stamp.specs.Retired.{with_site};
 ghost use Rattle.geo_site.specs.Entries.{is_done as is_done_by};
 ghost use Rattle.geo_world.specs.Setups.{start};
 ghost use Rattle.geo_world.specs.There.{is_site, all_in_time, EachThere};
@@ -11,17 +12,27 @@ use crate::plain::operation::Operation;
 use crate::run::is_in_time_event;
 use crate::there::{has_site, is_at_hand};
 use geo_grammar::{Reply, ValueBytes};
-use geo_lattice::Items;
+use geo_lattice::{Items, Lattice};
 use geo_site::{Event, Setup, Trace};
+use geo_stamp::Retired;
 use geo_versions::Key;
 use std::alloc::{AllocError, Global};
 use thiserror::Error;
 
-/// What each site knows and holds and what waits there, and for whom and with what each parcel was sent.
+/// What a site knew, and which it held for gone for good, when it sent a parcel.
+#[derive(Drop)]
+pub struct Sending {
+    pub from: u8,
+    pub to: u8,
+    pub retired: Retired,
+    pub ops: Items<Operation>,
+}
+
+/// What each site knows and holds and what waits there, and what was known when each parcel was sent.
 #[derive(Drop)]
 pub struct Known {
     pub sites: Vec<Knowledge>,
-    pub sent: Vec<(u8, Items<Operation>)>,
+    pub sent: Vec<Sending>,
 }
 
 /// Why the plain program gives up.
@@ -61,8 +72,15 @@ impl Known {
             → Meets self.new.sites.items self.new.sent.items (happens w (Event.Send site to) Trace.Sent)) }
         ensures as_many { length self.new.sites.items ≡ length self.old.sites.items }
     {
-        let known = copies(alloc, self.sites[site as usize - 1].ops.as_slice())?;
-        self.sent.push((to, known))?;
+        let at = &self.sites[site as usize - 1];
+        let retired = at.retired;
+        let ops = copies(alloc, at.ops.as_slice())?;
+        self.sent.push(Sending {
+            from: site,
+            to,
+            retired,
+            ops,
+        })?;
         Ok(())
     }
 
@@ -83,17 +101,30 @@ impl Known {
         Ok(())
     }
 
-    fn learn(&mut self, alloc: Global, site: u8, parcel: usize) -> Result<(), AllocError>
+    fn take(&mut self, alloc: Global, site: u8, parcel: usize) -> Result<(), AllocError>
         requires there { is_site (length self.old.sites.items) site ≡ true }
         requires sent { parcel < length self.old.sent.items }
         ensures kept { IfOk result (λ _. (w : Knowing) → Meets self.old.sites.items self.old.sent.items w
-            → Meets self.new.sites.items self.new.sent.items (learns w site (carried w parcel))) }
+            → Meets self.new.sites.items self.new.sent.items (happens w (Event.Take site parcel) Trace.Taken)) }
         ensures as_many { length self.new.sites.items ≡ length self.old.sites.items }
     {
         let sent = &self.sent[parcel];
         let at = &mut self.sites[site as usize - 1];
-        at.learn(alloc, sent.1.as_slice())?;
+        at.learn(alloc, sent.ops.as_slice())?;
+        at.retired.join(sent.retired);
         Ok(())
+    }
+
+    fn retire(&mut self, site: u8, other: u8)
+        requires there { is_site (length self.old.sites.items) site ≡ true }
+        requires other_there { is_site (length self.old.sites.items) other ≡ true }
+        requires few { length self.old.sites.items ≤ 16 }
+        ensures kept { (w : Knowing) → Meets self.old.sites.items self.old.sent.items w
+            → Meets self.new.sites.items self.new.sent.items (holds_retired w site (with_site (w.sets site) other)) }
+        ensures as_many { length self.new.sites.items ≡ length self.old.sites.items }
+    {
+        let at = &mut self.sites[site as usize - 1];
+        at.retired.add(other);
     }
 
     /// Whether the sites and the parcel that an event names are there, and its moment is one of a schedule.
@@ -132,7 +163,7 @@ impl Known {
                 Ok(())
             }
             (Event::Send { site, to }, Trace::Sent) => Ok(self.send(alloc, *site, *to)?),
-            (Event::Take { site, parcel }, Trace::Taken) => Ok(self.learn(alloc, *site, *parcel)?),
+            (Event::Take { site, parcel }, Trace::Taken) => Ok(self.take(alloc, *site, *parcel)?),
             (Event::Tick { site, now }, Trace::Ticked(_))
             | (Event::Reap { site, now, .. }, Trace::ReapRefused(_)) => {
                 self.flush_due(alloc, *site, *now)
@@ -145,6 +176,10 @@ impl Known {
                 if filled.is_done() {
                     self.fill(alloc, *site, key, bytes)?;
                 }
+                Ok(())
+            }
+            (Event::Retire { site, other }, Trace::Retired(_)) => {
+                self.retire(*site, *other);
                 Ok(())
             }
             _ => Ok(()),
@@ -194,6 +229,7 @@ fn sites_without(alloc: Global, setups: &[Setup]) -> Result<Vec<Knowledge>, Allo
             evictions: 0,
             waiting: None,
             reap_after: setup.reap_after,
+            retired: Retired::none(),
         })?;
     }
     Ok(all)

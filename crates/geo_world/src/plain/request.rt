@@ -179,6 +179,7 @@ impl Knowledge {
         ensures changes { self.new.changes ≡ self.old.changes }
         ensures waiting { self.new.waiting ≡ self.old.waiting }
         ensures reap_after { self.new.reap_after ≡ self.old.reap_after }
+        ensures retired { self.new.retired ≡ self.old.retired }
     {
         let Request::Fetch { keys, .. } = request else {
             return;

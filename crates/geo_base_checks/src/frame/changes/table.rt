@@ -87,9 +87,9 @@ pub const ROWS: &[(&[Op], &[u8])] = &[
     // A parcel has what its base lacks.
     (
         &[Op::Value(5), Op::Cut(0, 0), Op::Cut(1, 0)],
-        b"1 to 2, 0 0 up to 1 0: 5 1.1 empty 5 0 until 1.1 0; \
-          and 1 to 2, 0 0 up to 1 0: 5 1.1 empty 5 0 until 1.1 0; in 168 bytes; \
-          1 to 2, 1 0 up to 1 0: and 1 to 2, 1 0 up to 1 0: in 98 bytes; \
+        b"1 to 2, 0 0 up to 1 0 without 2: 5 1.1 empty 5 0 until 1.1 0; \
+          and 1 to 2, 0 0 up to 1 0 without 2: 5 1.1 empty 5 0 until 1.1 0; in 168 bytes; \
+          1 to 2, 1 0 up to 1 0 without 2: and 1 to 2, 1 0 up to 1 0 without 2: in 98 bytes; \
           reach 0",
     ),
 ];

@@ -37,6 +37,12 @@ pub const EMPTY_DIGEST: [u8; 32] = [
     0x5b, 0x55, 0xed, 0xb9, 0x70, 0xd6, 0x82, 0xdb, 0xa7, 0xf5, 0xe6, 0xb4, 0x45, 0x8c, 0x5e, 0xfd,
 ];
 
+/// The SHA-256 of the example without its record, of 98 bytes, where site 2 has retired.
+pub const RETIRED_DIGEST: [u8; 32] = [
+    0xa1, 0xba, 0x55, 0x58, 0x44, 0xd3, 0xbe, 0xf5, 0x67, 0xb5, 0x95, 0xb5, 0x43, 0x38, 0x5f, 0xee,
+    0xc1, 0x82, 0x94, 0xcd, 0xfe, 0x70, 0xf0, 0x64, 0xac, 0xb9, 0x21, 0xd4, 0x63, 0xc0, 0x01, 0x9a,
+];
+
 /// Site 1 asks site 2 of two for the bytes of `a` that have the SHA-256 of `yo`.
 pub const ASK: [u8; 79] = [
     // head: the magic, the version, 79 bytes; an ask
@@ -76,6 +82,14 @@ pub const NONE_DIGEST: [u8; 32] = [
 /// The example without its record.
 pub const EMPTY: &[Part] = &[(0, 8, &[98]), (9, 65, &[0]), (0, 0, &EMPTY_DIGEST)];
 
+/// The same where site 2 has retired.
+pub const RETIRED: &[Part] = &[
+    (0, 8, &[98]),
+    (9, 52, &[2]),
+    (53, 65, &[0]),
+    (0, 0, &RETIRED_DIGEST),
+];
+
 /// An offer of nothing.
 pub const NONE: &[Part] = &[(0, 8, &[80]), (9, 47, &[0]), (0, 0, &NONE_DIGEST)];
 
@@ -86,6 +100,7 @@ pub const PARCELS: &[(&[Part], &[u8])] = &[
         b"1 to 2, 0 0 up to 1 0: e 1.1 empty 5 0 until 1.1 0;",
     ),
     (EMPTY, b"1 to 2, 0 0 up to 1 0:"),
+    (RETIRED, b"1 to 2, 0 0 up to 1 0 without 2:"),
     (&[(0, 167, b"")], b"Short"),
     (&[(0, 168, b"\0")], b"Trailing"),
     (&[(0, 69, &[1]), (70, 168, b"")], b"Damaged"),
@@ -121,8 +136,12 @@ pub const SEALED_PARCELS: &[(&[Part], &[u8])] = &[
     (&[(0, 9, &[2]), (10, 136, b"")], b"Field"),
     (&[(0, 9, &[3]), (10, 136, b"")], b"Field"),
     (&[(0, 9, &[4]), (10, 136, b"")], b"Field"),
-    // Site 1 has retired, and site 64.
-    (&[(0, 52, &[1]), (53, 136, b"")], b"Field"),
+    // Site 1 has retired; both have, and a third of two, and site 64.
+    (
+        &[(0, 52, &[1]), (53, 136, b"")],
+        b"1 to 2, 0 0 up to 1 0 without 1: e 1.1 empty 5 0 until 1.1 0;",
+    ),
+    (&[(0, 52, &[7]), (53, 136, b"")], b"Field"),
     (&[(0, 45, &[0x80]), (46, 136, b"")], b"Field"),
     // In version 1 there is no kind.
     (&[(0, 4, &[1]), (5, 136, b"")], b"Field"),

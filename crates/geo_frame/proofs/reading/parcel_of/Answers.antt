@@ -22,7 +22,7 @@ returns-in_err-floor-clause-memory c =
     let p = err_from_is_err_and c.from_residual-in_err-floor.result c.from_residual-in_err-floor.ensures.1 in
     rw (p.1, p.2) (λ m. absurd (not_memory _ c.in_err-floor.field-0.0 (clean_floor _ _) c.in_err-floor.ensures m))
 
-pub returns-in_err-take_retired-clause-memory : goal.returns-in_err-take_retired-clause-memory
-returns-in_err-take_retired-clause-memory c =
-    let p = err_from_is_err_and c.from_residual-in_err-take_retired.result c.from_residual-in_err-take_retired.ensures.1 in
-    rw (p.1, p.2) (λ m. absurd (not_memory _ c.in_err-take_retired.field-0.0 (clean_retired _ _) c.in_err-take_retired.ensures m))
+pub returns-in_err-retired-clause-memory : goal.returns-in_err-retired-clause-memory
+returns-in_err-retired-clause-memory c =
+    let p = err_from_is_err_and c.from_residual-in_err-retired.result c.from_residual-in_err-retired.ensures.1 in
+    rw (p.1, p.2) (λ m. absurd (not_memory _ c.in_err-retired.field-0.0 (clean_retired _ _ _) c.in_err-retired.ensures m))

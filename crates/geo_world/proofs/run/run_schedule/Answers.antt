@@ -1,13 +1,16 @@
-use Rattle.std.proofs.Common.{◌≡◌, ◌+◌, take, cond, not, [], ◌∷◌, ◌++◌, length, refl, sym, ap, ◌∙◌, subst, arith}
+use Rattle.std.proofs.Common.{◌≡◌, ◌+◌, take, cond, not, ◌||◌, [], ◌∷◌, ◌++◌, length, refl, sym, ap, ◌∙◌, subst, arith}
 use Rattle.geo_site.proofs.Served.{all_serve}
 use Rattle.geo_site.proofs.Sound.{sound_nothing}
 use Rattle.geo_world.specs.Setups.{limits_of, start}
 use Rattle.geo_world.specs.Tables.{empty_tables}
 use Rattle.geo_world.specs.There.{all_there}
+use Rattle.geo_world.specs.Running.{wants_memory}
+use Rattle.std.specs.List.{list_any}
 use Rattle.geo_world.specs.Doing.{RunsAlone}
 use Rattle.geo_world.proofs.Alone.{alone_first, alone_more, all_alone}
 use Rattle.geo_world.proofs.Paging.{run_pages}
-use Rattle.geo_world.proofs.Running.{HasRun, run_more, in_time_at, first_run, all_run, shows, same_versions}
+use Rattle.geo_world.proofs.Surviving.{survivors_stable}
+use Rattle.geo_world.proofs.Running.{HasRun, any_more, lacks_at, run_more, in_time_at, first_run, all_run, shows, same_versions}
 use Rattle.geo_world.proofs.run.run_schedule.Goals as goal
 
 pub loop-index-init : goal.loop-index-init
@@ -19,6 +22,7 @@ loop-index-init c =
       many = e.opens.1;
       good = e.opens.0;
       named = ap (λ n. all_there n 0 c.args.events.now) (ap length (sym c.deref.ensures.value) ∙ c.deref.ensures.len ∙ sym c.len.ensures) ∙ c.in_default.ensures;
+      wanted = ap (list_any wants_memory) (sym c.new-traces.ensures.items);
     }
 
 pub step-requires : goal.step-requires
@@ -38,6 +42,7 @@ loop-index-preserved c =
       many = e.as_many ∙ inv.many;
       good = inv.good;
       named = inv.named;
+      wanted = (λ i. inv.wanted i || c.wanted_memory-wanted.ensures i) ∙ sym (any_more c.loop-index.traces.items c.in-Ok.trace) ∙ ap (list_any wants_memory) (sym items);
     }
 
 pub returns-clause-alone : goal.returns-clause-alone
@@ -66,6 +71,11 @@ pub returns-clause-equal : goal.returns-clause-equal
 returns-clause-equal c = λ j k one other at_one at_other same.
     let run = all_run (start c.args.setups.items) (empty_tables (length c.args.setups.items)) c.loop-index.world.sites.items c.loop-index.world.parcels.items c.args.events.now c.loop-index.traces.items c.loop-index.index (omega arith) (omega arith) c.loop-index.invariant.run in
     same_versions one other _ _ (shows _ (j + 1) one _ (run.agrees.each j (j + 1) one refl at_one)) (shows _ (k + 1) other _ (run.agrees.each k (k + 1) other refl at_other)) same
+
+pub returns-clause-survivors : goal.returns-clause-survivors
+returns-clause-survivors c =
+    let run = all_run (start c.args.setups.items) (empty_tables (length c.args.setups.items)) c.loop-index.world.sites.items c.loop-index.world.parcels.items c.args.events.now c.loop-index.traces.items c.loop-index.index (omega arith) (omega arith) c.loop-index.invariant.run in
+    survivors_stable (length c.args.setups.items) (limits_of c.args.setups.items) c.args.events.now c.loop-index.traces.items run.lawful
 
 pub returns-clause-served : goal.returns-clause-served
 returns-clause-served c = λ apart.

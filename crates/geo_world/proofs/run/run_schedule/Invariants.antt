@@ -4,6 +4,8 @@ use Rattle.geo_world.specs.Setups.{are_setups, start}
 use Rattle.geo_world.specs.Tables.{empty_tables}
 use Rattle.geo_world.specs.There.{all_there}
 use Rattle.geo_world.specs.Doing.{RunsAlone}
+use Rattle.geo_world.specs.Running.{wants_memory}
+use Rattle.std.specs.List.{list_any}
 use Rattle.geo_world.proofs.run.run_schedule.Given as goal
 
 abbrev pub invariant-loop-index : goal.invariant-loop-index
@@ -13,4 +15,5 @@ invariant-loop-index l = record {
   many : length l.world.sites.items ≡ length l.fn.setups.items;
   good : are_setups l.fn.setups.items ≡ true;
   named : all_there (length l.fn.setups.items) 0 l.events ≡ true;
+  wanted : l.wanted ≡ list_any wants_memory l.traces.items;
 }

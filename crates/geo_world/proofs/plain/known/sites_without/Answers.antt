@@ -12,7 +12,7 @@ loop-setup-preserved c =
     let inv = c.loop-setup.invariant in
     record {
       many = counts_more _ _ _ _ c.in_ok-push.ensures.items inv.many;
-      meets = meets_more (length c.args.setups.now) (limits_of c.args.setups.now) _ _ _ c.loop-setup.setup-index inv.many c.in_ok-push.ensures.items c.new.ensures.items c.new-in-loop-setup.ensures.items refl refl (reap_read c.args.setups.now c.loop-setup.setup-index _ c.loop-setup-test.true) inv.meets;
+      meets = meets_more (length c.args.setups.now) (limits_of c.args.setups.now) _ _ _ c.loop-setup.setup-index inv.many c.in_ok-push.ensures.items c.new.ensures.items c.new-in-loop-setup.ensures.items refl refl (reap_read c.args.setups.now c.loop-setup.setup-index _ c.loop-setup-test.true) c.none.ensures inv.meets;
     }
 
 pub returns : goal.returns

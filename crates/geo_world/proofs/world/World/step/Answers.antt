@@ -14,3 +14,6 @@ returns-in-Remove-clause-tables c = subst (λ (e : Event). Tabled c.args.self.no
 
 pub returns-in-Command-clause-tables : goal.returns-in-Command-clause-tables
 returns-in-Command-clause-tables c = subst (λ (e : Event). Tabled c.args.self.now.sites.items c.args.self.now.parcels.items c.command.new.self.sites.items c.command.new.self.parcels.items e c.command.result) (sym c.in-Command.is) c.command.ensures.tables
+
+pub returns-in-Retire-clause-tables : goal.returns-in-Retire-clause-tables
+returns-in-Retire-clause-tables c = subst (λ (e : Event). Tabled c.args.self.now.sites.items c.args.self.now.parcels.items c.retire.new.self.sites.items c.retire.new.self.parcels.items e c.retire.result) (sym c.in-Retire.is) c.retire.ensures.tables

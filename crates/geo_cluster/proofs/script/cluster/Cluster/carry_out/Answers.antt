@@ -1,8 +1,8 @@
 use Rattle.std.proofs.Common.{ℕ, List, IfOk, refl, sym, ap, subst}
-use Rattle.geo_site.specs.declared.event.Event.TheVariants.{Send, Take, Remove, Tick, Reap, Evict, Fill}
+use Rattle.geo_site.specs.declared.event.Event.TheVariants.{Send, Take, Remove, Tick, Reap, Evict, Fill, Retire}
 use Rattle.geo_cluster.specs.Reads.{said_by}
 use Rattle.geo_cluster.specs.Standing.{EventDoes}
-use Rattle.geo_cluster.specs.Sayings.{SaysSend, SaysTake, SaysTick, SaysRemove, SaysReap, SaysEvict, SaysFill}
+use Rattle.geo_cluster.specs.Sayings.{SaysSend, SaysTake, SaysTick, SaysRemove, SaysReap, SaysEvict, SaysFill, SaysRetire}
 use Rattle.geo_cluster.proofs.Happening.{IsEventLine, line_is}
 use Rattle.geo_cluster.proofs.script.cluster.Cluster.carry_out.Goals as goal
 
@@ -29,3 +29,6 @@ returns-in-Fill-clause-does c =
     let k = c.in-Fill in
     line_is c.args.self.now c.happen-in-Fill.new.self c.args.line (SaysFill k.site k.key k.text.items) (Fill k.site k.key k.text.items) c.happen-in-Fill.result (ap said_by k.is) (λ p st. record { can = refl; carries = λ text q h. h })
     (subst (λ (bytes : List ℕ). IfOk c.happen-in-Fill.result (λ o. EventDoes c.args.self.now (Fill k.site k.key bytes) o c.happen-in-Fill.new.self)) c.of-bytes.ensures c.happen-in-Fill.ensures.does)
+
+pub returns-in-Retire-clause-does : goal.returns-in-Retire-clause-does
+returns-in-Retire-clause-does c = line_is c.args.self.now c.happen-in-Retire.new.self c.args.line (SaysRetire c.in-Retire.site c.in-Retire.other) (Retire c.in-Retire.site c.in-Retire.other) c.happen-in-Retire.result (ap said_by c.in-Retire.is) (λ p st. record { can = refl; carries = λ text q h. h }) c.happen-in-Retire.ensures.does

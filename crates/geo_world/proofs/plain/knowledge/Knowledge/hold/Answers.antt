@@ -8,6 +8,6 @@ use Rattle.geo_world.proofs.plain.knowledge.Knowledge.hold.Goals as goal
 
 pub returns-in_ok-push-clause-held : goal.returns-in_ok-push-clause-held
 returns-in_ok-push-clause-held c = λ ops held k.
-    let new : Knowledge = record { ops = c.args.self.now.ops; changes = c.push.new.self; hits = c.args.self.now.hits; misses = c.args.self.now.misses; evictions = c.args.self.now.evictions; waiting = c.args.self.now.waiting; reap_after = c.args.self.now.reap_after } in
+    let new : Knowledge = record { ops = c.args.self.now.ops; changes = c.push.new.self; hits = c.args.self.now.hits; misses = c.args.self.now.misses; evictions = c.args.self.now.evictions; waiting = c.args.self.now.waiting; reap_after = c.args.self.now.reap_after; retired = c.args.self.now.retired } in
     subst (λ (a : Act). Knows new ops (act_held (act_of a) held)) (sym c.in-Write.is)
     (knows_wrote c.args.self.now new c.in-Write.written c.in_ok-key.key c.in_ok-bytes.bytes c.in_ok-key.ensures c.in_ok-bytes.ensures refl c.in_ok-push.ensures.items ops held k)

@@ -8,7 +8,7 @@ use Rattle.geo_world.proofs.plain.knowledge.Knowledge.issue.Goals as goal
 pub returns-clause-issued : goal.returns-clause-issued
 returns-clause-issued c = λ ops held k.
     let mid = c.hold.new.self in
-    let between : Knowledge = record { ops = c.push.new.self; changes = mid.changes; hits = mid.hits; misses = mid.misses; evictions = mid.evictions; waiting = mid.waiting; reap_after = mid.reap_after } in
+    let between : Knowledge = record { ops = c.push.new.self; changes = mid.changes; hits = mid.hits; misses = mid.misses; evictions = mid.evictions; waiting = mid.waiting; reap_after = mid.reap_after; retired = mid.retired } in
     let act = act_of c.args.act in
     c.in_ok-settle.ensures.settles (ops ++ stamped c.args.stamp act ∷ []) (act_held act held)
     (knows_issued mid between c.args.stamp c.args.act c.in_ok-push.ensures.items refl ops (act_held act held) (c.in_ok-hold.ensures.held ops held k))

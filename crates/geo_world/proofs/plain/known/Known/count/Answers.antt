@@ -15,5 +15,5 @@ returns-clause-counts c = λ w meets.
     let seen = shows_visible c.args.self.now.sites.items c.args.self.now.sent.items w meets (c.args.site - 1) c.args.site (omega arith) old got c.args.now in
     let was = meets.counted (c.args.site - 1) c.args.site old (omega arith) got in
     let e = c.count.ensures in
-    meets_counted c.args.self.now.sites.items c.args.self.now.sent.items w meets (c.args.site - 1) c.args.site (omega arith) old got c.count.new.self (counted (visible w c.args.site c.args.now) c.args.request.now (w.counts c.args.site)) e.ops e.changes e.waiting e.reap_after
+    meets_counted c.args.self.now.sites.items c.args.self.now.sent.items w meets (c.args.site - 1) c.args.site (omega arith) old got c.count.new.self (counted (visible w c.args.site c.args.now) c.args.request.now (w.counts c.args.site)) e.ops e.changes e.waiting e.reap_after e.retired
     (e.counts ∙ (λ i. counted (seen i) c.args.request.now (was i)))

@@ -11,4 +11,4 @@ returns-clause-kept c = λ w meets.
     let old = c.index_mut-at.result.now in
     let got = read_is c.args.self.now.sites.items (c.args.site - 1) old (omega arith) c.index_mut-at.ensures.value in
     let e = c.in_ok-evict.ensures in
-    meets_evicted c.args.self.now.sites.items c.args.self.now.sent.items w meets (c.args.site - 1) c.args.site (omega arith) old got c.evict.new.self c.args.key.now e.left e.counts e.waiting e.reap_after
+    meets_evicted c.args.self.now.sites.items c.args.self.now.sent.items w meets (c.args.site - 1) c.args.site (omega arith) old got c.evict.new.self c.args.key.now e.left e.counts e.waiting e.reap_after e.retired

@@ -8,9 +8,9 @@ use Rattle.geo_world.specs.Plain.{Meets}
 use Rattle.geo_world.proofs.Happening.{carried_kept, carried_ended, reaped_kept, reaped_ended}
 use Rattle.geo_world.proofs.plain.known.Known.happens.Goals as goal
 
-pub returns-in_ok-learn-in-Take-Taken-clause-kept : goal.returns-in_ok-learn-in-Take-Taken-clause-kept
-returns-in_ok-learn-in-Take-Taken-clause-kept c = λ w meets.
-    subst₂ (λ (event : Event) (trace : Trace). Meets c.learn.new.self.sites.items c.learn.new.self.sent.items (happens w event trace)) (sym c.in-Take-Taken.is-0) (sym c.in-Take-Taken.is-1) (c.in_ok-learn-in-Take-Taken.ensures.kept w meets)
+pub returns-in_ok-take-in-Take-Taken-clause-kept : goal.returns-in_ok-take-in-Take-Taken-clause-kept
+returns-in_ok-take-in-Take-Taken-clause-kept c = λ w meets.
+    subst₂ (λ (event : Event) (trace : Trace). Meets c.take.new.self.sites.items c.take.new.self.sent.items (happens w event trace)) (sym c.in-Take-Taken.is-0) (sym c.in-Take-Taken.is-1) (c.in_ok-take-in-Take-Taken.ensures.kept w meets)
 
 pub returns-then-not-is_done-clause-kept : goal.returns-then-not-is_done-clause-kept
 returns-then-not-is_done-clause-kept c = λ w meets.
@@ -65,3 +65,9 @@ returns-in_ok-fill-in-Fill-Filled-clause-kept c = λ w meets.
     let new = c.fill.new.self in
     subst₂ (λ (event : Event) (trace : Trace). Meets new.sites.items new.sent.items (happens w event trace)) (sym k.is-0) (sym k.is-1)
     (subst (λ (b : Bool). Meets new.sites.items new.sent.items (cond b (fills w k.site k.key k.bytes) w)) (c.if-is_done.ensures) (c.in_ok-fill-in-Fill-Filled.ensures.kept w meets))
+
+pub returns-in-Retire-Retired-clause-kept : goal.returns-in-Retire-Retired-clause-kept
+returns-in-Retire-Retired-clause-kept c = λ w meets.
+    let k = c.in-Retire-Retired in
+    let new = c.retire.new.self in
+    subst₂ (λ (event : Event) (trace : Trace). Meets new.sites.items new.sent.items (happens w event trace)) (sym k.is-0) (sym k.is-1) (c.retire.ensures.kept w meets)

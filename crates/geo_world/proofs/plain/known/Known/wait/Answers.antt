@@ -10,4 +10,4 @@ returns-clause-kept c = λ w meets.
     let hi = there.last in
     let old = c.index_mut-at.result.now in
     let got = read_is c.args.self.now.sites.items (c.args.site - 1) old (omega arith) c.index_mut-at.ensures.value in
-    meets_waits c.args.self.now.sites.items c.args.self.now.sent.items w meets (c.args.site - 1) c.args.site (omega arith) old got _ c.args.waiting refl refl refl refl refl
+    meets_waits c.args.self.now.sites.items c.args.self.now.sent.items w meets (c.args.site - 1) c.args.site (omega arith) old got _ c.args.waiting refl refl refl refl refl refl
