@@ -75,7 +75,8 @@ fn records_are_ranged(records: &[(Key, Rec)])
 }
 
 /// A parcel is within the ranges of a frame where it goes from one of 2 to 16 sites to another, its vectors, both of so many, know
-/// what it tells, and no site past them is held for retired: the rest is so by the types. Each record is looked at, and nothing is decided by what is seen.
+/// what it tells, and no site past them is held for retired: the rest is so by the types. Each record is looked at, and nothing is
+/// decided by what is seen.
 pub fn stays_in_range(parcel: &Parcel)
     requires sites { sites_fit parcel.now.from parcel.now.to (length parcel.now.base) ≡ true }
     requires vectors { length parcel.now.upto ≡ length parcel.now.base }

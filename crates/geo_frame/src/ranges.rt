@@ -145,8 +145,8 @@ fn offer_fits(
 }
 
 /// Whether a message is within the ranges. A parcel has both vectors of 2 to 16 sites, goes from one of them to another, has each
-/// stamp and retired site of them, values of at most a mebibyte, and records with a register, by rising key. An ask and an offer go from one of
-/// 2 to 16 sites to another, and what is offered has at most a mebibyte.
+/// stamp and retired site of them, values of at most a mebibyte, and records with a register, by rising key. An ask and an offer go
+/// from one of 2 to 16 sites to another, and what is offered has at most a mebibyte.
 pub fn fits(message: &Message) -> bool
     ensures { IsTrue result ↔ PayloadInRange (payload_of message.now) }
 {

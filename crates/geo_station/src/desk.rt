@@ -1,9 +1,9 @@
 //! What lies under a station's lock.
-ghost use Rattle.std.specs.Prelude.{◌≡◌, ◌≢◌, ◌+◌, ◌≤◌, ◌<◌, ◌^◌, ℕ, [], true, false, cond, length, ◌⊎◌, IfOk, IfErr, IfSome, IfNone};
+ghost use Rattle.std.specs.Prelude.{◌≡◌, ◌≢◌, ◌+◌, ◌≤◌, ◌<◌, ◌^◌, ℕ, [], true, false, cond, length, ◌⊎◌, Result, Ok, IfOk, IfErr, IfSome, IfNone};
 ghost use Rattle.sha2.specs.Sha256.{sha256};
 ghost use Rattle.geo_delta.specs.Ranges.{InRange};
 ghost use Rattle.geo_grammar.specs.declared.reply.Reply.TheVariants.{OutOfMemory};
-ghost use Rattle.geo_history.specs.Keeping.{most_steps, made_by, made_in_all, is_flush_due};
+ghost use Rattle.geo_history.specs.Keeping.{most_steps, made_by, made_in_all, is_flush_due, RetireForDoes};
 ghost use Rattle.geo_history.specs.Stories.{story_in, last_era};
 ghost use Rattle.geo_station.specs.Seats.{IsLawful};
 ghost use Rattle.geo_station.specs.declared.desk.Unmade.TheVariants.{Spent};
@@ -282,6 +282,7 @@ impl<L: Ledger> Desk<L> {
         account: &mut Account<L>,
         other: u8,
     ) -> Result<bool, CallError<RetireError>>
+        ensures does { IfOk result (λ fresh. RetireForDoes (story_in self.old.kept) (story_in self.new.kept) number other (Ok fresh)) }
         ensures made { IfOk result (λ _. account.new.count ≡ account.old.count + 1) }
         ensures unmade { IfErr result (λ why. account.new.count ≡ account.old.count + retires_made why) }
         ensures spent { IfErr result (λ why. why ≡ SeatSpent → most_steps ≤ account.old.count) }
