@@ -15,6 +15,8 @@ mod links;
 #[cfg(test)]
 mod pairs;
 #[cfg(test)]
+mod returning;
+#[cfg(test)]
 mod rounds;
 #[cfg(test)]
 mod shown;
