@@ -7,6 +7,7 @@ use Rattle.geo_config.specs.declared.settings.LinkKind.{LinkKind}
 use Rattle.geo_config.specs.declared.settings.LinkKind.TheVariants as kind
 use Rattle.geo_config.specs.declared.draft.Draft.{Draft}
 use Rattle.geo_config.specs.declared.draft.SiteDraft.{SiteDraft}
+use Rattle.geo_config.specs.declared.draft.WaitsDraft.{WaitsDraft}
 use Rattle.geo_config.specs.Draft.{is_tcp}
 
 -- what a value is as a number, and what stands for one that isn't there
@@ -88,8 +89,15 @@ pub record SitesAreOf (document : Members) (c : Config) : Type 0 where
   pub say : SitesSay document (is_tcp c.link) (map row_of written)
   pub same : IsPermutation written c.sites.items
 
--- the numbers, the link and the switch are those of the document, or their defaults
-pub record IsOf (document : Members) (c : Config) : Type 0 where
+-- how many connections a document says, and nothing where it says nothing
+abbrev pub SessionsAre : Option Data → Option ℕ → Type 0
+SessionsAre None None = Unit {0}
+SessionsAre None (Some n) = ⊥
+SessionsAre (Some value) None = ⊥
+SessionsAre (Some value) (Some n) = as_integer value ≡ Some (pos n)
+
+-- the numbers, the link and the switch are those of the document, or their defaults, and this one for the connections
+pub record IsOfBy (by_default : Option ℤ) (document : Members) (c : Config) : Type 0 where
   pub pages : number_at document (codes "pages") (Some (pos 64)) ≡ Some (pos c.pages)
   pub max_records : number_at document (codes "max_records") (Some (pos 100000)) ≡ Some (pos c.max_records)
   pub reap_after : number_at document (codes "reap_after") (Some (pos 60)) ≡ Some (pos c.reap_after)
@@ -97,11 +105,22 @@ pub record IsOf (document : Members) (c : Config) : Type 0 where
   pub every : number_at document (codes "every") (Some (pos 100)) ≡ Some (pos c.every)
   pub era : number_at document (codes "era") (Some (pos 1000000)) ≡ Some (pos c.era)
   pub era_bytes : number_at document (codes "era_bytes") (Some (pos 268435456)) ≡ Some (pos c.era_bytes)
-  pub sessions : number_at document (codes "sessions") None ≡ Some (pos c.sessions)
+  pub sessions : number_at document (codes "sessions") by_default ≡ Some (pos c.sessions)
   pub fills : switch_at document (codes "fills") false ≡ Some c.fills
+  pub patience : number_at document (codes "patience") (Some (pos 5000)) ≡ Some (pos c.patience)
+  pub drain : number_at document (codes "drain") (Some (pos 5000)) ≡ Some (pos c.drain)
+
+-- the same where the connections have no default
+abbrev pub IsOf : Members → Config → Type 0
+IsOf document c = IsOfBy None document c
+
+-- how long is waited is what the document says, or the default
+pub record WaitsAreOf (document : Members) (w : WaitsDraft) : Type 0 where
+  pub patience : number_at document (codes "patience") (Some (pos 5000)) ≡ Some w.patience
+  pub drain : number_at document (codes "drain") (Some (pos 5000)) ≡ Some w.drain
 
 -- the same of a draft, whose link may be none
-pub record DraftIsOf (document : Members) (d : Draft) : Type 0 where
+pub record DraftIsOf (by_default : Option ℤ) (document : Members) (d : Draft) : Type 0 where
   pub pages : number_at document (codes "pages") (Some (pos 64)) ≡ Some d.pages
   pub max_records : number_at document (codes "max_records") (Some (pos 100000)) ≡ Some d.max_records
   pub reap_after : number_at document (codes "reap_after") (Some (pos 60)) ≡ Some d.reap_after
@@ -109,5 +128,6 @@ pub record DraftIsOf (document : Members) (d : Draft) : Type 0 where
   pub every : number_at document (codes "every") (Some (pos 100)) ≡ Some d.every
   pub era : number_at document (codes "era") (Some (pos 1000000)) ≡ Some d.era
   pub era_bytes : number_at document (codes "era_bytes") (Some (pos 268435456)) ≡ Some d.era_bytes
-  pub sessions : number_at document (codes "sessions") None ≡ Some d.sessions
+  pub sessions : number_at document (codes "sessions") by_default ≡ Some d.sessions
   pub fills : switch_at document (codes "fills") false ≡ Some d.fills
+  pub waits : WaitsAreOf document d.waits

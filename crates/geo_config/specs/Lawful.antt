@@ -20,6 +20,8 @@ pub record IsInRange (c : Config) : Type 0 where
   pub era : (1000 ≤ c.era) × (c.era ≤ 1000000000)
   pub era_bytes : (1048576 ≤ c.era_bytes) × (c.era_bytes ≤ 1099511627776)
   pub sessions : (1 ≤ c.sessions) × (c.sessions ≤ 1048576)
+  pub patience : (100 ≤ c.patience) × (c.patience ≤ 600000)
+  pub drain : c.drain ≤ 600000
   pub count : (1 ≤ length c.sites.items) × (length c.sites.items ≤ 16)
   pub sites : All (SiteIsInRange c.link) c.sites.items
 

@@ -1,10 +1,11 @@
 //! A configuration whose values have their types and may lie out of their ranges.
-ghost use Rattle.std.specs.Prelude.{◌≡◌, IfOk, All, codes, is_some, map, option_map, string_bytes, vec_len};
+ghost use Rattle.std.specs.Prelude.{◌≡◌, ◌≤◌, ℤ, pos, Option, Some, IfOk, IfSome, All, codes, is_some, map, option_map, string_bytes, vec_len};
 ghost use Rattle.toml.specs.Data.{Members, array, get_member};
 ghost use Rattle.toml.specs.View.{items_view, table_view, view};
-ghost use Rattle.geo_config.specs.Document.{DraftIsOf, IsOf, IsRow, SitesSay, peer_at, row_of, row_of_draft};
+ghost use Rattle.geo_config.specs.Document.{DraftIsOf, IsOfBy, IsRow, SitesSay, WaitsAreOf, peer_at, row_of, row_of_draft};
 ghost use Rattle.geo_config.specs.Draft.{DraftIsTied, SiteDraftIsTied, asks_for_tcp, is_tcp};
 ghost use Rattle.geo_config.specs.Lawful.{IsInRange, SiteIsInRange};
+ghost use Rattle.geo_config.specs.declared.settings.LinkKind.TheVariants as kind;
 
 use crate::fault::ConfigFault;
 use crate::keys::{NumberKey, fills_of, link_of, text_at};
@@ -61,6 +62,20 @@ const SESSIONS: NumberKey = NumberKey {
     default: None,
 };
 
+const PATIENCE: NumberKey = NumberKey {
+    name: "patience",
+    least: 100,
+    most: 600_000,
+    default: Some(5_000),
+};
+
+const DRAIN: NumberKey = NumberKey {
+    name: "drain",
+    least: 0,
+    most: 600_000,
+    default: Some(5_000),
+};
+
 const NUMBER: NumberKey = NumberKey {
     name: "number",
     least: 1,
@@ -91,7 +106,15 @@ pub struct Draft {
     era_bytes: i64,
     sessions: i64,
     fills: bool,
+    waits: WaitsDraft,
     sites: Vec<SiteDraft>,
+}
+
+/// What a document says of how long is waited, in milliseconds.
+#[derive(Drop)]
+pub struct WaitsDraft {
+    patience: i64,
+    drain: i64,
 }
 
 /// What a document says of one site.
@@ -104,9 +127,14 @@ pub struct SiteDraft {
 }
 
 impl Draft {
-    /// What a document says, if each key holds a value of its type.
-    pub fn read(alloc: Global, document: &Table) -> Result<Draft, ConfigFault>
-        ensures of { IfOk result (DraftIsOf (table_view document.now)) }
+    /// What a document says, if each key holds a value of its type. Where it doesn't say how many connections there are, `sessions` stands
+    /// for it, and with none of that it has to.
+    pub fn read(
+        alloc: Global,
+        document: &Table,
+        sessions: Option<i64>,
+    ) -> Result<Draft, ConfigFault>
+        ensures of { IfOk result (DraftIsOf sessions (table_view document.now)) }
         ensures tied { IfOk result DraftIsTied }
         ensures sites { IfOk result (λ d. SitesSay (table_view document.now) (asks_for_tcp d.link) (map row_of_draft d.sites.items)) }
     {
@@ -117,8 +145,15 @@ impl Draft {
         let every = EVERY.read(document)?;
         let era = ERA.read(document)?;
         let era_bytes = ERA_BYTES.read(document)?;
-        let sessions = SESSIONS.read(document)?;
+        let key = NumberKey {
+            name: SESSIONS.name,
+            least: SESSIONS.least,
+            most: SESSIONS.most,
+            default: sessions,
+        };
+        let sessions = key.read(document)?;
         let fills = fills_of(document)?;
+        let waits = WaitsDraft::read(document)?;
         let sites = site_drafts(alloc, document, asks_for_tcp(link))?;
         Ok(Draft {
             pages,
@@ -130,15 +165,28 @@ impl Draft {
             era_bytes,
             sessions,
             fills,
+            waits,
             sites,
         })
+    }
+
+    /// The same where sites are joined by connections, and with no link where they aren't.
+    pub fn over_tcp(self) -> Draft
+        ensures others { result ≡ record self { link = result.link } }
+        ensures link { IfSome result.link (λ link. (link ≡ kind.Tcp) × (self.link ≡ Some link)) }
+        ensures peers { asks_for_tcp result.link ≡ asks_for_tcp self.link }
+    {
+        let mut draft = self;
+        draft.link = only_tcp(draft.link);
+        draft
     }
 
     /// The configuration, if each value is in its range.
     pub fn in_range(self, alloc: Global) -> Result<Config, ConfigFault>
         requires { DraftIsTied self }
         ensures in_range { IfOk result IsInRange }
-        ensures of { IfOk result (λ c. (document : Members) → DraftIsOf document self → IsOf document c) }
+        ensures of { IfOk result (λ c. (sessions : Option ℤ) (document : Members) → DraftIsOf sessions document self
+            → IsOfBy sessions document c) }
         ensures link { IfOk result (λ c. self.link ≡ Some c.link) }
         ensures sites { IfOk result (λ c. map row_of c.sites.items ≡ map row_of_draft self.sites.items) }
     {
@@ -150,6 +198,7 @@ impl Draft {
         let era = ERA.within(self.era)?;
         let era_bytes = ERA_BYTES.within(self.era_bytes)?;
         let sessions = SESSIONS.within(self.sessions)?;
+        let waits = self.waits.in_range()?;
         if self.sites.is_empty() || self.sites.len() > MOST_SITES {
             return Err(ConfigFault::OutOfRange("site"));
         }
@@ -164,8 +213,50 @@ impl Draft {
             era_bytes,
             sessions,
             fills: self.fills,
+            patience: waits.patience,
+            drain: waits.drain,
             sites,
         })
+    }
+}
+
+/// How long is waited, in milliseconds.
+#[derive(Clone, Copy)]
+struct Waits {
+    patience: u64,
+    drain: u64,
+}
+
+impl WaitsDraft {
+    /// What a document says of how long is waited, if these keys hold numbers.
+    fn read(document: &Table) -> Result<WaitsDraft, ConfigFault>
+        ensures { IfOk result (WaitsAreOf (table_view document.now)) }
+    {
+        let patience = PATIENCE.read(document)?;
+        let drain = DRAIN.read(document)?;
+        Ok(WaitsDraft { patience, drain })
+    }
+
+    /// How long is waited, if each is in its range.
+    fn in_range(&self) -> Result<Waits, ConfigFault>
+        ensures patience { IfOk result (λ w. (100 ≤ w.patience) × (w.patience ≤ 600000)) }
+        ensures drain { IfOk result (λ w. w.drain ≤ 600000) }
+        ensures values { IfOk result (λ w. (self.now.patience ≡ pos w.patience) × (self.now.drain ≡ pos w.drain)) }
+    {
+        let patience = PATIENCE.within(self.patience)?;
+        let drain = DRAIN.within(self.drain)?;
+        Ok(Waits { patience, drain })
+    }
+}
+
+/// The link, where it is over connections.
+fn only_tcp(link: Option<LinkKind>) -> Option<LinkKind>
+    ensures link { IfSome result (λ only. (only ≡ kind.Tcp) × (link ≡ Some only)) }
+    ensures peers { asks_for_tcp result ≡ asks_for_tcp link }
+{
+    match link {
+        Some(LinkKind::Tcp) => Some(LinkKind::Tcp),
+        Some(LinkKind::Memory) | None => None,
     }
 }
 

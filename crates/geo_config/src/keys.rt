@@ -1,8 +1,8 @@
 //! The keys of a configuration.
-ghost use Rattle.std.specs.Prelude.{◌≡◌, ◌≤◌, pos, codes, string_bytes, IfOk, IfSome, false};
+ghost use Rattle.std.specs.Prelude.{◌≡◌, ◌≤◌, Some, pos, codes, string_bytes, IfOk, IfSome, false};
 ghost use Rattle.toml.specs.Data.{get_member};
 ghost use Rattle.toml.specs.View.{table_view};
-ghost use Rattle.geo_config.specs.Document.{LinkIs, link_text, number_at, switch_at, text_at as text_said};
+ghost use Rattle.geo_config.specs.Document.{LinkIs, SessionsAre, link_text, number_at, switch_at, text_at as text_said};
 
 use crate::fault::ConfigFault;
 use crate::settings::LinkKind;
@@ -102,9 +102,26 @@ pub fn site_rows(document: &Table) -> &[Value] {
     }
 }
 
+/// How many connections a document says that there are, if it says so.
+pub fn sessions_of(document: &Table, said: u64) -> Option<u64>
+    requires { number_at (table_view document.now) (codes "sessions") (Some (pos 1048576)) ≡ Some (pos said) }
+    ensures are { SessionsAre (get_member (codes "sessions") (table_view document.now)) result }
+    ensures same { IfSome result (λ sessions. sessions ≡ said) }
+{
+    match document.get("sessions") {
+        Some(_) => Some(said),
+        None => None,
+    }
+}
+
 /// Whether all keys stand that are required.
 pub fn has_required(document: &Table) -> Result<(), ConfigFault> {
     needs(document, "sessions")?;
+    has_required_of_sites(document)
+}
+
+/// Whether all keys stand that are required of sites.
+pub fn has_required_of_sites(document: &Table) -> Result<(), ConfigFault> {
     needs(document, "site")?;
     let over_tcp = matches!(link_of(document), Ok(Some(LinkKind::Tcp)));
     for row in site_rows(document) {
@@ -163,6 +180,8 @@ fn is_known(name: &str) -> bool {
             | "era_bytes"
             | "sessions"
             | "fills"
+            | "patience"
+            | "drain"
             | "site"
     )
 }

@@ -30,8 +30,23 @@ pub struct Config {
     pub sessions: u64,
     /// Whether each site asks the others for the bytes of values that it knows of and doesn't hold; not where nothing is said.
     pub fills: bool,
+    /// For how many milliseconds a site waits for another: for a connection, for room for what it writes, and for what it asked for, 100
+    /// to 600,000; 5,000 where nothing is said.
+    pub patience: u64,
+    /// How many milliseconds the clients of a site that is told to stop have to take what they are owed, 0 to 600,000; 5,000 where
+    /// nothing is said.
+    pub drain: u64,
     /// The sites, 1 to 16. Site `k` stands at index `k - 1`.
     pub sites: Vec<SiteConfig>,
+}
+
+/// What a program is told that runs one site, beside others that run the others.
+#[derive(Debug, Drop, PartialEq, Eq)]
+pub struct ApartConfig {
+    /// All that is said, of sites that are joined by connections. Where nothing is said of `sessions`, 1,048,576 stands here.
+    pub config: Config,
+    /// After how many connections the site stops by itself, 1 to 1,048,576; where nothing is said it doesn't.
+    pub sessions: Option<u64>,
 }
 
 /// What one site is told.

@@ -19,6 +19,8 @@ returns-clause-lawful c =
         era = was.era;
         era_bytes = was.era_bytes;
         sessions = was.sessions;
+        patience = was.patience;
+        drain = was.drain;
         count = omega (arith, was.count, same);
         sites = All-permutation (SiteIsInRange c.args.config.link) _ _ moved was.sites;
       };
