@@ -1,8 +1,12 @@
 //! Letting clients in.
-use crate::mailbox::Mailbox;
+use crate::mailbox::{Mailbox, least};
+use crate::registrar::Registrar;
+use crate::site::{Door, Shared};
+use std::alloc::Global;
 use std::net::{OpenListener, TcpListener, TcpStream};
 use std::rt::Clock;
 use std::sync::Wait;
+use std::sync::ledger::Ledger;
 use std::thread;
 use std::time::Duration;
 
@@ -20,25 +24,16 @@ fn next_connection<R: Wait + Clock>(rt: &R, listener: &TcpListener) -> TcpStream
     unreachable!()
 }
 
-/// The mailbox of the worker that has the fewest clients, the first of several.
-fn least(mailboxes: &[Mailbox]) -> Option<&Mailbox> {
-    let mut found: Option<&Mailbox> = None;
-    for mailbox in mailboxes {
-        match found {
-            Some(other) if other.load() <= mailbox.load() => {}
-            _ => found = Some(mailbox),
-        }
-    }
-    found
+/// Where clients come in.
+#[derive(Drop)]
+pub(crate) struct Entrance {
+    pub(crate) listener: TcpListener,
+    /// How many are let in.
+    pub(crate) sessions: u64,
 }
 
 /// Lets so many clients in, and hands each to the worker that has the fewest. Then it listens no more.
-pub(crate) fn accept<R: Wait + Clock>(
-    rt: &R,
-    listener: TcpListener,
-    sessions: u64,
-    mailboxes: &[Mailbox],
-) {
+fn accept<R: Wait + Clock>(rt: &R, listener: TcpListener, sessions: u64, mailboxes: &[Mailbox]) {
     for _session in 0..sessions {
         let stream = next_connection(rt, &listener);
         // a small reply is not to wait for a larger one
@@ -49,5 +44,19 @@ pub(crate) fn accept<R: Wait + Clock>(
     }
     for mailbox in mailboxes {
         mailbox.close(rt);
+    }
+}
+
+impl Door for Entrance {
+    fn attend<R: Wait + Clock, L: Ledger, G>(
+        self,
+        rt: &R,
+        _alloc: Global,
+        _shared: &Shared<'_, G>,
+        _registrar: &mut Registrar<'_, L>,
+        mailboxes: &[Mailbox],
+    ) {
+        let Entrance { listener, sessions } = self;
+        accept(rt, listener, sessions, mailboxes);
     }
 }

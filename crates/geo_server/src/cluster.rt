@@ -4,6 +4,7 @@ ghost use Rattle.geo_audit.specs.Verdicts.{AreInOrder};
 ghost use Rattle.geo_config.specs.Lawful.{IsLawful};
 ghost use Rattle.geo_history.specs.Stories.{most_bytes_in, setup_in};
 
+use crate::accept::Entrance;
 use crate::fault::{ClusterFault, add};
 use crate::putting::Way;
 use crate::report::{report, verdict_word};
@@ -30,7 +31,7 @@ use std::thread::Threads;
 use std::time::Duration;
 
 /// Listens at an address.
-fn listen<R: Net<Stream = TcpStream, Listener = TcpListener>>(
+pub(crate) fn listen<R: Net<Stream = TcpStream, Listener = TcpListener>>(
     rt: &R,
     alloc: Global,
     address: &str,
@@ -48,7 +49,7 @@ fn listen<R: Net<Stream = TcpStream, Listener = TcpListener>>(
 }
 
 /// A site that knows nothing.
-fn opened<R: RandomSource>(
+pub(crate) fn opened<R: RandomSource>(
     rt: &R,
     alloc: Global,
     config: &Config,
@@ -142,21 +143,23 @@ fn jobs<R: Net + RandomSource, P: Drop, Q: Drop>(
     config: &Config,
     listeners: Vec<TcpListener>,
     ends: Vec<Ends<P, Q>>,
-) -> Result<Vec<Job<P, Q>>, ClusterFault>
+) -> Result<Vec<Job<P, Q, Entrance>>, ClusterFault>
     requires { IsLawful config.now }
 {
+    let sessions = config.sessions;
     let mut all = Vec::new(alloc);
     for ((site, listener), ends) in config.sites.iter().zip(listeners).zip(ends) {
+        let mut peers = Vec::new(alloc);
+        add(&mut peers, ends.peers)?;
         let job = Job {
             fresh: opened(rt, alloc, config, site)?,
             crew: Crew {
                 workers: site.workers,
-                peers: ends.peers,
+                peers,
                 froms: ends.froms,
             },
             posts: made_posts(rt, alloc, site.workers)?,
-            sessions: config.sessions,
-            listener,
+            door: Entrance { listener, sessions },
         };
         add(&mut all, job)?;
     }
@@ -219,7 +222,7 @@ where
         &shared.start,
         shared.stop,
         jobs,
-        &|job: Job<W::Put, W::Get>| -> Result<Ended, ClusterFault> {
+        &|job: Job<W::Put, W::Get, Entrance>| -> Result<Ended, ClusterFault> {
             run_site(rt, alloc, shared, job)
         },
         || {},
@@ -250,6 +253,7 @@ fn run<
         start: Start::new(threads_of(config)),
         working: AtomicU64::new(workers_of(config)),
         stop: &stop,
+        closing: AtomicU64::new(0),
         every: Duration::from_millis(config.every),
         era: config.era,
         fills: config.fills,
@@ -269,6 +273,7 @@ fn run<
                 net: rt,
                 ports: ports.as_slice(),
                 stop: &stop,
+                patience: Duration::from_millis(config.patience),
             };
             run_sites(rt, alloc, config, &shared, clients, &wires)
         }
@@ -276,7 +281,7 @@ fn run<
 }
 
 /// The sums over all sites, in the counters' order.
-fn total(ended: &[Ended]) -> [u64; 5] {
+pub(crate) fn total(ended: &[Ended]) -> [u64; 5] {
     let mut all = [0u64; 5];
     for site in ended {
         for (sum, more) in all.iter_mut().zip(site.sums) {
@@ -311,7 +316,7 @@ fn are_in_order(histories: &[History]) -> bool
 }
 
 /// The word for the audit of what was done at all sites.
-fn audited(alloc: Global, ended: Vec<Ended>) -> Result<&'static str, ClusterFault> {
+pub(crate) fn audited(alloc: Global, ended: Vec<Ended>) -> Result<&'static str, ClusterFault> {
     let Some(all) = histories(alloc, ended)? else {
         return Ok(verdict_word(None));
     };

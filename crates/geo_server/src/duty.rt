@@ -4,6 +4,7 @@ ghost use Rattle.std.specs.Prelude.{◌≡◌};
 use crate::answering::Answering;
 use crate::clock::SystemClock;
 use crate::counting::{Clerk, Counting, Named, Rested};
+use crate::lead::Lead;
 use crate::site::Shared;
 use crate::worker::Worker;
 use geo_crowd::Passed;
@@ -17,10 +18,11 @@ use std::alloc::Global;
 use std::rt;
 use std::sync::Wait;
 use std::sync::ledger::Ledger;
+use std::time::Duration;
 
 /// What a thread of a site does until the cluster is told to stop.
 #[derive(Drop)]
-pub(crate) enum Duty<'a, L: Ledger, N: Named, P: Link + Drop, Q: Link + Drop> {
+pub(crate) enum Duty<'a, L: Ledger, N: Named, P: Lead + Drop, Q: Link + Drop> {
     /// Carries clients' connections.
     Serve(Clerk<'a, L, N>, Worker<'a>),
     /// Tells the other sites what was written here.
@@ -63,9 +65,64 @@ fn serve_clients<R: Wait + rt::Clock, L: Ledger, N: Named, G: Gate>(
     unreachable!()
 }
 
+/// Whether a parcel can be put on some link.
+fn is_any_ready<R: Wait, K: Lead>(rt: &R, alloc: Global, peers: &mut [Peer<K>]) -> bool {
+    let mut is_ready = false;
+    for at in 0..peers.len() {
+        is_ready = peers[at].link.is_ready(rt, alloc) || is_ready;
+    }
+    is_ready
+}
+
+/// For how long all links rest.
+fn rest_of<K: Lead>(peers: &[Peer<K>], every: Duration) -> Duration {
+    let mut rest = every;
+    for at in 0..peers.len() {
+        rest = peers[at].link.rest(every);
+    }
+    rest
+}
+
+/// One round, and the asks for what the site lacks where that is to be.
+fn go_round<R: Wait + rt::Clock, L: Ledger, K: Lead, G: Gate>(
+    rt: &R,
+    alloc: Global,
+    shared: &Shared<'_, G>,
+    station: &Station<L>,
+    seat: &mut Seat<L>,
+    peers: &mut [Peer<K>],
+) {
+    let _ = round(rt, alloc, station, seat, peers);
+    if shared.fills {
+        let now = SystemClock.now(rt);
+        let _filled = fetch(rt, alloc, station, seat, now, peers);
+    }
+}
+
+/// The last round, where one is owed: nobody writes at the site any more. Whether there was one.
+fn go_round_at_last<R: Wait, L: Ledger, K: Lead>(
+    rt: &R,
+    alloc: Global,
+    station: &Station<L>,
+    seat: &mut Seat<L>,
+    peers: &mut [Peer<K>],
+) -> bool {
+    let mut is_owed = false;
+    for at in 0..peers.len() {
+        is_owed = is_owed || peers[at].link.owes_a_last_round();
+    }
+    if is_owed {
+        let _ = round(rt, alloc, station, seat, peers);
+        for at in 0..peers.len() {
+            peers[at].link.finish(alloc);
+        }
+    }
+    is_owed
+}
+
 /// Sends rounds, and behind each asks for what the site lacks where that is to be, until the cluster stops, and then lets go of the links,
 /// by which those who receive at their ends learn of it.
-fn gossip<R: Wait + rt::Clock, L: Ledger, N: Named, K: Link + Drop, G: Gate>(
+fn gossip<R: Wait + rt::Clock, L: Ledger, N: Named, K: Lead + Drop, G: Gate>(
     rt: &R,
     alloc: Global,
     shared: &Shared<'_, G>,
@@ -78,13 +135,14 @@ fn gossip<R: Wait + rt::Clock, L: Ledger, N: Named, K: Link + Drop, G: Gate>(
         return counting.into_rested(seat);
     }
     for _ in rt.forever() {
-        let _ = round(rt, alloc, station, &mut seat, peers.as_mut_slice());
-        if shared.fills {
-            let now = SystemClock.now(rt);
-            let _filled = fetch(rt, alloc, station, &mut seat, now, peers.as_mut_slice());
+        if is_any_ready(rt, alloc, peers.as_mut_slice()) {
+            go_round(rt, alloc, shared, station, &mut seat, peers.as_mut_slice());
+            counting.count(Counter::Rounds);
         }
-        counting.count(Counter::Rounds);
-        if shared.stops_within(rt) {
+        if shared.stops_within(rt, rest_of(peers.as_slice(), shared.every)) {
+            if go_round_at_last(rt, alloc, station, &mut seat, peers.as_mut_slice()) {
+                counting.count(Counter::Rounds);
+            }
             return counting.into_rested(seat);
         }
     }
@@ -105,7 +163,7 @@ fn maintain<R: Wait + rt::Clock, L: Ledger, G: Gate>(
     for _ in rt.forever() {
         let _ = station.maintain(rt, alloc, &mut seat, SystemClock.now(rt));
         let _ = station.renew(rt, alloc, shared.era);
-        if shared.stops_within(rt) {
+        if shared.stops_within(rt, shared.every) {
             return seat;
         }
     }
@@ -168,7 +226,7 @@ fn hear_out<R: Wait, L: Ledger, N: Named, K: Link + Drop, G: Gate>(
     Rested::new(seat, counts)
 }
 
-impl<L: Ledger, N: Named, P: Link + Drop, Q: Link + Drop> Duty<'_, L, N, P, Q> {
+impl<L: Ledger, N: Named, P: Lead + Drop, Q: Link + Drop> Duty<'_, L, N, P, Q> {
     /// Does it to its end, once all threads have begun, and gives the seats back.
     pub(crate) fn run<R: Wait + rt::Clock, G: Gate>(
         self,

@@ -1,4 +1,7 @@
 //! Frames out of bytes as they come.
+ghost use Rattle.std.specs.Prelude.{IfOk, IfSome};
+ghost use Rattle.geo_server.specs.Roads.{TakesFirst};
+
 use bytes::BytesMut;
 use geo_frame::{FrameFault, Message, decode, wanted};
 use std::alloc::Global;
@@ -39,7 +42,9 @@ impl Frames {
     }
 
     /// The message of the next frame, if all of it has come.
-    pub(crate) fn next(&mut self, alloc: Global) -> Result<Option<Message>, FrameFault> {
+    pub(crate) fn next(&mut self, alloc: Global) -> Result<Option<Message>, FrameFault>
+        ensures { IfOk result (λ next. IfSome next (λ message. TakesFirst self.old.waiting.items self.new.waiting.items message)) }
+    {
         let Some(size) = self.size(alloc)? else {
             return Ok(None);
         };

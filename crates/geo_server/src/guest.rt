@@ -7,9 +7,6 @@ use std::alloc::Global;
 use std::rt::Clock;
 use std::time::{Duration, Instant};
 
-/// In how many milliseconds a guest has to bring its first frame, from its connection to the last byte, and to take what it is offered.
-const PATIENCE: u64 = 5000;
-
 /// How often a guest is read before others have their turn.
 const TURNS: usize = 16;
 
@@ -34,7 +31,7 @@ pub(crate) enum Brought {
 /// frame; whoever has brought one may stay. One answer at a time is written to it, as it takes it.
 #[derive(Drop)]
 pub(crate) struct Guest {
-    socket: Socket,
+    socket: Socket<'static>,
     frames: Frames,
     /// When it came, or was answered last.
     since: Option<Instant>,
@@ -44,10 +41,19 @@ pub(crate) struct Guest {
     taken: usize,
     /// The site whose messages it brings, once it has brought one.
     from: Option<u8>,
+    /// In which time it has to bring its first frame, from its connection to the last byte, and to take what it is offered.
+    patience: Duration,
+    /// Whether it was told that it is here.
+    pub(crate) is_told: bool,
 }
 
 impl Guest {
-    pub(crate) fn new<R: Clock>(rt: &R, alloc: Global, socket: Socket) -> Guest {
+    pub(crate) fn new<R: Clock>(
+        rt: &R,
+        alloc: Global,
+        socket: Socket<'static>,
+        patience: Duration,
+    ) -> Guest {
         Guest {
             socket,
             frames: Frames::new(alloc),
@@ -55,12 +61,19 @@ impl Guest {
             answer: Vec::new(alloc),
             taken: 0,
             from: None,
+            patience,
+            is_told: false,
         }
     }
 
     /// Whether it has brought no frame yet.
     pub(crate) fn is_stranger(&self) -> bool {
         self.from.is_none()
+    }
+
+    /// The site whose messages it brings.
+    pub(crate) fn from(&self) -> Option<u8> {
+        self.from
     }
 
     /// Whether it brings the messages of this site.
@@ -79,7 +92,7 @@ impl Guest {
             return self.owes();
         };
         match since.elapsed(rt) {
-            Ok(passed) => self.owes() && passed >= Duration::from_millis(PATIENCE),
+            Ok(passed) => self.owes() && passed >= self.patience,
             Err(_) => self.owes(),
         }
     }

@@ -12,14 +12,14 @@ const PATIENCE: u64 = 1000;
 
 /// A connection that is over.
 #[derive(Drop)]
-struct Leaver {
-    socket: Socket,
+struct Leaver<'a> {
+    socket: Socket<'a>,
     /// How many bytes have come since, and were dropped.
     dropped: usize,
     since: Option<Instant>,
 }
 
-impl Leaver {
+impl Leaver<'_> {
     /// Drops what has come. Whether more may come and is waited for.
     fn stays<R: Clock>(&mut self, rt: &R) -> bool {
         let Some(since) = self.since else {
@@ -42,13 +42,13 @@ impl Leaver {
 /// client may never see what was written to it last. So it is told that no more comes, what it sends is dropped, and it is closed
 /// once it has sent all, a mebibyte, or for a second.
 #[derive(Drop)]
-pub(crate) struct Leaving {
-    all: Vec<Leaver>,
+pub(crate) struct Leaving<'a> {
+    all: Vec<Leaver<'a>>,
 }
 
-impl Leaving {
+impl<'a> Leaving<'a> {
     /// None.
-    pub(crate) fn new(alloc: Global) -> Leaving {
+    pub(crate) fn new(alloc: Global) -> Leaving<'a> {
         Leaving {
             all: Vec::new(alloc),
         }
@@ -59,7 +59,7 @@ impl Leaving {
     }
 
     /// One more. Where memory is refused it is closed at once.
-    pub(crate) fn add<R: Clock>(&mut self, rt: &R, socket: Socket) {
+    pub(crate) fn add<R: Clock>(&mut self, rt: &R, socket: Socket<'a>) {
         if !socket.says_no_more() {
             return;
         }

@@ -1,13 +1,16 @@
-//! The server: sites that clients and other sites reach over sockets, all in one process.
+//! The server: sites that clients and other sites reach over sockets, all in one process or each in one of its own.
 //!
 //! [`run_cluster`] opens the sites of a configuration, has threads serve their clients, and has them tell each other what was
 //! written, until every site has served as many connections as it was told. Then it writes how much was done, and whether the
-//! sites' histories are one lawful schedule. The crate is a thin layer of threads and sockets: what a session, a station, a
+//! sites' histories are one lawful schedule. [`run_apart`] does the same for one of the sites, until an operator tells it to stop; the
+//! others run elsewhere, and come and go. The crate is a thin layer of threads and sockets: what a session, a station, a
 //! link, a round and an audit do is proved in the crates that it stands on.
 #![tactic(auto)]
 
 mod accept;
 mod answering;
+mod apart;
+mod attended;
 mod clock;
 mod cluster;
 mod counting;
@@ -15,20 +18,28 @@ mod duty;
 mod fault;
 mod frames;
 mod guest;
+mod keepalive;
+mod lead;
 mod leaving;
 mod mailbox;
+mod operator;
+mod outbound;
 mod porter;
 mod putting;
+mod registrar;
 mod report;
 mod road;
 mod site;
 mod socket;
 mod start;
 mod tcp;
+mod telling;
 mod threads;
 mod wires;
 mod worker;
 
+pub use apart::run_apart;
 pub use clock::SystemClock;
 pub use cluster::run_cluster;
 pub use fault::ClusterFault;
+pub use operator::Operator;

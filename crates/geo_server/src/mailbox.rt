@@ -71,3 +71,15 @@ impl Mailbox {
         (clients, waiting.is_closed)
     }
 }
+
+/// The mailbox of the worker that has the fewest clients, the first of several.
+pub(crate) fn least(mailboxes: &[Mailbox]) -> Option<&Mailbox> {
+    let mut found: Option<&Mailbox> = None;
+    for mailbox in mailboxes {
+        match found {
+            Some(other) if other.load() <= mailbox.load() => {}
+            _ => found = Some(mailbox),
+        }
+    }
+    found
+}

@@ -4,17 +4,19 @@ ghost use Rattle.geo_frame.specs.Payloads.{PayloadInRange, payload_of};
 use crate::fault::ClusterFault;
 use crate::guest::{Brought, Guest};
 use crate::socket::Socket;
-use geo_frame::{EncodeFault, Message, encode};
+use crate::telling::{tell, tell_down, tell_up};
+use geo_frame::{EncodeFault, FrameFault, Message, encode};
 use geo_link::LinkError;
 use mio::net::TcpListener as Listener;
 use mio::{Events, Interest, Poll, Token};
 use std::alloc::Global;
+use std::fmt::Display;
 use std::io;
 use std::net::{Net, OpenListener, TcpListener};
 use std::rt::Clock;
 use std::sync::Wait;
 use std::sync::atomic::{AtomicU64, Ordering};
-use std::time::Duration;
+use std::time::{Duration, Instant};
 
 /// How many guests that have brought no frame there are at most. Where one more comes, the first of them goes.
 const STRANGERS: usize = 8;
@@ -46,10 +48,43 @@ pub(crate) struct Porter<'a, N> {
     /// Whether somebody may have more at once.
     is_busy: bool,
     is_closed: bool,
+    visit: Visit,
+    /// When it was told last that a frame is refused.
+    refused: Option<Instant>,
 }
 
+/// Who may come to a peer port.
+#[derive(Clone, Copy)]
+pub(crate) struct Visit {
+    /// In which time a guest has to bring its first frame, and to take what it is offered.
+    pub(crate) patience: Duration,
+    /// At the port of a site that runs alone the other sites, of whom it is told when they come and go, and nobody else.
+    pub(crate) apart: Option<Apart>,
+}
+
+/// A site that runs alone.
+#[derive(Clone, Copy)]
+pub(crate) struct Apart {
+    /// Its number.
+    pub(crate) site: u8,
+    /// How many sites there are.
+    pub(crate) sites: u8,
+}
+
+impl Apart {
+    /// Whether a message comes from another site, and to this one.
+    fn expects(self, message: &Message) -> bool {
+        let from = message.sender();
+        let is_one = from >= 1 && from <= self.sites && from != self.site;
+        is_one && addressee(message) == self.site
+    }
+}
+
+/// For how many milliseconds it is not told again that a frame is refused.
+const SILENCE: u64 = 1000;
+
 /// A listener that never waits, and what tells that somebody has come.
-fn watched<N: Net>(net: &N, port: &TcpListener) -> io::Result<(Listener, Poll)> {
+pub(crate) fn watched<N: Net>(net: &N, port: &TcpListener) -> io::Result<(Listener, Poll)> {
     port.set_nonblocking(true)?;
     let mut listener = Listener::from_std(port.try_clone()?);
     let poll = Poll::new(net)?;
@@ -66,12 +101,13 @@ fn addressee(message: &Message) -> u8 {
     }
 }
 
-impl<'a, N: Net + Clock> Porter<'a, N> {
+impl<'a, N: Net + Clock + Eprint> Porter<'a, N> {
     pub(crate) fn new(
         net: &'a N,
         alloc: Global,
         port: &TcpListener,
         stop: &'a AtomicU64,
+        visit: Visit,
     ) -> Result<Porter<'a, N>, ClusterFault> {
         let (listener, poll) = match watched(net, port) {
             Ok(watched) => watched,
@@ -88,6 +124,8 @@ impl<'a, N: Net + Clock> Porter<'a, N> {
             turn: 0,
             is_busy: false,
             is_closed: false,
+            visit,
+            refused: None,
         })
     }
 
@@ -100,10 +138,55 @@ impl<'a, N: Net + Clock> Porter<'a, N> {
         self.is_closed = true;
     }
 
-    /// Lets a guest go.
-    fn let_go(&mut self, at: usize) {
-        if at < self.guests.len() {
-            let _gone = self.guests.remove(at);
+    /// Lets a guest go. That a site's goes is told.
+    fn let_go<D: Display + Drop>(&mut self, alloc: Global, at: usize, why: D) {
+        if at >= self.guests.len() {
+            return;
+        }
+        let gone = self.guests.remove(at);
+        if let (Some(apart), Some(from)) = (self.visit.apart, gone.from()) {
+            if gone.is_told {
+                tell_down(self.net, alloc, from, apart.site, why);
+            }
+        }
+    }
+
+    /// Tells that a site has come, unless that was told.
+    fn tell_of(&mut self, alloc: Global, at: usize) {
+        let (Some(apart), Some(guest)) = (self.visit.apart, self.guests.get_mut(at)) else {
+            return;
+        };
+        if let (false, Some(from)) = (guest.is_told, guest.from()) {
+            guest.is_told = true;
+            tell_up(self.net, alloc, from, apart.site);
+        }
+    }
+
+    /// Tells that a frame is refused, unless that was told just now.
+    fn tell_refused(&mut self, alloc: Global, at: usize, fault: FrameFault) {
+        if self.visit.apart.is_none() || !self.may_tell() {
+            return;
+        }
+        self.refused = Instant::now(self.net).ok();
+        let from = match self.guests.get(at) {
+            Some(guest) => guest.from(),
+            None => None,
+        };
+        let line = match from {
+            Some(site) => format!(in alloc; "a frame from site {site} is refused: {fault}\n"),
+            None => format!(in alloc; "a frame from a stranger is refused: {fault}\n"),
+        };
+        tell(self.net, line);
+    }
+
+    /// Whether it may be told that a frame is refused.
+    fn may_tell(&self) -> bool {
+        let Some(refused) = self.refused else {
+            return true;
+        };
+        match refused.elapsed(self.net) {
+            Ok(passed) => passed >= Duration::from_millis(SILENCE),
+            Err(_) => false,
         }
     }
 
@@ -138,21 +221,22 @@ impl<'a, N: Net + Clock> Porter<'a, N> {
             }
             let (count, first) = self.strangers();
             if count >= STRANGERS {
-                self.let_go(first);
+                self.let_go(alloc, first, "another stranger came");
             }
-            let guest = Guest::new(self.net, alloc, Socket::new(stream));
+            let socket = Socket::new(stream, None);
+            let guest = Guest::new(self.net, alloc, socket, self.visit.patience);
             let _ = self.guests.push(guest);
         }
     }
 
     /// A guest has brought a message of a site: whoever brought messages of that site before it goes.
-    fn is_known(&mut self, at: usize, site: u8) {
+    fn is_known(&mut self, alloc: Global, at: usize, site: u8) {
         for other in 0..self.guests.len() {
             let Some(guest) = self.guests.get(other) else {
                 return;
             };
             if other != at && guest.is_from(site) {
-                self.let_go(other);
+                self.let_go(alloc, other, "a newer connection takes its place");
                 return;
             }
         }
@@ -175,6 +259,21 @@ impl<'a, N: Net + Clock> Porter<'a, N> {
         }
     }
 
+    /// The message that a guest has brought, unless it comes from nobody who may come.
+    fn heard(&mut self, alloc: Global, at: usize, message: Message) -> Result<Message, LinkError> {
+        if let Some(apart) = self.visit.apart {
+            if !apart.expects(&message) {
+                self.tell_refused(alloc, at, FrameFault::Field);
+                self.let_go(alloc, at, FrameFault::Field);
+                self.turn = at;
+                return Err(LinkError::Frame(FrameFault::Field));
+            }
+        }
+        self.tell_of(alloc, at);
+        self.is_known(alloc, at, message.sender());
+        Ok(message)
+    }
+
     /// Hears the guest whose turn it is, and what it brings, unless it is to be waited for.
     fn hear(&mut self, alloc: Global) -> Option<Result<Message, LinkError>> {
         let at = self.turn;
@@ -184,18 +283,16 @@ impl<'a, N: Net + Clock> Porter<'a, N> {
             self.turn = at.saturating_add(1);
         }
         match brought {
-            Brought::Message(message) => {
-                self.is_known(at, message.sender());
-                Some(Ok(message))
-            }
+            Brought::Message(message) => Some(self.heard(alloc, at, message)),
             Brought::More | Brought::Later => None,
             Brought::Memory => Some(Err(LinkError::Memory)),
             Brought::Refused(fault) => {
-                self.let_go(at);
+                self.tell_refused(alloc, at, fault);
+                self.let_go(alloc, at, fault);
                 Some(Err(LinkError::Frame(fault)))
             }
             Brought::Over => {
-                self.let_go(at);
+                self.let_go(alloc, at, "the other end has closed it");
                 None
             }
         }
@@ -260,7 +357,7 @@ impl<'a, N: Net + Clock> Porter<'a, N> {
         if guest.answer(self.net, alloc, frame) {
             return Ok(());
         }
-        self.let_go(at);
+        self.let_go(alloc, at, "it takes no answer");
         Err(LinkError::Io)
     }
 

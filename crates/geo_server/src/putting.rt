@@ -1,10 +1,11 @@
 //! The putting end of a link over a socket, which comes back where it was cut.
-ghost use Rattle.geo_frame.specs.Payloads.{PayloadInRange, payload_of};
+ghost use Rattle.std.specs.Prelude.{IfOk};
+ghost use Rattle.geo_server.specs.Roads.{HasBegun};
 
+use crate::lead::Lead;
 use crate::road::Road;
-use crate::tcp::PATIENCE;
 use geo_frame::Message;
-use geo_link::{Link, LinkError};
+use geo_link::{Connect, LinkError, Returning};
 use std::alloc::Global;
 use std::io;
 use std::net::{Net, SocketAddr, TcpListener, TcpStream};
@@ -26,16 +27,25 @@ pub(crate) struct Way {
     pub(crate) to: u8,
 }
 
-/// The putting end of a link. Where a write fails, or what is waited for does not come, or the link is closed, the connection is let go,
-/// which is told on standard error, and a later put connects to the peer's port again. What was put and lost is told again by the next
+/// Where a link leads, and for how long it is waited for.
+#[derive(Clone, Copy)]
+pub(crate) struct Target {
+    pub(crate) address: SocketAddr,
+    pub(crate) patience: Duration,
+}
+
+/// The putting end of a link.
+pub(crate) type Putting<'a, N> = Returning<Road<'a, N>, Caller<'a, N>>;
+
+/// What connects to a peer's port again. Where a write fails, or what is waited for does not come, or the link is closed, the connection is
+/// let go, which is told on standard error, and another one is made before a later round. What was put and lost is told again by the next
 /// parcel.
 #[derive(Drop)]
-pub(crate) struct Putting<'a, N> {
+pub(crate) struct Caller<'a, N> {
     net: &'a N,
     stop: &'a AtomicU64,
     way: Way,
-    address: SocketAddr,
-    road: Option<Road>,
+    target: Target,
     /// When the link was cut, or connected last.
     tried: Option<Instant>,
     /// In milliseconds.
@@ -43,26 +53,27 @@ pub(crate) struct Putting<'a, N> {
     is_told: bool,
 }
 
-impl<'a, N: Net<Stream = TcpStream, Listener = TcpListener> + Clock + Eprint> Putting<'a, N> {
-    pub(crate) fn new(
-        net: &'a N,
-        stop: &'a AtomicU64,
-        way: Way,
-        address: SocketAddr,
-        road: Road,
-    ) -> Putting<'a, N> {
-        Putting {
-            net,
-            stop,
-            way,
-            address,
-            road: Some(road),
-            tried: None,
-            pause: FIRST_PAUSE,
-            is_told: false,
-        }
-    }
+/// A link with a connection.
+pub(crate) fn putting_link<'a, N: Net<Stream = TcpStream, Listener = TcpListener> + Clock + Eprint>(
+    net: &'a N,
+    stop: &'a AtomicU64,
+    way: Way,
+    target: Target,
+    road: Road<'a, N>,
+) -> Putting<'a, N> {
+    let caller = Caller {
+        net,
+        stop,
+        way,
+        target,
+        tried: None,
+        pause: FIRST_PAUSE,
+        is_told: false,
+    };
+    Returning::new(Some(road), caller)
+}
 
+impl<'a, N: Net<Stream = TcpStream, Listener = TcpListener> + Clock + Eprint> Caller<'a, N> {
     fn stops(&self) -> bool {
         self.stop.load(Ordering::SeqCst) != 0
     }
@@ -77,17 +88,10 @@ impl<'a, N: Net<Stream = TcpStream, Listener = TcpListener> + Clock + Eprint> Pu
         }
     }
 
-    /// The link is cut.
+    /// The connection was let go.
     fn is_cut(&mut self) {
-        self.road = None;
         self.tried = Instant::now(self.net).ok();
         self.tell();
-    }
-
-    /// The link works.
-    fn works(&mut self) {
-        self.pause = FIRST_PAUSE;
-        self.is_told = false;
     }
 
     /// Whether a connection is due.
@@ -101,73 +105,57 @@ impl<'a, N: Net<Stream = TcpStream, Listener = TcpListener> + Clock + Eprint> Pu
         }
     }
 
-    fn connect(&self, alloc: Global) -> io::Result<Road> {
-        let stream = TcpStream::connect_timeout(
-            self.net,
-            &self.address,
-            Duration::from_millis(PATIENCE),
-        )?;
-        Road::over(alloc, stream)
-    }
-
-    /// Connects again, where that is due and the cluster goes on.
-    fn come_back(&mut self, alloc: Global) {
-        if self.road.is_some() || self.stops() || !self.is_due() {
-            return;
-        }
-        self.road = self.connect(alloc).ok();
-        self.tried = Instant::now(self.net).ok();
-        self.pause = self.pause.saturating_mul(2).min(LONGEST_PAUSE);
+    fn reach(&self, alloc: Global) -> io::Result<Road<'a, N>>
+        ensures { IfOk result (λ road. HasBegun road.link) }
+    {
+        let Target { address, patience } = self.target;
+        let stream = TcpStream::connect_timeout(self.net, &address, patience)?;
+        Road::over(self.net, alloc, stream, patience)
     }
 }
 
-impl<N: Net<Stream = TcpStream, Listener = TcpListener> + Clock + Eprint> Link for Putting<'_, N> {
-    // what a network carries is not known
-    ghost puts = { λ _ _ _. Unit {0} };
+impl<'a, N: Net<Stream = TcpStream, Listener = TcpListener> + Clock + Eprint> Connect<Road<'a, N>>
+    for Caller<'a, N> {
+    ghost use Rattle.geo_server.specs.Roads.{HasBegun};
 
-    ghost gets = { λ _ _ _. Unit {0} };
+    ghost fresh = { λ road. HasBegun road.link };
 
-    ghost put_fails = { λ _ _ _ _. Unit {0} };
-
-    ghost get_fails = { λ _ _ _. Unit {0} };
-
-    ghost closes = { λ _ _. Unit {0} };
-
-    fn put<R: Wait>(&mut self, rt: &R, alloc: Global, message: Message) -> Result<(), LinkError> {
-        self.come_back(alloc);
-        let Some(road) = &mut self.road else {
-            return Err(LinkError::Closed);
-        };
-        match road.put(rt, alloc, message) {
-            Ok(()) => {
-                self.works();
-                Ok(())
-            }
-            Err(error) => {
-                if !matches!(error, LinkError::Memory | LinkError::TooLong) {
-                    self.is_cut();
-                }
-                Err(error)
-            }
+    fn connect<R: Wait>(&mut self, _rt: &R, alloc: Global) -> Option<Road<'a, N>> {
+        if self.stops() || !self.is_due() {
+            return None;
         }
+        let reached = self.reach(alloc);
+        self.tried = Instant::now(self.net).ok();
+        self.pause = self.pause.saturating_mul(2).min(LONGEST_PAUSE);
+        reached.ok()
     }
 
-    fn get<R: Wait>(&mut self, _rt: &R, alloc: Global) -> Result<Message, LinkError> {
-        let net = self.net;
-        let Some(road) = &mut self.road else {
-            return Err(LinkError::Closed);
-        };
-        match road.get(net, alloc) {
-            Ok(message) => Ok(message),
-            Err(error) => {
-                // whatever comes later is no answer to what is asked next
-                self.is_cut();
-                Err(error)
-            }
-        }
+    fn is_whole(&mut self, _alloc: Global, _connection: &Road<'a, N>) -> bool {
+        true
     }
 
-    fn close(&mut self) {
+    fn admits(&self, _message: &Message) -> bool {
+        true
+    }
+
+    fn carried(&mut self) {
+        self.pause = FIRST_PAUSE;
+        self.is_told = false;
+    }
+
+    fn lost(&mut self, _alloc: Global, _error: LinkError) {
         self.is_cut();
+    }
+
+    fn let_go(&mut self) {
+        self.is_cut();
+    }
+}
+
+impl<N: Net<Stream = TcpStream, Listener = TcpListener> + Clock + Eprint> Lead for Putting<'_, N> {
+    fn is_ready<R: Wait>(&mut self, rt: &R, alloc: Global) -> bool {
+        // a round that no connection carries is counted, too
+        let _is_up = self.stands(rt, alloc);
+        true
     }
 }

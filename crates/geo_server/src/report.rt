@@ -15,7 +15,10 @@ pub(crate) fn verdict_word(verdict: Option<&Verdict>) -> &'static str {
 }
 
 /// Writes all of some bytes.
-fn write_all<W: Write>(writer: &mut Device<W>, bytes: &[u8]) -> Result<(), ClusterFault> {
+pub(crate) fn write_all<W: Write>(
+    writer: &mut Device<W>,
+    bytes: &[u8],
+) -> Result<(), ClusterFault> {
     let mut rest = bytes;
     while !rest.is_empty() {
         match writer.write(rest) {

@@ -5,11 +5,12 @@ ghost use Rattle.geo_tally.specs.Counts.{all_together, in_order};
 ghost use Rattle.geo_history.specs.Keeping.{opened_with};
 ghost use Rattle.geo_history.specs.Stories.{story_in};
 
-use crate::accept::accept;
 use crate::counting::{Clerk, Counting, Named, Rested};
 use crate::duty::Duty;
 use crate::fault::{ClusterFault, add};
+use crate::lead::Lead;
 use crate::mailbox::Mailbox;
+use crate::registrar::Registrar;
 use crate::start::Start;
 use crate::threads::run_all;
 use crate::worker::{HANDED_IN, Worker};
@@ -22,7 +23,7 @@ use geo_tally::{Tally, TallySeat};
 use mio::{Poll, Waker};
 use std::alloc::Global;
 use std::marker::{Brand, PhantomData};
-use std::net::{Net, TcpListener, TcpStream};
+use std::net::Net;
 use std::sync::Wait;
 use std::sync::atomic::{AtomicU64, Ordering};
 use std::sync::ledger::{Blank, Ledger};
@@ -41,6 +42,8 @@ pub(crate) struct Shared<'a, G> {
     pub(crate) working: AtomicU64,
     /// 1 once the cluster stops.
     pub(crate) stop: &'a AtomicU64,
+    /// How far it has gone in letting clients go before that, where somebody told it to stop: 1 whoever rests goes, 2 all do.
+    pub(crate) closing: AtomicU64,
     /// Between two rounds, and between two maintenances.
     pub(crate) every: Duration,
     /// After how many steps a site's history begins anew.
@@ -68,12 +71,32 @@ impl<G> Shared<'_, G> {
         }
     }
 
-    /// Whether the cluster stops before the next round is due.
-    pub(crate) fn stops_within<R: Wait>(&self, rt: &R) -> bool {
-        if self.stop.load(Ordering::SeqCst) == 0 {
-            self.stop.park_timeout(rt, 0, self.every);
-        }
+    /// Whether the cluster stops.
+    pub(crate) fn stops(&self) -> bool {
         self.stop.load(Ordering::SeqCst) != 0
+    }
+
+    /// Waits until the cluster stops, for so long at most.
+    pub(crate) fn waits_for_the_end<R: Wait>(&self, rt: &R, most: Duration) {
+        if !self.stops() {
+            self.stop.park_timeout(rt, 0, most);
+        }
+    }
+
+    /// Whether the cluster stops within this time.
+    pub(crate) fn stops_within<R: Wait>(&self, rt: &R, time: Duration) -> bool {
+        self.waits_for_the_end(rt, time);
+        self.stops()
+    }
+
+    /// Clients that rest are let go.
+    pub(crate) fn closes(&self) {
+        self.closing.store(1, Ordering::SeqCst);
+    }
+
+    /// All clients are let go.
+    pub(crate) fn cuts_off(&self) {
+        self.closing.store(2, Ordering::SeqCst);
     }
 }
 
@@ -85,23 +108,35 @@ pub(crate) struct Fresh {
     ghost opening: { (seat : ℕ) → opened_with (story_in kept).opening seat ≡ 0 },
 }
 
-/// What a site is run with: P is the kind of the links that it puts on, Q of those from which it gets.
+/// Who lets the clients of a site in.
+pub(crate) trait Door {
+    /// Lets them in, and hands each to a worker, until no more are to come. Where an operator is heard meanwhile, sites are retired by the
+    /// registrar.
+    fn attend<R: Wait + rt::Clock, L: Ledger, G>(
+        self,
+        rt: &R,
+        alloc: Global,
+        shared: &Shared<'_, G>,
+        registrar: &mut Registrar<'_, L>,
+        mailboxes: &[Mailbox],
+    );
+}
+
+/// What a site is run with: P is the kind of the links that it puts on, Q of those from which it gets, D lets its clients in.
 #[derive(Drop)]
-pub(crate) struct Job<P, Q> {
+pub(crate) struct Job<P, Q, D> {
     pub(crate) fresh: Fresh,
     pub(crate) crew: Crew<P, Q>,
     pub(crate) posts: Posts,
-    /// How many connections it accepts.
-    pub(crate) sessions: u64,
-    pub(crate) listener: TcpListener,
+    pub(crate) door: D,
 }
 
 /// The threads of a site beside the one that lets clients in.
 #[derive(Drop)]
 pub(crate) struct Crew<P, Q> {
     pub(crate) workers: usize,
-    /// To the other sites.
-    pub(crate) peers: Vec<Peer<P>>,
+    /// To the other sites: a thread puts on the links of each list.
+    pub(crate) peers: Vec<Vec<Peer<P>>>,
     /// From the other sites.
     pub(crate) froms: Vec<Q>,
 }
@@ -130,7 +165,7 @@ fn next_counting<'a, N: Named>(
 
 /// What the threads of a site are given, while it is put together.
 #[derive(Drop)]
-struct Duties<'a, L: Ledger, N: Named, P: Link + Drop, Q: Link + Drop> {
+struct Duties<'a, L: Ledger, N: Named, P: Lead + Drop, Q: Link + Drop> {
     station: &'a Station<L>,
     tally: &'a Tally,
     counts: Vec<TallySeat>,
@@ -140,7 +175,7 @@ struct Duties<'a, L: Ledger, N: Named, P: Link + Drop, Q: Link + Drop> {
     ghost named: { tally.now.tally ≡ N.tally },
 }
 
-impl<'a, L: Ledger, N: Named, P: Link + Drop, Q: Link + Drop> Duties<'a, L, N, P, Q> {
+impl<'a, L: Ledger, N: Named, P: Lead + Drop, Q: Link + Drop> Duties<'a, L, N, P, Q> {
     /// A seat of the station and one of the tally. There are as many of both as threads that need them.
     fn seats<R: Wait>(
         &mut self,
@@ -171,15 +206,19 @@ impl<'a, L: Ledger, N: Named, P: Link + Drop, Q: Link + Drop> Duties<'a, L, N, P
         self.add(Duty::Serve(Clerk::new(self.station, seat, counting), worker))
     }
 
-    /// The thread that tells other sites, and the one that maintains the site.
-    fn keep_up<R: Wait>(
+    /// A thread that tells other sites.
+    fn tell<R: Wait>(
         &mut self,
         rt: &R,
         alloc: Global,
         peers: Vec<Peer<P>>,
     ) -> Result<(), ClusterFault> {
         let (seat, counting) = self.seats(rt, alloc)?;
-        self.add(Duty::Gossip(seat, counting, peers))?;
+        self.add(Duty::Gossip(seat, counting, peers))
+    }
+
+    /// The thread that maintains the site.
+    fn keep_up<R: Wait>(&mut self, rt: &R, alloc: Global) -> Result<(), ClusterFault> {
         let (seat, counting) = self.seats(rt, alloc)?;
         self.add(Duty::Maintain(seat, counting))
     }
@@ -191,32 +230,42 @@ impl<'a, L: Ledger, N: Named, P: Link + Drop, Q: Link + Drop> Duties<'a, L, N, P
     }
 }
 
-/// Where clients come in.
+/// Who does what at a site.
 #[derive(Drop)]
-struct Door {
-    listener: TcpListener,
-    /// How many are let in.
-    sessions: u64,
+struct Roles<'a, L: Ledger, N: Named, P: Lead + Drop, Q: Link + Drop> {
+    /// One for each thread beside the one that lets clients in.
+    duties: Vec<Duty<'a, L, N, P, Q>>,
+    /// The seats of that one.
+    seat: Seat<L>,
+    counting: Counting<'a, N>,
 }
 
-/// Gives each thread its duty, in the order of workers, gossip, maintenance and links.
-fn assigned<'a, R: Wait, L: Ledger, N: Named, P: Link + Drop, Q: Link + Drop>(
+/// Gives each thread its duty, in the order of workers, gossip, maintenance and links, and the one that lets clients in its seats.
+fn assigned<'a, R: Wait, L: Ledger, N: Named, P: Lead + Drop, Q: Link + Drop>(
     rt: &R,
     alloc: Global,
     mut given: Duties<'a, L, N, P, Q>,
-    peers: Vec<Peer<P>>,
+    peers: Vec<Vec<Peer<P>>>,
     froms: Vec<Q>,
     workers: Vec<Worker<'a>>,
-) -> Result<Vec<Duty<'a, L, N, P, Q>>, ClusterFault> {
+) -> Result<Roles<'a, L, N, P, Q>, ClusterFault> {
     for worker in workers {
         given.serve(rt, alloc, worker)?;
     }
-    given.keep_up(rt, alloc, peers)?;
+    for some in peers {
+        given.tell(rt, alloc, some)?;
+    }
+    given.keep_up(rt, alloc)?;
     for from in froms {
         given.receive(rt, alloc, from)?;
     }
+    let (seat, counting) = given.seats(rt, alloc)?;
     let Duties { all, .. } = given;
-    Ok(all)
+    Ok(Roles {
+        duties: all,
+        seat,
+        counting,
+    })
 }
 
 /// Lets clients in while the threads do their duties, and gives the seats back once all have ended.
@@ -224,20 +273,26 @@ fn work<
     R: Threads + Wait + rt::Clock + Sync,
     L: Ledger + Send + Sync,
     N: Named + Send,
-    P: Link + Send + Drop,
+    P: Lead + Send + Drop,
     Q: Link + Send + Drop,
+    D: Door + Drop,
     G: Gate,
 >(
     rt: &R,
     alloc: Global,
     shared: &Shared<'_, G>,
     station: &Station<L>,
-    duties: Vec<Duty<'_, L, N, P, Q>>,
-    door: Door,
+    roles: Roles<'_, L, N, P, Q>,
+    door: D,
     mailboxes: &[Mailbox],
 ) -> Result<Vec<Rested<L, N>>, ClusterFault> {
-    let Door { listener, sessions } = door;
-    run_all(
+    let Roles {
+        duties,
+        seat,
+        counting,
+    } = roles;
+    let mut registrar = Registrar::new(station, seat);
+    let mut rested = run_all(
         rt,
         alloc,
         &shared.start,
@@ -246,10 +301,12 @@ fn work<
         &|duty: Duty<'_, L, N, P, Q>| -> Rested<L, N> { duty.run(rt, alloc, shared, station) },
         || {
             if shared.comes(rt) {
-                accept(rt, listener, sessions, mailboxes);
+                door.attend(rt, alloc, shared, &mut registrar, mailboxes);
             }
         },
-    )
+    )?;
+    add(&mut rested, counting.into_rested(registrar.into_seat()))?;
+    Ok(rested)
 }
 
 /// What waits for the workers' sockets, and where each gets its clients.
@@ -291,18 +348,21 @@ fn workers_of<'a>(
     alloc: Global,
     polls: Vec<Poll>,
     mailboxes: &'a [Mailbox],
+    closing: &'a AtomicU64,
 ) -> Result<Vec<Worker<'a>>, ClusterFault> {
     let mut all = Vec::new(alloc);
     for (poll, mailbox) in polls.into_iter().zip(mailboxes) {
-        add(&mut all, Worker::new(alloc, poll, mailbox)?)?;
+        add(&mut all, Worker::new(alloc, poll, mailbox, closing)?)?;
     }
     Ok(all)
 }
 
-/// How many seats a site needs: one for each worker and each link from another site, one for gossip and one for maintenance.
-fn seats_of<P, Q>(job: &Job<P, Q>) -> usize {
+/// How many seats a site needs: one for each worker, each thread that tells others and each link from another site, one for maintenance,
+/// and one for whoever lets clients in and hears the operator.
+fn seats_of<P, Q, D>(job: &Job<P, Q, D>) -> usize {
     let crew = &job.crew;
     crew.workers
+        .saturating_add(crew.peers.len())
         .saturating_add(crew.froms.len())
         .saturating_add(2)
 }
@@ -352,8 +412,9 @@ fn run_counted<
     R: Net + Threads + Wait + rt::Clock + Sync,
     L: Ledger + Send + Sync,
     N: Named + Send,
-    P: Link + Send + Drop,
+    P: Lead + Send + Drop,
     Q: Link + Send + Drop,
+    D: Door + Drop,
     G: Gate,
 >(
     rt: &R,
@@ -362,7 +423,7 @@ fn run_counted<
     station: &Station<L>,
     tally: &Tally,
     counts: Vec<TallySeat>,
-    job: Plan<P, Q>,
+    job: Plan<P, Q, D>,
 ) -> Result<Left<L>, ClusterFault>
     requires given { All (λ s. s.tally ≡ tally.now.tally) counts.items }
     requires named { tally.now.tally ≡ N.tally }
@@ -371,7 +432,7 @@ fn run_counted<
     let Plan { crew, posts, door } = job;
     let Crew { peers, froms, .. } = crew;
     let Posts { polls, mailboxes } = posts;
-    let workers = workers_of(alloc, polls, mailboxes.as_slice())?;
+    let workers = workers_of(alloc, polls, mailboxes.as_slice(), &shared.closing)?;
     let given: Duties<'_, L, N, P, Q> = Duties {
         station,
         tally,
@@ -379,13 +440,13 @@ fn run_counted<
         all: Vec::new(alloc),
         of: PhantomData,
     };
-    let duties = assigned(rt, alloc, given, peers, froms, workers)?;
+    let roles = assigned(rt, alloc, given, peers, froms, workers)?;
     let rested = work(
         rt,
         alloc,
         shared,
         station,
-        duties,
+        roles,
         door,
         mailboxes.as_slice(),
     )?;
@@ -394,18 +455,19 @@ fn run_counted<
 
 /// What a site's threads do.
 #[derive(Drop)]
-struct Plan<P, Q> {
+struct Plan<P, Q, D> {
     crew: Crew<P, Q>,
     posts: Posts,
-    door: Door,
+    door: D,
 }
 
 /// Runs a site whose ledger is named.
 fn run_named<
     R: Net + Threads + Wait + rt::Clock + Sync,
     L: Ledger + Send + Sync,
-    P: Link + Send + Drop,
+    P: Lead + Send + Drop,
     Q: Link + Send + Drop,
+    D: Door + Drop,
     G: Gate,
 >(
     rt: &R,
@@ -413,7 +475,7 @@ fn run_named<
     shared: &Shared<'_, G>,
     blank: Blank,
     seats: usize,
-    job: Job<P, Q>,
+    job: Job<P, Q, D>,
 ) -> Result<Ended, ClusterFault>
     requires name { blank.name ≡ L.name }
     requires parts { blank.parts ≡ L.parts }
@@ -423,8 +485,7 @@ fn run_named<
         fresh,
         crew,
         posts,
-        sessions,
-        listener,
+        door,
     } = job;
     let Fresh { kept } = fresh;
     let Ok(station) = Station::<L>::new(blank, kept, seats as u64) else {
@@ -433,9 +494,8 @@ fn run_named<
     let Ok((tally, counts)) = Tally::new(alloc, seats) else {
         return Err(ClusterFault::Memory);
     };
-    let door = Door { listener, sessions };
     let job = Plan { crew, posts, door };
-    let left = run_counted::<R, L, Brand, P, Q, G>(
+    let left = run_counted::<R, L, Brand, P, Q, D, G>(
         rt, alloc, shared, &station, &tally, counts, job,
     )?;
     let Left { seats, counts } = left;
@@ -447,12 +507,13 @@ fn run_named<
 /// Runs a site from its first client until the cluster stops. Where it can't be put together no site begins.
 pub(crate) fn run_site<
     R: Net + Threads + Wait + rt::Clock + Sync,
-    P: Link + Send + Drop,
+    P: Lead + Send + Drop,
     Q: Link + Send + Drop,
+    D: Door + Drop,
     G: Gate,
->(rt: &R, alloc: Global, shared: &Shared<'_, G>, job: Job<P, Q>) -> Result<Ended, ClusterFault> {
+>(rt: &R, alloc: Global, shared: &Shared<'_, G>, job: Job<P, Q, D>) -> Result<Ended, ClusterFault> {
     let seats = seats_of(&job);
-    let ended = run_named::<R, Brand, P, Q, G>(
+    let ended = run_named::<R, Brand, P, Q, D, G>(
         rt,
         alloc,
         shared,

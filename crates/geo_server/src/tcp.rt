@@ -2,8 +2,9 @@
 ghost use Rattle.geo_frame.specs.Payloads.{PayloadInRange, payload_of};
 
 use crate::fault::ClusterFault;
+use crate::keepalive::keep_alive;
 use crate::porter::Porter;
-use crate::putting::{Putting, Way};
+use crate::putting::{Putting, Target, Way, putting_link};
 use crate::road::Road;
 use geo_frame::Message;
 use geo_grammar::Device;
@@ -19,23 +20,21 @@ use std::time::Duration;
 /// For how many milliseconds a link is left alone where memory was refused for what comes.
 const PAUSE: u64 = 50;
 
-/// For how many milliseconds a peer may take to make room for more, to bring what it is waited for, and to be connected to.
-pub(crate) const PATIENCE: u64 = 5000;
-
 /// Messages that come over a socket, and what is answered on it.
 pub(crate) type TcpLink = StreamLink<TcpStream, TcpStream>;
 
 /// A socket of which a write to a peer that takes nothing for long fails.
-pub(crate) fn prepared(stream: TcpStream) -> io::Result<TcpStream> {
+pub(crate) fn prepared(stream: TcpStream, patience: Duration) -> io::Result<TcpStream> {
     // a small message is not to wait for a larger one
     let _ = stream.set_nodelay(true);
-    stream.set_write_timeout(Some(Duration::from_millis(PATIENCE)))?;
+    keep_alive(&stream);
+    stream.set_write_timeout(Some(patience))?;
     Ok(stream)
 }
 
 /// A link over a socket that is let in.
-fn link_over(alloc: Global, stream: TcpStream) -> io::Result<TcpLink> {
-    let stream = prepared(stream)?;
+fn link_over(alloc: Global, stream: TcpStream, patience: Duration) -> io::Result<TcpLink> {
+    let stream = prepared(stream, patience)?;
     let reader = Device::new(stream.try_clone()?);
     match StreamLink::new(alloc, reader, Device::new(stream)) {
         Ok(link) => Ok(link),
@@ -61,13 +60,17 @@ fn connected<R: Net<Stream = TcpStream, Listener = TcpListener>>(
 }
 
 /// Both ends of a connection to a peer port.
-fn joined<R: Net<Stream = TcpStream, Listener = TcpListener>>(
-    rt: &R,
+fn joined<'a, R: Net<Stream = TcpStream, Listener = TcpListener> + Clock>(
+    rt: &'a R,
     alloc: Global,
     port: &TcpListener,
-) -> io::Result<(Road, TcpLink)> {
+    patience: Duration,
+) -> io::Result<(Road<'a, R>, TcpLink)> {
     let (putting, getting) = connected(rt, port)?;
-    Ok((Road::over(alloc, putting)?, link_over(alloc, getting)?))
+    Ok((
+        Road::over(rt, alloc, putting, patience)?,
+        link_over(alloc, getting, patience)?,
+    ))
 }
 
 /// Both ends of a link that leads to a peer port: for the site that puts, and for the one whose port it is.
@@ -77,18 +80,19 @@ pub(crate) fn tcp_link<'a, R: Net<Stream = TcpStream, Listener = TcpListener> + 
     port: &TcpListener,
     stop: &'a AtomicU64,
     way: Way,
+    patience: Duration,
 ) -> Result<(Putting<'a, R>, Getting<'a, R>), ClusterFault> {
     let Ok(address) = port.local_addr() else {
         return Err(ClusterFault::Socket);
     };
-    match joined(rt, alloc, port) {
+    match joined(rt, alloc, port, patience) {
         Ok((putting, getting)) => {
             let own = Own {
                 link: getting,
                 stop,
             };
             Ok((
-                Putting::new(rt, stop, way, address, putting),
+                putting_link(rt, stop, way, Target { address, patience }, putting),
                 Getting::Own(own),
             ))
         }
@@ -129,7 +133,7 @@ pub(crate) enum Getting<'a, N> {
     Guests(Porter<'a, N>),
 }
 
-impl<N: Net + Clock> Link for Getting<'_, N> {
+impl<N: Net + Clock + Eprint> Link for Getting<'_, N> {
     // what strangers send is not known
     ghost puts = { λ _ _ _. Unit {0} };
 

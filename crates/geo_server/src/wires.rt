@@ -1,6 +1,7 @@
 //! How sites are joined.
 use crate::fault::ClusterFault;
-use crate::porter::Porter;
+use crate::lead::Lead;
+use crate::porter::{Porter, Visit};
 use crate::putting::{Putting, Way};
 use crate::tcp::{Getting, tcp_link};
 use geo_link::{Link, MemoryLink, memory_link};
@@ -8,6 +9,7 @@ use std::alloc::Global;
 use std::net::{Net, TcpListener, TcpStream};
 use std::rt::Clock;
 use std::sync::atomic::AtomicU64;
+use std::time::Duration;
 
 /// How many messages may wait on a link in memory: a parcel tells all that its site wrote since the one before, so that a few do, and a
 /// site that is behind holds no more memory.
@@ -16,7 +18,7 @@ const WAITING: usize = 2;
 /// How sites are joined.
 pub(crate) trait Wires<R> {
     /// The kind of link on which a site puts.
-    type Put: Link + Drop;
+    type Put: Lead + Drop;
     /// The kind of link from which a site gets.
     type Get: Link + Drop;
 
@@ -64,6 +66,7 @@ pub(crate) struct Tcp<'a, N> {
     pub(crate) net: &'a N,
     pub(crate) ports: &'a [TcpListener],
     pub(crate) stop: &'a AtomicU64,
+    pub(crate) patience: Duration,
 }
 
 impl<'a, R, N: Net<Stream = TcpStream, Listener = TcpListener> + Clock + Eprint> Wires<R>
@@ -79,7 +82,7 @@ impl<'a, R, N: Net<Stream = TcpStream, Listener = TcpListener> + Clock + Eprint>
         way: Way,
     ) -> Result<(Putting<'a, N>, Getting<'a, N>), ClusterFault> {
         match self.ports.get((way.to as usize).saturating_sub(1)) {
-            Some(port) => tcp_link(self.net, alloc, port, self.stop, way),
+            Some(port) => tcp_link(self.net, alloc, port, self.stop, way, self.patience),
             None => Err(ClusterFault::Socket),
         }
     }
@@ -91,7 +94,14 @@ impl<'a, R, N: Net<Stream = TcpStream, Listener = TcpListener> + Clock + Eprint>
         at: usize,
     ) -> Result<Option<Getting<'a, N>>, ClusterFault> {
         match self.ports.get(at) {
-            Some(port) => Ok(Some(Getting::Guests(Porter::new(self.net, alloc, port, self.stop)?))),
+            Some(port) => {
+                let visit = Visit {
+                    patience: self.patience,
+                    apart: None,
+                };
+                let porter = Porter::new(self.net, alloc, port, self.stop, visit)?;
+                Ok(Some(Getting::Guests(porter)))
+            }
             None => Err(ClusterFault::Socket),
         }
     }

@@ -9,6 +9,7 @@ use std::alloc::{AllocError, Global};
 use std::net::TcpStream;
 use std::rt::Clock;
 use std::sync::Wait;
+use std::sync::atomic::{AtomicU64, Ordering};
 use std::time::Duration;
 
 /// By which a worker knows that clients were handed in.
@@ -25,7 +26,7 @@ const BRIEFLY: u64 = 20;
 
 /// The sockets of a worker, as the system tells of them.
 #[derive(Drop)]
-struct Sockets {
+struct Sockets<'a> {
     poll: Poll,
     events: Events<Global>,
     /// Those that were ready when the last wait ended, as many as `events` has room for.
@@ -34,14 +35,18 @@ struct Sockets {
     is_called: bool,
     /// Whether some connections that are over are still open.
     has_leavers: bool,
+    /// How far the site has gone in letting clients go.
+    closing: &'a AtomicU64,
+    /// One more than the greatest number of a connection.
+    numbers: usize,
 }
 
-impl Sockets {
+impl Sockets<'_> {
     /// For how many milliseconds to wait.
     fn patience(&self, at_once: bool) -> u64 {
         if at_once {
             0
-        } else if self.has_leavers {
+        } else if self.has_leavers || self.is_closing() {
             BRIEFLY
         } else {
             PATIENCE
@@ -49,7 +54,26 @@ impl Sockets {
     }
 }
 
-impl Polling for Sockets {
+impl Sockets<'_> {
+    /// Whether clients are let go.
+    fn is_closing(&self) -> bool {
+        self.closing.load(Ordering::SeqCst) > 0
+    }
+
+    /// Has each connection looked at, whether the system tells of it or not: of one that rests it tells nothing.
+    fn add_all(&mut self) {
+        for number in 0..self.numbers {
+            let _ = self.ready.push(Ready {
+                number,
+                readable: true,
+                writable: true,
+                ending: false,
+            });
+        }
+    }
+}
+
+impl Polling for Sockets<'_> {
     ghost told = { λ s. s.ready.items };
 
     fn wait(&mut self, at_once: bool) {
@@ -74,6 +98,9 @@ impl Polling for Sockets {
                 ending: is_over,
             });
         }
+        if self.is_closing() {
+            self.add_all();
+        }
     }
 
     fn ready(&self) -> &[Ready] {
@@ -84,9 +111,9 @@ impl Polling for Sockets {
 /// A thread that carries clients' connections, as many as come.
 #[derive(Drop)]
 pub(crate) struct Worker<'a> {
-    sockets: Sockets,
-    crowd: Crowd<Socket>,
-    leaving: Leaving,
+    sockets: Sockets<'a>,
+    crowd: Crowd<Socket<'a>>,
+    leaving: Leaving<'a>,
     mailbox: &'a Mailbox,
     /// Whether no more clients come.
     is_closed: bool,
@@ -97,6 +124,7 @@ impl<'a> Worker<'a> {
         alloc: Global,
         poll: Poll,
         mailbox: &'a Mailbox,
+        closing: &'a AtomicU64,
     ) -> Result<Worker<'a>, AllocError> {
         let sockets = Sockets {
             poll,
@@ -104,6 +132,8 @@ impl<'a> Worker<'a> {
             ready: Vec::with_capacity(alloc, EVENTS)?,
             is_called: false,
             has_leavers: false,
+            closing,
+            numbers: 0,
         };
         Ok(Worker {
             sockets,
@@ -120,7 +150,8 @@ impl<'a> Worker<'a> {
             return false;
         }
         let mut stream = mio::net::TcpStream::from_std(client);
-        let token = Token(self.crowd.next_number());
+        let number = self.crowd.next_number();
+        let token = Token(number);
         let interests = Interest::READABLE | Interest::WRITABLE;
         if self
             .sockets
@@ -131,9 +162,9 @@ impl<'a> Worker<'a> {
         {
             return false;
         }
-        self.crowd
-            .add(Carried::new(alloc, Socket::new(stream)))
-            .is_ok()
+        self.sockets.numbers = self.sockets.numbers.max(number.saturating_add(1));
+        let socket = Socket::new(stream, Some(self.sockets.closing));
+        self.crowd.add(Carried::new(alloc, socket)).is_ok()
     }
 
     /// Takes in all who were handed in.

@@ -1,7 +1,7 @@
 //! What clients of a cluster read, over sockets of the loopback, and what is told at its end.
-use geo_config::config;
+use geo_config::{config, config_apart};
 use geo_grammar::Device;
-use geo_server::{ClusterFault, run_cluster};
+use geo_server::{ClusterFault, Operator, run_apart, run_cluster};
 use geo_session::{Gate, OpenGate};
 use std::alloc::Global;
 use std::io::{Read, Write};
@@ -41,6 +41,31 @@ fn run<
     let config = config(alloc, text).ok()?;
     let mut writer = Device::new(Vec::new(alloc));
     run_cluster(rt, alloc, &config, gate, &mut writer).ok()?;
+    Some(writer.into_inner())
+}
+
+/// What a site that runs alone tells where an operator says these lines.
+fn run_alone<
+    R: Net<Stream = TcpStream, Listener = TcpListener>
+        + Threads
+        + Wait
+        + Clock
+        + RandomSource
+        + Eprint
+        + Sync,
+>(rt: &R, alloc: Global, lines: &[u8]) -> Option<Vec<u8>> {
+    let (client, peer) = (free_port(rt)?, free_port(rt)?);
+    let text = format!(in alloc;
+        "pages = 15\nlink = \"tcp\"\n[[site]]\nnumber = 1\nclient = \"127.0.0.1:{client}\"\npeer = \"127.0.0.1:{peer}\"\n"
+    ).ok()?;
+    let config = config_apart(alloc, text.as_str()).ok()?;
+    if config.config.sites.len() < 1 {
+        return None;
+    }
+    let mut writer = Device::new(Vec::new(alloc));
+    // a descriptor of which no system tells anything
+    let operator = Operator::new(alloc, lines, -1);
+    run_apart(rt, alloc, &config, 1, &OpenGate, operator, &mut writer).ok()?;
     Some(writer.into_inner())
 }
 
@@ -119,6 +144,16 @@ fn a_client_is_answered_and_counted(rt: HostRuntime) -> Result<(), Fail> {
             told.as_slice(),
             b"sessions 1\nrequests 3\nfaults 0\nrounds "
         )
+    );
+    Ok(())
+}
+
+#[test]
+fn a_site_that_runs_alone_ends_by_the_line_that_says_so(rt: HostRuntime) -> Result<(), Fail> {
+    let told = run_alone(&rt, rt.alloc(), b"start\n\nstop\nmore\n").ok_or("no end")?;
+    assert_eq!(rt;
+        told.as_slice(),
+        b"unknown\nunknown\nsessions 0\nrequests 0\nfaults 0\nrounds 0\nframes_refused 0\naudit sound\n".as_slice()
     );
     Ok(())
 }

@@ -1,5 +1,5 @@
 //! What no contract of configurations says: which fault comes, in which words, and that the values are the document's.
-use geo_config::{Config, config};
+use geo_config::{ApartConfig, Config, config, config_apart};
 use std::alloc::{AllocError, Global};
 use std::test::Fail;
 
@@ -11,8 +11,19 @@ fn told(alloc: Global, text: &str) -> Result<String, AllocError> {
     }
 }
 
-/// The values in the order in which the format lists them, the era's length and bytes and fills where they aren't the defaults, each
-/// site behind a semicolon.
+/// What is told of a text for one site alone: the values, behind how many connections are said.
+fn told_apart(alloc: Global, text: &str) -> Result<String, AllocError> {
+    match config_apart(alloc, text) {
+        Ok(ApartConfig { config, sessions }) => {
+            let shown = shown(alloc, &config)?;
+            format!(in alloc; "{sessions:?} {shown}")
+        }
+        Err(fault) => format!(in alloc; "{fault}"),
+    }
+}
+
+/// The values in the order in which the format lists them, the era's length and bytes, fills, patience and drain where they aren't the
+/// defaults, each site behind a semicolon.
 fn shown(alloc: Global, config: &Config) -> Result<String, AllocError> {
     let Config {
         pages,
@@ -23,6 +34,8 @@ fn shown(alloc: Global, config: &Config) -> Result<String, AllocError> {
         era,
         era_bytes,
         fills,
+        patience,
+        drain,
         sessions,
         sites,
     } = config;
@@ -37,6 +50,12 @@ fn shown(alloc: Global, config: &Config) -> Result<String, AllocError> {
     }
     if *fills {
         text.push_str(" fills")?;
+    }
+    if *patience != 5_000 {
+        text.push_str(format!(in alloc; " patience {patience}")?.as_str())?;
+    }
+    if *drain != 5_000 {
+        text.push_str(format!(in alloc; " drain {drain}")?.as_str())?;
     }
     for site in sites.iter() {
         let peer = site.peer.as_ref().map_or("-", String::as_str);
@@ -266,6 +285,79 @@ const BYTES: [(&str, &str); 6] = [
     ("era_bytes = \"1048576\"", "wrong type era_bytes"),
     ("era_bytes = 0\nera = 0", "out of range era"),
 ];
+
+/// How long is waited: a line at the top, what is told.
+const WAITS: [(&str, &str); 12] = [
+    ("patience = 99", "out of range patience"),
+    (
+        "patience = 100",
+        "64 100000 60 Memory 100 5 patience 100; 1 a 4 -",
+    ),
+    (
+        "patience = 600000",
+        "64 100000 60 Memory 100 5 patience 600000; 1 a 4 -",
+    ),
+    ("patience = 600001", "out of range patience"),
+    ("patience = \"5000\"", "wrong type patience"),
+    ("drain = -1", "out of range drain"),
+    ("drain = 0", "64 100000 60 Memory 100 5 drain 0; 1 a 4 -"),
+    (
+        "drain = 600000",
+        "64 100000 60 Memory 100 5 drain 600000; 1 a 4 -",
+    ),
+    ("drain = 600001", "out of range drain"),
+    ("drain = 5.0", "wrong type drain"),
+    ("drain = 600001\npatience = 1", "out of range patience"),
+    ("patience = 1\nera = 0", "out of range era"),
+];
+
+#[test]
+fn tells_how_long_is_waited(rt: HostRuntime) -> Result<(), Fail> {
+    for (top, want) in WAITS {
+        assert_eq!(rt; told_of_lines(rt.alloc(), top, "")?.as_str(), want, "{top}");
+    }
+    Ok(())
+}
+
+/// Documents for one site alone, of which this is the end, and what is told of each.
+const APART_END: &str = "[[site]]\nnumber = 1\nclient = \"a\"\npeer = \"b\"\n";
+
+const APART: [(&str, &str); 10] = [
+    (
+        "link = \"tcp\"",
+        "None 64 100000 60 Tcp 100 1048576; 1 a 4 b",
+    ),
+    (
+        "link = \"tcp\"\nsessions = 7",
+        "Some(7) 64 100000 60 Tcp 100 7; 1 a 4 b",
+    ),
+    (
+        "link = \"tcp\"\nsessions = 1048576",
+        "Some(1048576) 64 100000 60 Tcp 100 1048576; 1 a 4 b",
+    ),
+    ("link = \"tcp\"\nsessions = 0", "out of range sessions"),
+    (
+        "link = \"tcp\"\nsessions = 1048577",
+        "out of range sessions",
+    ),
+    ("link = \"tcp\"\nsessions = true", "wrong type sessions"),
+    ("link = \"memory\"", "out of range link"),
+    ("", "out of range link"),
+    ("pages = 14", "out of range pages"),
+    ("every = 0", "out of range link"),
+];
+
+#[test]
+fn tells_of_documents_for_one_site_alone(rt: HostRuntime) -> Result<(), Fail> {
+    let alloc = rt.alloc();
+    for (top, want) in APART {
+        let text = format!(in alloc; "{top}\n{APART_END}")?;
+        assert_eq!(rt; told_apart(alloc, text.as_str())?.as_str(), want, "{top}");
+    }
+    assert_eq!(rt; told_apart(alloc, "")?.as_str(), "missing site");
+    assert_eq!(rt; told_apart(alloc, "= 1")?.as_str(), "not toml");
+    Ok(())
+}
 
 #[test]
 fn tells_of_the_bytes_of_an_era(rt: HostRuntime) -> Result<(), Fail> {
