@@ -1,20 +1,15 @@
 """Sites that run apart, each in a process of its own. tests/serve runs these, and hands each what starts and asks a server."""
-import hashlib
 import os
 import random
-import re
 import select
 import shutil
 import signal
-import socket
 import struct
 import subprocess
 import tempfile
 import threading
 import time
 
-# How many keys there are where links are cut at random, and for how many seconds they are.
-KEYS, CUTTING = 10_000, 20
 SUMS = ["sessions", "requests", "faults", "rounds", "frames_refused", "audit"]
 TESTS = []
 
@@ -357,6 +352,32 @@ def a_clock_that_is_set_back_and_forth_changes_no_order(serve):
 
 
 @test
+def a_site_that_starts_again_under_its_number_holds_up_no_other(serve):
+    with Apart(serve, 3, more="fills = true") as sites:
+        sites.until_joined()
+        one, two, three = [sites[number].client() for number in (1, 2, 3)]
+        for number in range(20):
+            stored(three, b"k%d" % number, b"before")
+        serve.until("them elsewhere", lambda: agree((one, two, three), [b"k%d" % number for number in range(20)]))
+        sites[3].kill()
+        again = sites.start(3)
+        sites.until_joined()
+        three = again.client()
+        # it serves its own clients, and is a stranger to what the others know
+        stored(three, b"own", b"after")
+        assert three.get(b"own") == b"after"
+        for number in range(20):
+            writer = two if number % 2 else one
+            stored(writer, b"k%d" % number, b"after")
+        keys = [b"k%d" % number for number in range(20)]
+        serve.until("the newer ones at both", lambda: all((all_show((one, two), key) or (b"", b""))[1] == b"after" for key in keys))
+        for client in (one, two, three):
+            client.quit()
+        for number in (1, 2, 3):
+            serve.has(sites[number].stops(), faults=0)
+
+
+@test
 def deletes_go_once_the_others_retire_a_dead_site(serve):
     with Apart(serve, 3) as sites:
         sites.until_joined()
@@ -382,371 +403,6 @@ def deletes_go_once_the_others_retire_a_dead_site(serve):
             serve.has(sites[number].stops(), faults=0)
 
 
-class Proxy(threading.Thread):
-    """Carries connections to a port, and cuts each at a byte of chance while it is to cut."""
-
-    def __init__(self, port, seed):
-        super().__init__(daemon=True)
-        self.listener = socket.create_server(("127.0.0.1", 0))
-        self.port, self.random, self.to = self.listener.getsockname()[1], random.Random(seed), port
-        self.cuts, self.is_cutting, self.is_over = 0, True, False
-
-    def carry(self, one, other):
-        """Carries both ways until either ends, or so many bytes have come by."""
-        left = self.random.choice((0, 1, 9, 40, 100, 1000, 10_000, 100_000))
-        while True:
-            ready, _, _ = select.select([one, other], [], [], 0.2)
-            if self.is_over:
-                return
-            for end in ready:
-                piece = end.recv(65536)
-                if not piece:
-                    return
-                if self.is_cutting and len(piece) >= left:
-                    (other if end is one else one).sendall(piece[:left])
-                    self.cuts += 1
-                    return
-                left -= len(piece)
-                (other if end is one else one).sendall(piece)
-
-    def serve_one(self, one):
-        try:
-            with one, socket.create_connection(("127.0.0.1", self.to), timeout=5) as other:
-                self.carry(one, other)
-        except OSError:
-            pass
-
-    def run(self):
-        self.listener.settimeout(0.2)
-        while not self.is_over:
-            try:
-                one, _ = self.listener.accept()
-            except TimeoutError:
-                continue
-            one.settimeout(5)
-            threading.Thread(target=self.serve_one, args=(one,), daemon=True).start()
-        self.listener.close()
-
-
-@test
-def links_that_are_cut_at_random_lose_nothing(serve):
-    keys = [b"key%d" % number for number in range(KEYS)]
-    with Apart(serve, 3, started=[], pages=64, more="fills = true\npatience = 1000") as sites:
-        proxies = {}
-        for one in (1, 2, 3):
-            for other in (1, 2, 3):
-                if one != other:
-                    proxies[one, other] = Proxy(sites.peers[other - 1], 10 * one + other)
-                    proxies[one, other].start()
-        for one in (1, 2, 3):
-            ways = [sites.peers[one - 1] if other == one else proxies[one, other].port for other in (1, 2, 3)]
-            sites.start(one, ways)
-        loads = [Load(sites[number].client(), keys, number) for number in (1, 2, 3)]
-        for load in loads:
-            load.start()
-        time.sleep(CUTTING)
-        for load in loads:
-            load.ends()
-            assert load.fault is None and load.number > 1000, (load.fault, load.number)
-        for proxy in proxies.values():
-            proxy.is_cutting = False
-        cuts = sum(proxy.cuts for proxy in proxies.values())
-        assert cuts > 20, cuts
-        clients = [load.client for load in loads]
-        end = time.monotonic() + 90
-        for key in keys:
-            written = [load.last[key] for load in loads if key in load.last]
-            while written:
-                same = all_show(clients, key)
-                if same:
-                    assert same[1] in written, (key, same, written)
-                    break
-                assert time.monotonic() < end, (key, [shown(client, key) for client in clients])
-                time.sleep(0.02)
-        for client in clients:
-            client.quit()
-        for number in (1, 2, 3):
-            sites[number].stops()
-        for proxy in proxies.values():
-            proxy.is_over = True
-
-
-def held_elsewhere(serve, sites, keys):
-    """A client of site 2, which holds what site 1 was first told of each key."""
-    one, other = sites[1].client(), sites[2].client()
-    for key in keys:
-        stored(one, key, b"first")
-    serve.until("the first values at site 2", lambda: all(other.get(key) == b"first" for key in keys))
-    one.quit()
-    return other
-
-
-@test
-def what_was_stored_before_a_stop_is_known_elsewhere_after_it(serve):
-    keys = [b"k%d" % number for number in range(50)]
-    # rounds come seldom, so that the last one has something to tell
-    with Apart(serve, 2, every=2000, more="fills = true") as sites:
-        sites.until_joined()
-        other = held_elsewhere(serve, sites, keys)
-        loads = [Load(sites[1].client(), keys, number) for number in range(4)]
-        for load in loads:
-            load.start()
-        time.sleep(0.5)
-        told = sites[1].stops()
-        for load in loads:
-            load.ends()
-        assert told["faults"] == 0, told
-        for key in keys:
-            value = other.get(key)
-            lawful = [load.last[key] for load in loads if key in load.last] + [load.sent[key] for load in loads if key in load.sent]
-            # its writers ran side by side, and the last of each may be the latest
-            assert value is None or value in lawful or not lawful, (key, value, lawful)
-        link = "the link from site 1 to site 2 is "
-        assert [line for line in sites[1].log() if line.startswith(link)][-1] == f"{link}up", sites[1].log()
-        other.quit()
-        sites[2].stops()
-
-
-@test
-def an_only_writer_finds_nothing_older_after_a_stop(serve):
-    keys = (b"a", b"b", b"c")
-    with Apart(serve, 2, every=2000, more="fills = true") as sites:
-        sites.until_joined()
-        other = held_elsewhere(serve, sites, keys)
-        load = Load(sites[1].client(), keys, 7)
-        load.start()
-        time.sleep(0.5)
-        sites[1].stops()
-        load.ends()
-        for key in keys:
-            value = other.get(key)
-            assert value in (None, load.last[key], load.sent[key]), (value, load.last[key], load.sent[key])
-        other.quit()
-        sites[2].stops()
-
-
-@test
-def requests_that_came_whole_are_answered_at_a_stop(serve):
-    with Apart(serve, 1) as sites:
-        one = sites[1]
-        resting, half, busy = one.client(), one.client(), one.client()
-        for client in (resting, half, busy):
-            client.ask(b"version\r\n", b"VERSION 1.0.0\r\n")
-        half.send(b"set a 0 0 5\r\nhe")
-        value = b"x" * 1000
-        stored(busy, b"k", value)
-        # all of that has come when the site is told to stop
-        busy.send(b"get k\r\n" * 5000)
-        time.sleep(0.5)
-        one.says(b"stop\n")
-        owed = (b"VALUE k 0 1000\r\n%s\r\nEND\r\n" % value) * 5000
-        answer = busy.read(len(owed))
-        assert answer == owed, f"{len(answer)} of {len(owed)} bytes arrived"
-        for client in (resting, half, busy):
-            assert client.is_closed()
-            client.close()
-        serve.has(one.ends(), sessions=3, faults=0, audit="sound")
-        try:
-            socket.create_connection(("127.0.0.1", one.port), timeout=2).close()
-        except OSError:
-            return
-        raise AssertionError("somebody listens still")
-
-
-@test
-def a_client_that_never_reads_is_let_go_once_the_drain_is_over(serve):
-    with Apart(serve, 1, more="drain = 1000") as sites:
-        one = sites[1]
-        silent = one.client()
-        stored(silent, b"k", b"x" * 100_000)
-        silent.socket.settimeout(0.5)
-        try:
-            for _ in range(200):
-                silent.send(b"get k\r\n" * 10)
-        except (TimeoutError, OSError):
-            pass
-        began = time.monotonic()
-        told = one.stops()
-        passed = time.monotonic() - began
-        assert 0.9 < passed < 4, passed
-        serve.has(told, sessions=1, faults=1, audit="sound")
-        silent.close()
-
-
-@test
-def a_line_that_is_no_order_is_answered_and_the_end_of_lines_says_nothing(serve):
-    with Apart(serve, 1) as sites:
-        one = sites[1]
-        one.until_told("site 1 is ready")
-        for line in (b"hello\n", b"stopp\n", b"\n", b"x" * 1000 + b"stop\n"):
-            one.says(line)
-            assert serve.next_line(one.process.stdout) == b"unknown\n"
-        client = one.client()
-        client.quit()
-        serve.has(one.stops(), sessions=1, requests=1, faults=0, audit="sound")
-    with Apart(serve, 1) as sites:
-        one = sites[1]
-        one.process.stdin.close()
-        time.sleep(0.5)
-        one.client().quit()
-        assert one.process.poll() is None
-        one.process.stdin = open(os.devnull, "wb")
-
-
-@test
-def a_site_that_has_had_its_sessions_stops_by_itself(serve):
-    [client, peer] = serve.free_ports(2)
-    with tempfile.NamedTemporaryFile("w", suffix=".toml") as file:
-        file.write(serve.configured([client], [peer], 2, link="tcp"))
-        file.flush()
-        one = Site(serve, [serve.PROGRAM, "serve", file.name, "1"], client)
-        for _ in range(2):
-            one.client().quit()
-        serve.has(one.ends(), sessions=2, requests=2, faults=0, audit="sound")
-        one.kill()
-
-
-@test
-def a_peer_that_never_answers_loses_its_link_and_holds_up_nobody(serve):
-    with Apart(serve, 3, started=[1, 3], more="fills = true\npatience = 500") as sites:
-        silent = socket.create_server(("127.0.0.1", sites.peers[1]))
-        sites[1].until_told("the link from site 1 to site 2 is up")
-        sites[1].until_told("the link from site 1 to site 3 is up")
-        one, three = sites[1].client(), sites[3].client()
-        for number in range(20):
-            began = time.monotonic()
-            stored(three, b"k%d" % number, b"x")
-            serve.until("the fill at site 1", lambda: one.get(b"k%d" % number) == b"x")
-            assert time.monotonic() - began < 0.4, "a silent site holds up another"
-        # what no site holds is asked for at each
-        stored(three, b"lost", b"y" * 900_000)
-        serve.until("the end of that link", lambda: sites[1].has_told("the link from site 1 to site 2 is down: "))
-        silent.close()
-        for client in (one, three):
-            client.quit()
-        for number in (1, 3):
-            sites[number].stops()
-
-
-def frame(sender, receiver, sites):
-    """An offer of nothing that a site sends: docs/replication.md."""
-    fields = bytes([sender, receiver, sites, 1]) + b"k" + bytes(32) + b"\0"
-    content = b"GCDS\2" + struct.pack(">I", 42 + len(fields)) + b"\3" + fields
-    return content + hashlib.sha256(content).digest()
-
-
-def is_let_go(stranger):
-    stranger.settimeout(10)
-    try:
-        return stranger.recv(1) == b""
-    except ConnectionResetError:
-        return True
-
-
-@test
-def a_newer_connection_takes_the_place_of_an_older_one(serve):
-    with Apart(serve, 2, started=[1]) as sites:
-        sites[1].until_told("site 1 is ready")
-        address = ("127.0.0.1", sites.peers[0])
-        older = socket.create_connection(address)
-        older.sendall(frame(2, 1, 2))
-        sites[1].until_told("the link from site 2 to site 1 is up")
-        newer = socket.create_connection(address)
-        newer.sendall(frame(2, 1, 2))
-        assert is_let_go(older)
-        sites[1].until_told("the link from site 2 to site 1 is down: a newer connection takes its place")
-        newer.settimeout(1)
-        try:
-            assert newer.recv(1) != b"", "the newer one is let go"
-        except TimeoutError:
-            pass
-        newer.close()
-        sites[1].stops()
-
-
-@test
-def strangers_at_a_peer_port_are_let_go_and_told_of_once_a_second(serve):
-    with Apart(serve, 2, started=[1], more="patience = 500") as sites:
-        sites[1].until_told("site 1 is ready")
-        address = ("127.0.0.1", sites.peers[0])
-        began = time.monotonic()
-        silent = socket.create_connection(address)
-        assert is_let_go(silent) and 0.4 < time.monotonic() - began < 3
-        began = time.monotonic()
-        count = 0
-        # noise, of a site that there isn't, of this one itself, and for another
-        while time.monotonic() - began < 2.5:
-            for what in (b"GET / HTTP/1.0\r\n\r\n", frame(3, 1, 2), frame(1, 2, 2), frame(2, 3, 3)):
-                stranger = socket.create_connection(address)
-                stranger.sendall(what)
-                assert is_let_go(stranger), what
-                stranger.close()
-                count += 1
-        refused = [line for line in sites[1].log() if "is refused: " in line]
-        assert 2 <= len(refused) <= 4, refused
-        told = sites[1].stops()
-        assert told["frames_refused"] >= count, (told, count)
-
-
-@test
-def a_peer_whose_name_is_unknown_keeps_nobody_waiting(serve):
-    [client, peer] = serve.free_ports(2)
-    text = serve.configured([client, 1], [peer, 1], 1, link="tcp").replace('peer = "127.0.0.1:1"', 'peer = "nowhere.invalid:1"')
-    with tempfile.NamedTemporaryFile("w", suffix=".toml") as file:
-        file.write(text.replace("sessions = 1\n", ""))
-        file.flush()
-        one = Site(serve, [serve.PROGRAM, "serve", file.name, "1"], client)
-        try:
-            one.until_told("the link from site 1 to site 2 is down: ")
-            user = one.client()
-            stored(user, b"a", b"hi")
-            user.quit()
-            one.says(b"stop\n")
-            serve.has(one.ends(), sessions=1, faults=0, audit="skipped")
-        finally:
-            one.kill()
-
-
-@test
-def each_fault_of_a_call_for_one_site_is_told(serve):
-    def outcome(text, *words):
-        with tempfile.NamedTemporaryFile("w", suffix=".toml") as file:
-            file.write(text)
-            file.flush()
-            command = [serve.PROGRAM, "serve", file.name, *words]
-            done = subprocess.run(command, stdin=subprocess.DEVNULL, capture_output=True, timeout=serve.PATIENCE)
-            assert done.stdout == b"", done
-            return done.returncode, done.stderr.decode()
-
-    [client, peer] = serve.free_ports(2)
-    whole = serve.configured([client], [peer], 1, link="tcp")
-    endless = whole.replace("sessions = 1\n", "")
-    usage = (2, "usage: geocache script | geocache serve FILE\n")
-    for word in ("0", "2", "17", "256", "-1", "one", ""):
-        assert outcome(endless, word) == usage, (word, outcome(endless, word))
-    assert outcome(endless, "1", "1") == usage
-    assert outcome(endless) == (2, "configuration: missing sessions\n")
-    memory = serve.configured([client], [peer], 1)
-    for text, owed in (
-        (memory, "out of range link"),
-        (memory.replace("sessions = 1\n", ""), "out of range link"),
-        (memory.replace('link = "memory"\n', ""), "out of range link"),
-        ("patience = 99\n" + endless, "out of range patience"),
-        ("patience = 600001\n" + endless, "out of range patience"),
-        ("drain = -1\n" + endless, "out of range drain"),
-        ("drain = 600001\n" + endless, "out of range drain"),
-        ("drain = true\n" + endless, "wrong type drain"),
-        ("sessions = 0\n" + endless, "out of range sessions"),
-        ("sessions = true\n" + endless, "wrong type sessions"),
-        ("", "missing site"),
-    ):
-        assert outcome(text, "1") == (2, f"configuration: {owed}\n"), (text, outcome(text, "1"))
-    with socket.create_server(("127.0.0.1", 0)) as taken:
-        port = taken.getsockname()[1]
-        told = outcome(serve.configured([client], [port], 1, link="tcp"), "1")
-        assert told == (4, f"cannot listen on 127.0.0.1:{port}\n"), told
-
-
 def launched(serve, folder):
     """The launching script beside a copy of the program, which is newer than its sources: there are none."""
     os.makedirs(f"{folder}/crates/geocache/out")
@@ -756,27 +412,6 @@ def launched(serve, folder):
         pass
     shutil.copy(serve.PROGRAM, f"{folder}/crates/geocache/out/geocache")
     return f"{folder}/geocache"
-
-
-def through_the_script(serve, ask):
-    """Starts two sites by the launching script, and has the first stop as this function asks it to."""
-    with tempfile.TemporaryDirectory() as folder, Apart(serve, 2, started=[], every=1000) as sites:
-        script = launched(serve, folder)
-        for number in (1, 2):
-            command = sites.command(number, sites.peers)
-            sites.sites[number] = Site(serve, [script, *command[1:]], sites.clients[number - 1])
-        sites.until_joined()
-        one, two = sites[1].client(), sites[2].client()
-        for number in range(100):
-            stored(one, b"k%d" % number, b"x")
-        ask(sites[1])
-        told = sites[1].ends()
-        serve.has(told, sessions=1, faults=0, audit="skipped")
-        assert one.is_closed()
-        serve.until("all records at site 2", lambda: serve.stat(two, b"records") == 100)
-        two.quit()
-        sites[2].says(b"stop\n")
-        sites[2].ends()
 
 
 class Spread:
@@ -832,61 +467,3 @@ def keys_are_spread_over_two_clusters(serve):
         for sites in (red, blue):
             for number in (1, 2):
                 serve.has(sites[number].stops(), frames_refused=0)
-
-
-@test
-def sigterm_at_the_script_stops_a_site(serve):
-    through_the_script(serve, lambda site: os.kill(site.process.pid, signal.SIGTERM))
-
-
-@test
-def ctrl_c_stops_a_site(serve):
-    # a terminal's Ctrl-C goes to all that run in the foreground
-    through_the_script(serve, lambda site: os.killpg(site.process.pid, signal.SIGINT))
-
-
-@test
-def a_sigterm_for_the_whole_group_stops_a_site(serve):
-    through_the_script(serve, lambda site: os.killpg(site.process.pid, signal.SIGTERM))
-
-
-@test
-def a_second_signal_kills(serve):
-    with tempfile.TemporaryDirectory() as folder, Apart(serve, 1, started=[], more="drain = 60000") as sites:
-        command = sites.command(1, sites.peers)
-        site = Site(serve, [launched(serve, folder), *command[1:]], sites.clients[0])
-        sites.sites[1] = site
-        client = site.client()
-        stored(client, b"k", b"x" * 100_000)
-        client.socket.settimeout(0.5)
-        try:
-            for _ in range(200):
-                client.send(b"get k\r\n" * 10)
-        except (TimeoutError, OSError):
-            pass
-        os.kill(site.process.pid, signal.SIGTERM)
-        site.until_told("site 1 stops")
-        time.sleep(0.5)
-        assert site.process.poll() is None
-        os.kill(site.process.pid, signal.SIGTERM)
-        site.process.communicate(timeout=5)
-        assert site.process.returncode == 128 + signal.SIGKILL, site.process.returncode
-        assert not re.search("is ready", site.log()[-1])
-
-
-@test
-def the_script_tells_where_all_sites_listen_and_when_they_do(serve):
-    ports = serve.free_ports(2)
-    with tempfile.TemporaryDirectory() as folder, tempfile.NamedTemporaryFile("w", suffix=".toml") as file:
-        file.write(serve.configured(ports, [0, 0], 1))
-        file.flush()
-        whole = Site(serve, [launched(serve, folder), "serve", file.name], ports[0])
-        try:
-            whole.until_told("geocache: the sites are ready")
-            where = " ".join(f"127.0.0.1:{port}" for port in ports)
-            assert whole.log() == [f"geocache: the sites listen for clients at {where}", "geocache: the sites are ready"], whole.log()
-            for port in ports:
-                serve.Client(port).quit()
-            serve.has(whole.ends(), sessions=2, requests=2, faults=0, audit="sound")
-        finally:
-            whole.kill()
