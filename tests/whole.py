@@ -5,6 +5,7 @@ With an allocation refused a script's output is a beginning of that, with status
 answers each request with what is owed or that it is out of memory, or closes the connection, and counts that as a fault or doesn't count
 the session; where one allocation alone is refused, the next request, or the next client, is answered; it ends by itself.
 """
+import contextlib
 import itertools
 import os
 import re
@@ -19,6 +20,11 @@ OUT_OF_MEMORY = b"out of memory\n"
 REFUSED = b"SERVER_ERROR out of memory\r\n"
 SESSIONS = 6
 CUT = re.compile(rb"the link from site \d to site \d is cut\n")
+# What a site that runs alone may tell while it runs. A line for which there is no memory is lost.
+TOLD = re.compile(
+    rb"site 1 (listens for clients at .*, and for sites at .*|is ready|stops)\n|the link from site \d to site \d is (up|down: .*)\n"
+    rb"|a frame from (site \d|a stranger) is refused: .*\n"
+)
 # Below those that the system gives to whoever connects: so no client has one, and no two runs beside each other.
 PORTS = itertools.cycle(range(10_000, 32_000))
 # How often a server is started whose port another program took meanwhile.
@@ -184,9 +190,9 @@ class Talk:
         self.opened = self.closed = self.refused = 0
         self.is_done = False
 
-    def fault(self, told, later):
-        """What is wrong with it beside the end's sums, or None."""
-        faults, lost = told[b"faults"], 2 * SESSIONS - told[b"sessions"]
+    def fault(self, told, sites, later):
+        """What is wrong with it beside the end's sums of so many sites, or None."""
+        faults, lost = told[b"faults"], sites * SESSIONS - told[b"sessions"]
         if lost < 0 or self.closed > faults + lost:
             return f"{self.closed} connections were closed, {faults} faults and {lost} lost"
         if later:
@@ -200,15 +206,17 @@ class Talk:
 class Server:
     """Two sites, and a client that tries each command at the first while the second is told of it, and fetches the bytes where it is to."""
 
-    def __init__(self, program, library, link, fills):
+    sites, audit = 2, b"sound"
+
+    def __init__(self, program, library, link, fills, name=None):
         self.program, self.library, self.link, self.fills = program, library, link, fills
-        self.name = f"serve over {link}{' with fills' if fills else ''}"
+        self.name = name or f"serve over {link}{' with fills' if fills else ''}"
         (counted, refused), wrong, talk = self.run(0, False)
         is_well = wrong is None and refused == 0 and talk.is_done and talk.closed + talk.refused == 0
         self.counted = counted if is_well else 0
 
-    def started(self, number, later, report):
-        ports = free_ports(4)
+    def configured(self, ports):
+        """A file with the configuration."""
         lines = [f"pages = 15\nsessions = {SESSIONS}\nevery = 1\nlink = \"{self.link}\"\n"]
         if self.fills:
             lines.append("fills = true\n")
@@ -218,9 +226,18 @@ class Server:
         file = tempfile.NamedTemporaryFile("w", suffix=".toml")
         file.write("".join(lines))
         file.flush()
+        return file
+
+    def started(self, number, later, report):
+        """The program, its ports, and what is let go of once it has ended."""
+        ports = free_ports(4)
+        file = self.configured(ports)
+        return self.launched([file.name], number, later, report), ports, file
+
+    def launched(self, words, number, later, report):
         env = {**refusing(self.library, "start", number, later), "REFUSE_REPORT": report.name}
-        pipe = subprocess.PIPE
-        return subprocess.Popen([self.program, "serve", file.name], stdout=pipe, stderr=pipe, env=env), ports, file
+        pipe, none = subprocess.PIPE, subprocess.DEVNULL
+        return subprocess.Popen([self.program, "serve", *words], stdin=none, stdout=pipe, stderr=pipe, env=env)
 
     def connect(self, process, port):
         """A client, or None where the program has ended."""
@@ -261,6 +278,11 @@ class Server:
                 return
             client.close()
 
+    def use_up_all(self, process, ports, opened):
+        """The same at each site that runs in the program. The first has had so many."""
+        self.use_up(process, ports[0], opened)
+        self.use_up(process, ports[1], 0)
+
     def run(self, number, later):
         """How many allocations were counted and refused, what is wrong, and what came of the clients."""
         for _ in range(STARTS):
@@ -277,8 +299,7 @@ class Server:
                 talk = Talk()
                 try:
                     talk = self.talk(process, ports[0])
-                    self.use_up(process, ports[0], talk.opened)
-                    self.use_up(process, ports[1], 0)
+                    self.use_up_all(process, ports, talk.opened)
                     output, errors = process.communicate(timeout=PATIENCE)
                     counts = counts_in(report)
                     return counts, self.fault_of(process.returncode, output, errors, talk, counts, number, later), talk, errors
@@ -297,8 +318,7 @@ class Server:
         # Threads make as many allocations as their turns come to, so that the last of a run may be none of another.
         if (refused > 0) != (0 < number <= counted):
             return f"{refused} of {counted} allocations were refused"
-        # a link on which there was no memory for what was asked for is cut, and comes back
-        others = [line for line in errors.splitlines(True) if not (self.fills and CUT.fullmatch(line))]
+        others = [line for line in errors.splitlines(True) if not self.may_tell(line)]
         if not is_told(status, b"".join(others)):
             return f"status {status}, {errors!r}"
         if number > 0 and refused > 0 and status in (3, 4) and not output:
@@ -306,9 +326,39 @@ class Server:
         if status != 0:
             return f"status {status}, {output!r}"
         told = dict(line.split(b" ", 1) for line in output.splitlines())
-        if told[b"audit"] != b"sound":
+        if told[b"audit"] != self.audit:
             return f"{output!r}"
-        return talk.fault({name: int(told[name]) for name in (b"sessions", b"faults")}, later)
+        return talk.fault({name: int(told[name]) for name in (b"sessions", b"faults")}, self.sites, later)
+
+
+    def may_tell(self, line):
+        """Whether a line may stand on standard error however a server ends."""
+        # a link on which there was no memory for what was asked for is cut, and comes back
+        return self.fills and CUT.fullmatch(line)
+
+
+class Alone(Server):
+    """The same, with the first site alone in the program that is refused memory. It ends by itself, and the other one is told to."""
+
+    sites, audit = 1, b"skipped"
+
+    def __init__(self, program, library):
+        super().__init__(program, library, "tcp", True, "serve one site with fills")
+
+    def started(self, number, later, report):
+        ports = free_ports(4)
+        held = contextlib.ExitStack()
+        file = held.enter_context(self.configured(ports))
+        pipe, quiet = subprocess.PIPE, subprocess.DEVNULL
+        other = subprocess.Popen([self.program, "serve", file.name, "2"], stdin=pipe, stdout=quiet, stderr=quiet)
+        held.callback(other.communicate, b"stop\n", PATIENCE)
+        return self.launched([file.name, "1"], number, later, report), ports, held
+
+    def use_up_all(self, process, ports, opened):
+        self.use_up(process, ports[0], opened)
+
+    def may_tell(self, line):
+        return TOLD.fullmatch(line)
 
 
 def is_told(status, errors):
@@ -326,4 +376,5 @@ def subjects(program, library):
     for link in ("memory", "tcp"):
         for fills, words in ((False, ""), (True, " with fills")):
             found.append((f"serve over {link}{words}", lambda link=link, fills=fills: Server(program, library, link, fills)))
+    found.append(("serve one site with fills", lambda: Alone(program, library)))
     return found
