@@ -13,6 +13,7 @@ import time
 
 import apart
 import pages
+import parted
 from served import serve
 
 DIGITS = r"\d+"
@@ -331,7 +332,7 @@ def provoked(sites):
     address = ("127.0.0.1", sites.peers[0])
     with socket.create_connection(address) as stranger:
         stranger.sendall(b"GET / HTTP/1.0\r\n\r\n")
-        assert apart.is_let_go(stranger)
+        assert parted.is_let_go(stranger)
     one.until_told("a frame from a stranger is refused: ")
     sites[2].kill()
     one.until_told("the link from site 1 to site 2 is down: ")
@@ -339,10 +340,10 @@ def provoked(sites):
     # at most once a second
     time.sleep(1.2)
     with socket.create_connection(address) as known:
-        known.sendall(apart.frame(2, 1, 2))
+        known.sendall(parted.frame(2, 1, 2))
         serve.until("the link of one that says it is site 2", lambda: one.log().count("the link from site 2 to site 1 is up") == 2)
         known.sendall(b"GET / HTTP/1.0\r\n\r\n" * 4)
-        assert apart.is_let_go(known)
+        assert parted.is_let_go(known)
     one.until_told("a frame from site 2 is refused: ")
     one.stops()
     return one.log()
