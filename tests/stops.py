@@ -145,7 +145,9 @@ def a_client_that_never_reads_is_let_go_once_the_drain_is_over(serve):
         told = one.stops()
         passed = time.monotonic() - began
         assert 0.9 < passed < 4, passed
-        serve.has(told, sessions=1, faults=1, audit="sound")
+        serve.has(told, sessions=1, audit="sound")
+        # a fault where some of what it is owed could not be written, and none where the system had taken all that was answered
+        assert told["faults"] <= 1 and told["requests"] < 2001, told
         silent.close()
 
 
