@@ -219,31 +219,8 @@ fn ask_peer<R: Wait, L: Ledger, K: Link>(
     (done, true)
 }
 
-/// The first keys that a site lacks the bytes of, by rising key.
-fn lacked<R: Wait, L: Ledger>(
-    rt: &R,
-    alloc: Global,
-    station: &Station<L>,
-    now: u64,
-) -> Result<Vec<Missing>, AllocError>
-    ensures { IfOk result (λ sought. length sought.items ≤ 64) }
-{
-    let mut sought: Vec<Missing> = Vec::with_capacity(alloc, MOST_ASKED)?;
-    while sought.len() < MOST_ASKED {
-        let after = match sought.last() {
-            Some(last) => Some(&last.key),
-            None => None,
-        };
-        match station.missing(rt, alloc, now, after)? {
-            Some(missing) => sought.push(missing)?,
-            None => return Ok(sought),
-        }
-    }
-    Ok(sought)
-}
-
-/// Asks other sites for bytes that the site lacks: for those of the first 64 keys that [`Station::missing`] gives at a moment in
-/// seconds. Each peer, in their order, is asked for all that the ones before have not brought, by one ask at a time and the offer that
+/// Asks other sites for bytes that the site lacks: for those of the 64 keys that [`Station::first_missing`] gives at a moment
+/// in seconds. Each peer, in their order, is asked for all that the ones before have not brought, by one ask at a time and the offer that
 /// answers it, and the station fills with what is offered. It tells how many of the fills were done.
 ///
 /// A peer whose link fails is left for the rest of the fetch; so is one that the site doesn't know. A peer that answers by anything but
@@ -263,7 +240,7 @@ pub fn fetch<R: Wait, L: Ledger, K: Link>(
     ensures steps { seat.old.steps + result ≤ seat.new.steps }
     ensures stays { seat.new ≡ record seat.old { steps = seat.new.steps } }
 {
-    let Ok(mut sought) = lacked(rt, alloc, station, now) else {
+    let Ok(mut sought) = station.first_missing(rt, alloc, now, MOST_ASKED) else {
         return 0;
     };
     let mut done = 0;

@@ -15,6 +15,7 @@ pub mod Due
 pub mod Reaping
 pub mod Fetching
 pub mod Found
+pub mod Gathered
 pub mod Stocking
 pub mod Taking
 pub mod Sending

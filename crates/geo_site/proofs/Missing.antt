@@ -110,7 +110,7 @@ least_some test first (k ∷ ks) found h = by (precedes first k && test k) refl 
             below_order.chain k f found (not_first (is_below k f) (test k) passing fails) (rest.before f is)
 
 -- of a key without a record nothing is missing
-missing_recorded : (r : Record) (now : ℕ) (o : Option (List ℕ)) (stock : Stock) → lacks_by now (version_in r) o stock ≡ true → has_register r ≡ true
+pub missing_recorded : (r : Record) (now : ℕ) (o : Option (List ℕ)) (stock : Stock) → lacks_by now (version_in r) o stock ≡ true → has_register r ≡ true
 missing_recorded (None, e) now o stock h = absurd (true≢false (sym h))
 missing_recorded (Some b, e) now o stock h = refl
 

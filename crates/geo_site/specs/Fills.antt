@@ -1,5 +1,5 @@
 -- Bytes that are offered to a site: of a key that its version names and that it does not hold.
-use Rattle.std.specs.Prelude.{◌≡◌, ℕ, Bool, true, false, cond, not, ◌&&◌, List, length, Option, None, Some, is_some, Result, Ok, Err}
+use Rattle.std.specs.Prelude.{◌≡◌, ℕ, zero, suc, Bool, true, false, cond, not, ◌&&◌, List, [], ◌∷◌, length, take, Option, None, Some, is_some, Result, Ok, Err}
 use Rattle.std.specs.Ordering.{nat_cmp, is_lt}
 use Rattle.std.specs.Cmp.Lexicographic.{slice_cmp}
 use Rattle.std.specs.declared.alloc.AllocError.{AllocError}
@@ -82,6 +82,12 @@ IsFirstMissing st now after None = (q : List ℕ) → is_after after q ≡ true 
 IsFirstMissing st now after (Some key) = (is_after after key ≡ true) × (is_missing st now key ≡ true)
     × ((q : List ℕ) → is_after after q ≡ true → is_missing st now q ≡ true → is_below q key ≡ false)
 
+-- the least keys after another of which bytes are missing, so many at most, in their order
+abbrev pub AreFirstMissing : SiteState → ℕ → Option (List ℕ) → ℕ → List (List ℕ) → Type 0
+AreFirstMissing st now after zero keys = keys ≡ []
+AreFirstMissing st now after (suc most) [] = IsFirstMissing st now after None
+AreFirstMissing st now after (suc most) (key ∷ keys) = IsFirstMissing st now after (Some key) × AreFirstMissing st now (Some key) most keys
+
 -- the expiry that a register shows
 abbrev pub expiry_shown : Register ℕ → ℕ
 expiry_shown None = 0
@@ -98,3 +104,21 @@ earlier test first (Some key) = cond (precedes first key && test key) (Some key)
 
 abbrev pub is_sought : SiteState → ℕ → Option (List ℕ) → List ℕ → Bool
 is_sought st now after key = is_after after key && is_missing st now key
+
+-- each key comes after the one before it
+abbrev pub Rises : Option (List ℕ) → List (List ℕ) → Type 0
+Rises low [] = Unit {0}
+Rises low (key ∷ keys) = (is_after low key ≡ true) × Rises (Some key) keys
+
+-- a key comes to its place among rising keys
+abbrev pub placed : List ℕ → List (List ℕ) → List (List ℕ)
+placed key [] = key ∷ []
+placed key (k ∷ ks) = cond (is_below key k) (key ∷ (k ∷ ks)) (k ∷ placed key ks)
+
+-- a key that passes a test comes among the least, so many at most
+abbrev pub noted : (List ℕ → Bool) → ℕ → List (List ℕ) → List ℕ → List (List ℕ)
+noted test most found key = cond (test key) (take most (placed key found)) found
+
+abbrev pub noted_at : (List ℕ → Bool) → ℕ → List (List ℕ) → Option (List ℕ) → List (List ℕ)
+noted_at test most found None = found
+noted_at test most found (Some key) = noted test most found key

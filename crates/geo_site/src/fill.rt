@@ -1,5 +1,5 @@
 //! Bytes that a site's versions name and that it does not hold: which it misses, and what others offer it.
-ghost use Rattle.std.specs.Prelude.{◌≡◌, ◌≤◌, ◌&&◌, not, ℕ, List, true, length, slice_get, option_copied, IfOk, IfSome};
+ghost use Rattle.std.specs.Prelude.{◌≡◌, ◌≤◌, ◌&&◌, not, ℕ, List, true, length, slice_get, option_copied, None, IfOk, IfSome, OnOk};
 ghost use Rattle.geo_records.specs.Operations.{version_in};
 ghost use Rattle.geo_slabs.specs.Chunks.{page_bytes};
 ghost use Rattle.geo_values.specs.Held.{stock_in};
@@ -8,8 +8,9 @@ ghost use Rattle.geo_versions.specs.Maps.{rec_means, keys_in};
 ghost use Rattle.geo_site.specs.Entries.{names};
 ghost use Rattle.geo_site.specs.Machine.{class_for};
 ghost use Rattle.geo_site.specs.Sites.{state_in};
-ghost use Rattle.geo_site.specs.Fills.{FillDoes, FillShows, IsFirstMissing, is_filled, expiry_shown, lacks_by, is_after, is_sought, precedes, earlier};
+ghost use Rattle.geo_site.specs.Fills.{FillDoes, FillShows, IsFirstMissing, AreFirstMissing, Rises, noted_at, is_filled, expiry_shown, lacks_by, is_after, is_sought, precedes, earlier};
 
+use crate::gather::{is_beyond, place};
 use crate::site::Site;
 use geo_memcache::live;
 use geo_values::{Blob, Values};
@@ -160,6 +161,49 @@ impl Site {
                 }
             }
         }
+    }
+
+    /// Notes the key at a place among the least missing ones that were found so far, if that is one.
+    fn note_missing(
+        &self,
+        alloc: Global,
+        now: u64,
+        after: Option<&Key>,
+        most: usize,
+        found: &mut Vec<Key>,
+        at: usize,
+    ) -> Result<(), AllocError>
+        requires few { length found.old.items ≤ most }
+        requires rises { Rises None found.old.items }
+        ensures { OnOk result (found.new.items ≡ noted_at (is_sought (state_in self.now) now (option_copied after.entry)) most
+            found.old.items (slice_get (keys_in self.now.versions) at)) }
+    {
+        let Some((key, rec)) = self.versions.entry(at) else {
+            return Ok(());
+        };
+        let is_one = is_between(after, None, key) && !is_beyond(found.as_slice(), most, key);
+        if !is_one || !are_missing(&self.values, now, key, rec) {
+            return Ok(());
+        }
+        place(alloc, found, most, key)
+    }
+
+    /// The keys that [`Site::missing`] would give one after the other, so many at most. It passes over all records, once, and is refused
+    /// where memory for copies of keys is.
+    pub fn first_missing(
+        &self,
+        alloc: Global,
+        now: u64,
+        after: Option<&Key>,
+        most: usize,
+    ) -> Result<Vec<Key>, AllocError>
+        ensures { IfOk result (λ keys. AreFirstMissing (state_in self.now) now (option_copied after.entry) most keys.items) }
+    {
+        let mut found = Vec::new(alloc);
+        for at in 0..self.versions.len() {
+            self.note_missing(alloc, now, after, most, &mut found, at)?;
+        }
+        Ok(found)
     }
 
     /// The bytes that are held of a key, at most a mebibyte, where they have this SHA-256. No access is counted, and nothing is hashed or

@@ -15,6 +15,7 @@ pub mod exchange;
 pub mod fetch;
 pub mod fill;
 pub mod flush;
+mod gather;
 pub mod notes;
 pub mod passed;
 pub mod places;

@@ -2,4 +2,5 @@ pub mod Endings
 pub mod Closing
 pub mod Lasts
 pub mod Counting
+pub mod Firsts
 pub mod Fitting

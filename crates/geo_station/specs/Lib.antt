@@ -2,4 +2,5 @@ pub mod Seats
 pub mod Endings
 pub mod Maintenance
 pub mod Calls
+pub mod Lacking
 pub mod Eras

@@ -340,6 +340,20 @@ impl<L: Ledger> Station<L> {
         self.desk.lock(rt).missing(alloc, now, after)
     }
 
+    /// What the site lacks of the keys that [`Station::missing`] would give one after the other from the least on, so many at most. It is no
+    /// step. It passes over all records, once, while the others wait.
+    pub fn first_missing(
+        &self,
+        rt: &impl Wait,
+        alloc: Global,
+        now: u64,
+        most: usize,
+    ) -> Result<Vec<Missing>, AllocError>
+        ensures few { IfOk result (λ lacked. length lacked.items ≤ most) }
+    {
+        self.desk.lock(rt).first_missing(alloc, now, most)
+    }
+
     /// A copy of the bytes, at most a mebibyte, that the site holds of a key, where they have this SHA-256. It is no step, and counts no
     /// access.
     pub fn offer(
