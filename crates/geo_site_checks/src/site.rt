@@ -1,4 +1,5 @@
 //! Tables of lines that sites carry out, each with what it is to append.
+mod lacking;
 mod lines;
 mod retired;
 mod shown;
@@ -111,6 +112,11 @@ fn what_a_retired_site_told_is_forgotten_once_all_others_say_so(
     rt: HostRuntime,
 ) -> Result<(), Fail> {
     plays(&rt, retired::RETIREMENTS)
+}
+
+#[test]
+fn what_a_site_lacks_of_what_it_learned(rt: HostRuntime) -> Result<(), Fail> {
+    plays(&rt, lacking::LACKS)
 }
 
 #[test]

@@ -49,8 +49,12 @@ enum Call {
     Exchange,
     /// A new era after so many steps.
     Renew(u64),
+    /// The second site answers a request in the text of the protocol, at the moment 100.
+    Other(&'static [u8]),
     /// What the site lacks above a key, at the moment 100.
     Missing(Option<&'static [u8]>),
+    /// What it lacks of the least keys, so many at most, at the moment 100.
+    FirstMissing(usize),
     /// These bytes of the key a.
     Fill(&'static [u8]),
     /// What the site offers of the key a for the SHA-256 of these bytes.
@@ -97,7 +101,21 @@ fn key(alloc: Global, name: &[u8]) -> Option<Key> {
     Key::new(alloc, name).ok()?
 }
 
-/// Writes what a site lacks above a key: its number and that of the sites, the key, and whether the SHA-256 is that of these bytes.
+/// Has the second site answer a request.
+fn act_other(alloc: Global, other: &mut Site, text: &[u8], out: &mut Vec<u8>) -> Option<()> {
+    let request = request(alloc, text)?;
+    let reply = other.act(alloc, 100, &request);
+    push_reply(out, &reply).ok()
+}
+
+/// Writes what a site lacks: its number and that of the sites, the key, and whether the SHA-256 is that of these bytes.
+fn say_missing(alloc: Global, out: &mut Vec<u8>, missing: &Missing) -> Option<()> {
+    let is_yo = missing.digest == Digest::of(b"yo");
+    let told = (missing.from, missing.sites, missing.key.bytes(), is_yo);
+    say(alloc, out, &told)
+}
+
+/// Writes what a site lacks above a key.
 fn miss<L: Ledger>(
     rt: &impl Wait,
     alloc: Global,
@@ -110,20 +128,25 @@ fn miss<L: Ledger>(
         None => None,
     };
     match station.missing(rt, alloc, 100, after.as_ref()).ok()? {
-        Some(
-            Missing {
-                from,
-                sites,
-                key,
-                digest,
-            },
-        ) => say(
-            alloc,
-            out,
-            &(from, sites, key.bytes(), digest == Digest::of(b"yo")),
-        ),
+        Some(missing) => say_missing(alloc, out, &missing),
         None => out.extend_from_slice(b"nothing\n").ok(),
     }
+}
+
+/// Writes of how many keys a site lacks bytes, so many at most, and of which.
+fn miss_first<L: Ledger>(
+    rt: &impl Wait,
+    alloc: Global,
+    station: &Station<L>,
+    most: usize,
+    out: &mut Vec<u8>,
+) -> Option<()> {
+    let lacked = station.first_missing(rt, alloc, 100, most).ok()?;
+    say(alloc, out, &lacked.len())?;
+    for missing in &lacked {
+        say_missing(alloc, out, missing)?;
+    }
+    Some(())
 }
 
 /// Offers a site bytes, and writes what came of them.
@@ -169,7 +192,9 @@ fn answer<L: Ledger>(
         Call::Maintain => say(alloc, out, &station.maintain(rt, alloc, seat, 211).ok()?),
         Call::Renew(after) => say(alloc, out, &station.renew(rt, alloc, after).ok()?.is_some()),
         Call::Send(to) => say(alloc, out, &station.send(rt, alloc, seat, to).err()),
+        Call::Other(text) => act_other(alloc, other, text, out),
         Call::Missing(after) => miss(rt, alloc, station, after, out),
+        Call::FirstMissing(most) => miss_first(rt, alloc, station, most, out),
         Call::Fill(bytes) => fill(rt, alloc, station, seat, bytes, out),
         Call::Offer(bytes) => offer(rt, alloc, station, bytes, out),
         Call::Retire(other) => say(alloc, out, &station.retire(rt, alloc, seat, other)),
@@ -357,6 +382,19 @@ const FILLED: &[Call] = &[
     Call::Offer(b"yo"),
 ];
 
+/// A site that learned of three values is told of the first of them at once, by rising key.
+const LACKING: &[Call] = &[
+    Call::FirstMissing(9),
+    Call::Other(b"set c 0 0 1\r\nx\r\n"),
+    Call::Other(b"set b 0 0 2\r\nyo\r\n"),
+    Call::Exchange,
+    Call::FirstMissing(2),
+    Call::FirstMissing(9),
+    Call::FirstMissing(0),
+    Call::Fill(b"yo"),
+    Call::FirstMissing(1),
+];
+
 /// A site is retired once, and no number of none.
 const RETIRED: &[Call] = &[
     Call::Act(b"set a 0 0 2\r\nhi\r\n"),
@@ -446,6 +484,17 @@ const ROWS: &[(u8, &[Call], &[u8])] = &[
           seat 0 step 5: fill of 2; Done\n\
           seat 0 step 6: fill of 2; Held\n\
           seat 0 step 7: act at 100; VALUE a 0 2\r\nyo\r\nEND\r\n\n",
+    ),
+    (
+        2,
+        LACKING,
+        b"0\nSTORED\r\nSTORED\r\n2\n(1, 2, [97], true)\n(1, 2, [98], true)\n\
+          3\n(1, 2, [97], true)\n(1, 2, [98], true)\n(1, 2, [99], false)\n0\nDone\n1\n(1, 2, [98], true)\n\
+          2 calls, false, Missing\n\
+          share 3\n\
+          seat 0 step 1: send to 2; sent to 2\n\
+          seat 0 step 2: take from 2; Taken { rose: true, dropped: 0 }\n\
+          seat 0 step 3: fill of 2; Done\n",
     ),
 ];
 

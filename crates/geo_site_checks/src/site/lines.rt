@@ -73,6 +73,8 @@ fn ask(
     match word {
         "reap" => reap(alloc, site, rest, out),
         "due" => push_due(site, number(rest), out),
+        "missing" => push_missing(alloc, site, rest, out),
+        "first" => push_first_missing(alloc, site, rest, out),
         "retire" => retire(site, small(rest), out),
         "horizon" => push_count(alloc, out, site.horizon()),
         "remove" => push_count(alloc, out, site.remove() as u64),
@@ -264,6 +266,40 @@ fn push_due(site: &Site, now: u64, out: &mut Vec<u8>) -> Result<(), AllocError> 
         Some(key) => out.extend_from_slice(key.bytes()),
         None => push(out, "none"),
     }
+}
+
+/// `missing NOW`, `missing NOW AFTER`: the least key, or the least above another, whose bytes are missing at a moment.
+fn push_missing(
+    alloc: Global,
+    site: &Site,
+    rest: &str,
+    out: &mut Vec<u8>,
+) -> Result<(), AllocError> {
+    let (now, after) = cut(rest);
+    let after = Key::new(alloc, after.as_bytes())?;
+    match site.missing(number(now), after.as_ref()) {
+        Some(key) => out.extend_from_slice(key.bytes()),
+        None => push(out, "none"),
+    }
+}
+
+/// `first COUNT NOW`, `first COUNT NOW AFTER`: so many of these keys at most, with a comma behind each.
+fn push_first_missing(
+    alloc: Global,
+    site: &Site,
+    rest: &str,
+    out: &mut Vec<u8>,
+) -> Result<(), AllocError> {
+    let (most, rest) = cut(rest);
+    let (now, after) = cut(rest);
+    let after = Key::new(alloc, after.as_bytes())?;
+    let most = number(most) as usize;
+    let keys = site.first_missing(alloc, number(now), after.as_ref(), most)?;
+    for key in &keys {
+        out.extend_from_slice(key.bytes())?;
+        push(out, ",")?;
+    }
+    Ok(())
 }
 
 /// `holds KEY`: whether a site has its bytes.
