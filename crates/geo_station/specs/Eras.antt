@@ -1,6 +1,7 @@
 -- When a call ends an era.
-use Rattle.std.specs.Prelude.{◌≡◌, ◌⊎◌, true, false, [], Option, None, Some, Result, Ok, Err}
+use Rattle.std.specs.Prelude.{◌≡◌, ◌⊎◌, true, false, List, [], ◌∷◌, Vec, Option, None, Some, Result, Ok, Err}
 use Rattle.std.specs.declared.alloc.AllocError.{AllocError}
+use Rattle.std.specs.declared.alloc.Global.{Global}
 use Rattle.geo_history.specs.declared.history.History.{History}
 use Rattle.geo_history.specs.declared.kept.Kept.{Kept}
 use Rattle.geo_history.specs.Sizes.{fills}
@@ -19,3 +20,12 @@ abbrev pub EndsWhereFull : Kept → Result (Option History) AllocError → Type 
 EndsWhereFull kept (Ok (Some history)) = EndsFull kept history
 EndsWhereFull kept (Ok None) = (is_full kept ≡ false) ⊎ ((story_in kept).opening.era ≡ last_era)
 EndsWhereFull kept (Err refused) = is_full kept ≡ true
+
+-- of the histories that a call hands out the first, if there is one
+abbrev pub first_ended : List History → Option History
+first_ended [] = None
+first_ended (history ∷ more) = Some history
+
+abbrev pub ended_by : Result (Vec History Global) AllocError → Result (Option History) AllocError
+ended_by (Ok histories) = Ok (first_ended histories.items)
+ended_by (Err refused) = Err refused

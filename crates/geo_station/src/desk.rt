@@ -1,10 +1,11 @@
 //! What lies under a station's lock.
-ghost use Rattle.std.specs.Prelude.{◌≡◌, ◌≢◌, ◌+◌, ◌≤◌, ◌<◌, ◌^◌, ℕ, [], true, false, cond, length, ◌⊎◌, Result, Ok, IfOk, IfErr, IfSome, IfNone};
+ghost use Rattle.std.specs.Prelude.{◌≡◌, ◌≢◌, ◌+◌, ◌≤◌, ◌<◌, ◌^◌, ℕ, [], true, false, cond, length, vec_capacity, ◌⊎◌, Result, Ok, IfOk, IfErr, IfSome, IfNone};
 ghost use Rattle.sha2.specs.Sha256.{sha256};
 ghost use Rattle.geo_delta.specs.Ranges.{InRange};
 ghost use Rattle.geo_grammar.specs.declared.reply.Reply.TheVariants.{OutOfMemory};
 ghost use Rattle.geo_history.specs.Keeping.{most_steps, made_by, made_in_all, is_flush_due, RetireForDoes};
-ghost use Rattle.geo_history.specs.Stories.{story_in, last_era};
+ghost use Rattle.geo_history.specs.Stories.{story_in, last_era, is_full};
+ghost use Rattle.geo_station.specs.Eras.{ended_by};
 ghost use Rattle.geo_station.specs.Seats.{IsLawful};
 ghost use Rattle.geo_station.specs.declared.desk.Unmade.TheVariants.{Spent};
 ghost use Rattle.geo_station.specs.declared.refusal.CallError.TheVariants.{SeatSpent};
@@ -36,8 +37,9 @@ pub struct Desk<L: Ledger> {
 }
 
 /// What became of the era with a call: the history that ended, where its steps kept as many bytes as they may; Err where memory for a
-/// new era was wanted. Whoever lets go of it holds up no other once the lock is free.
-pub(crate) type Ended = Result<Option<History>, AllocError>;
+/// new era was wanted. Whoever lets go of it holds up no other once the lock is free. A history is large, and mostly there is none: so it
+/// is a list of at most one.
+pub(crate) type Ended = Result<Vec<History>, AllocError>;
 
 /// Why a call was not made.
 #[derive(Clone, Copy)]
@@ -46,6 +48,18 @@ pub enum Unmade {
     Spent,
     /// Memory was wanted.
     Memory,
+}
+
+/// What a new era answers, with the history that ended in a list that has room for it.
+fn listed(mut room: Vec<History>, ended: Result<Option<History>, AllocError>) -> Ended
+    requires empty { room.items ≡ [] }
+    requires room { 1 ≤ vec_capacity room }
+    ensures { ended_by result ≡ ended }
+{
+    if let Some(history) = ended? {
+        room.push_reserved(history);
+    }
+    Ok(room)
 }
 
 impl<L: Ledger> Desk<L> {
@@ -311,14 +325,23 @@ impl<L: Ledger> Desk<L> {
     ghost use Rattle.geo_station.specs.Calls.{sends_made, takes_made, retires_made};
     ghost use Rattle.geo_station.specs.Eras.{EndsWhereFull};
 
+    /// Begins a new era, where the steps of this one keep as many bytes as they may, and hands out the history that ends.
+    fn end_era(&mut self, alloc: Global) -> Ended
+        requires full { is_full self.old.kept ≡ true }
+        ensures { EndsWhereFull self.new.kept (ended_by result) }
+    {
+        let room = Vec::with_capacity(alloc, 1)?;
+        listed(room, self.kept.new_era(alloc))
+    }
+
     /// Begins a new era where the steps of this one keep as many bytes as they may, and hands out the history that ends.
     pub(crate) fn end_full(&mut self, alloc: Global) -> Ended
-        ensures { EndsWhereFull self.new.kept result }
+        ensures { EndsWhereFull self.new.kept (ended_by result) }
     {
         if !self.kept.is_full() {
-            return Ok(None);
+            return Ok(Vec::new(alloc));
         }
-        self.kept.new_era(alloc)
+        self.end_era(alloc)
     }
 
     /// Answers a request of a seat as [`Desk::act_in_era`] does, and ends the era where that filled it.
@@ -337,7 +360,7 @@ impl<L: Ledger> Desk<L> {
         ensures said { IfOk result (λ replies. replies.0 ≢ OutOfMemory) }
         ensures unmade { IfErr result (λ _. (flushes : ℕ) × (flushes ≤ 1) × (account.new.count ≡ account.old.count + flushes)) }
         ensures spent { IfErr result (λ why. why ≡ Spent → most_steps ≤ account.old.count + 1) }
-        ensures ended { EndsWhereFull self.new.kept ended.new }
+        ensures ended { EndsWhereFull self.new.kept (ended_by ended.new) }
     {
         let outcome = self.act_in_era(alloc, number, account, now, request);
         *ended = self.end_full(alloc);
@@ -358,7 +381,7 @@ impl<L: Ledger> Desk<L> {
         ensures ranges { IfOk result (λ parcels. InRange parcels.0) }
         ensures unmade { IfErr result (λ why. account.new.count ≡ account.old.count + sends_made why) }
         ensures spent { IfErr result (λ why. why ≡ SeatSpent → most_steps ≤ account.old.count) }
-        ensures ended { EndsWhereFull self.new.kept ended.new }
+        ensures ended { EndsWhereFull self.new.kept (ended_by ended.new) }
     {
         let outcome = self.send_in_era(alloc, number, account, to);
         *ended = self.end_full(alloc);
@@ -380,7 +403,7 @@ impl<L: Ledger> Desk<L> {
         ensures unmade { IfErr result (λ returned. account.new.count ≡ account.old.count + takes_made returned.why) }
         ensures back { IfErr result (λ returned. returned.parcel ≡ parcel) }
         ensures spent { IfErr result (λ returned. returned.why ≡ SeatSpent → most_steps ≤ account.old.count) }
-        ensures ended { EndsWhereFull self.new.kept ended.new }
+        ensures ended { EndsWhereFull self.new.kept (ended_by ended.new) }
     {
         let outcome = self.take_in_era(alloc, number, account, parcel, copy);
         *ended = self.end_full(alloc);
@@ -400,7 +423,7 @@ impl<L: Ledger> Desk<L> {
         ensures made { IfOk result (λ _. account.new.count ≡ account.old.count + 1) }
         ensures unmade { IfErr result (λ _. account.new.count ≡ account.old.count) }
         ensures spent { IfErr result (λ why. why ≡ SeatSpent → most_steps ≤ account.old.count) }
-        ensures ended { EndsWhereFull self.new.kept ended.new }
+        ensures ended { EndsWhereFull self.new.kept (ended_by ended.new) }
     {
         let outcome = self.fill_in_era(alloc, number, account, key, bytes);
         *ended = self.end_full(alloc);
@@ -419,7 +442,7 @@ impl<L: Ledger> Desk<L> {
         ensures made { IfOk result (λ _. account.new.count ≡ account.old.count + 1) }
         ensures unmade { IfErr result (λ why. account.new.count ≡ account.old.count + retires_made why) }
         ensures spent { IfErr result (λ why. why ≡ SeatSpent → most_steps ≤ account.old.count) }
-        ensures ended { EndsWhereFull self.new.kept ended.new }
+        ensures ended { EndsWhereFull self.new.kept (ended_by ended.new) }
     {
         let outcome = self.retire_in_era(number, account, other);
         *ended = self.end_full(alloc);

@@ -49,7 +49,7 @@ struct Moves {
 }
 
 impl<L: Ledger> Desk<L> {
-    ghost use Rattle.geo_station.specs.Eras.{EndsWhereFull};
+    ghost use Rattle.geo_station.specs.Eras.{EndsWhereFull, ended_by};
     ghost use Rattle.geo_station.specs.Maintenance.{ReapsSo, Maintains};
 
     /// Deletes keys whose writes ended long enough ago, for a seat, where no flush is due.
@@ -204,7 +204,7 @@ impl<L: Ledger> Desk<L> {
         ensures ok { IfOk result (Maintains account.old.count account.new.count) }
         ensures err { IfErr result (λ _. account.new.count ≡ account.old.count) }
         ensures spent { IfErr result (λ _. most_steps ≤ account.old.count) }
-        ensures ended { EndsWhereFull self.new.kept ended.new }
+        ensures ended { EndsWhereFull self.new.kept (ended_by ended.new) }
     {
         let outcome = self.maintain_in_era(alloc, number, account, now);
         *ended = self.end_full(alloc);

@@ -123,7 +123,7 @@ impl<L: Ledger> Station<L> {
         // SHA-256 is most of a set, and no other thread waits for it here.
         request.know_digest(alloc);
         // A history that ends is let go of behind the lock.
-        let mut ended = Ok(None);
+        let mut ended = Ok(Vec::new(alloc));
         let done = self
             .desk
             .lock(rt)
@@ -167,7 +167,7 @@ impl<L: Ledger> Station<L> {
             return Err(CallError::Site(SendError::Memory));
         }
         let event = Event::Send { to };
-        let mut ended = Ok(None);
+        let mut ended = Ok(Vec::new(alloc));
         let done = self
             .desk
             .lock(rt)
@@ -208,7 +208,7 @@ impl<L: Ledger> Station<L> {
         ensures back { IfErr result (λ returned. returned.parcel ≡ parcel) }
         ensures spent { IfErr result (λ returned. returned.why ≡ refused.SeatSpent → most_steps ≤ account.old.count) }
     {
-        let mut ended = Ok(None);
+        let mut ended = Ok(Vec::new(alloc));
         let done = self
             .desk
             .lock(rt)
@@ -287,7 +287,7 @@ impl<L: Ledger> Station<L> {
         }
         // No other thread waits for their SHA-256 here.
         bytes.know_digest(alloc);
-        let mut ended = Ok(None);
+        let mut ended = Ok(Vec::new(alloc));
         let done = self
             .desk
             .lock(rt)
@@ -316,7 +316,7 @@ impl<L: Ledger> Station<L> {
         if account.is_spent() {
             return Err(CallError::SeatSpent);
         }
-        let mut ended = Ok(None);
+        let mut ended = Ok(Vec::new(alloc));
         let done = self
             .desk
             .lock(rt)
@@ -390,7 +390,7 @@ impl<L: Ledger> Station<L> {
         if account.is_spent() {
             return Err(SeatSpent);
         }
-        let mut ended = Ok(None);
+        let mut ended = Ok(Vec::new(alloc));
         let done = self
             .desk
             .lock(rt)
