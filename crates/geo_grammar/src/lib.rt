@@ -14,6 +14,7 @@ mod fault;
 mod feed;
 mod fetch;
 mod head;
+mod holding;
 mod item;
 mod keys;
 mod laws;

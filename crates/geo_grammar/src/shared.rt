@@ -26,9 +26,10 @@ impl<T> Model for Shared<T> {
 }
 
 impl<T: Drop> Shared<T> {
-    /// The list of these elements. One without elements takes no memory.
-    pub fn of(alloc: Global, items: Vec<T>) -> Result<Shared<T>, AllocError>
+    /// The list of these elements, which are handed back where there is no memory for several owners. One without elements takes none.
+    pub fn keep(alloc: Global, items: Vec<T>) -> Result<Shared<T>, Vec<T>>
         ensures list { IfOk result (λ shared. shared ≡ items.items) }
+        ensures back { IfErr result (λ back. back ≡ items) }
         ensures memory { IfErr result (λ _. items.items ≢ []) }
     {
         if items.is_empty() {
@@ -36,6 +37,17 @@ impl<T: Drop> Shared<T> {
         }
         match Arc::new(alloc, items) {
             Ok(items) => Ok(Shared { items: Some(items) }),
+            Err(refused) => Err(refused.value),
+        }
+    }
+
+    /// The list of these elements. One without elements takes no memory.
+    pub fn of(alloc: Global, items: Vec<T>) -> Result<Shared<T>, AllocError>
+        ensures list { IfOk result (λ shared. shared ≡ items.items) }
+        ensures memory { IfErr result (λ _. items.items ≢ []) }
+    {
+        match Shared::keep(alloc, items) {
+            Ok(shared) => Ok(shared),
             Err(_) => Err(AllocError),
         }
     }

@@ -1,20 +1,12 @@
 //! The bytes of a value that a reply shows.
 ghost use Rattle.std.specs.Prelude.{◌≡◌, length, IfOk, OnOk};
 
+use crate::holding::Holding;
 use crate::shared::Shared;
 use geo_lattice::Twin;
 use std::alloc::{AllocError, Global};
 use std::marker::Model;
 use std::mem;
-
-/// Who has the bytes.
-#[derive(Drop)]
-enum Holding {
-    /// One showing alone.
-    Lone(Vec<u8>),
-    /// Several.
-    Joint(Shared<u8>),
-}
 
 /// The bytes of a value that a reply shows, which contracts see as a list of bytes and nothing more. Those that it shows more than
 /// once can stand in memory once.
@@ -46,10 +38,7 @@ impl Shown {
     pub fn as_slice(&self) -> &[u8]
         ensures { result.now ≡ self.now }
     {
-        match &self.holding {
-            Holding::Lone(bytes) => bytes.as_slice(),
-            Holding::Joint(bytes) => bytes.as_slice(),
-        }
+        self.holding.as_slice()
     }
 
     /// How many bytes it has.
@@ -78,10 +67,7 @@ impl Shown {
 
 impl Twin for Shown {
     fn twin(&self, alloc: Global) -> Result<Self, AllocError> {
-        let holding = match &self.holding {
-            Holding::Lone(bytes) => Holding::Lone(Vec::from_slice(alloc, bytes.as_slice())?),
-            Holding::Joint(bytes) => Holding::Joint(bytes.twin(alloc)?),
-        };
+        let holding = self.holding.again(alloc)?;
         Ok(Shown { holding })
     }
 }

@@ -2,6 +2,7 @@
 ghost use Rattle.std.specs.Prelude.{◌≡◌, ◌++◌, [], length, IfOk, OnOk, OnErr};
 ghost use Rattle.sha2.specs.Sha256.{sha256};
 
+use crate::holding::Holding;
 use geo_lattice::Twin;
 use geo_versions::Digest;
 use sha2::{Digest as Hash, Sha256};
@@ -9,22 +10,23 @@ use std::alloc::{AllocError, Global};
 use std::marker::Model;
 
 /// The bytes of a value, which contracts see as a list of bytes and nothing more. It may know their SHA-256, so that whoever is
-/// about to wait for a site's lock can compute it before.
+/// about to wait for a site's lock can compute it before. A twin of a long one copies nothing.
 #[derive(Drop)]
 pub struct ValueBytes {
-    bytes: Vec<u8>,
+    bytes: Holding,
     digest: Option<Box<Digest>>,
 }
 
 impl Model for ValueBytes {
     ghost use Rattle.std.specs.Prelude.{◌≡◌, List, ℕ, IfSome};
     ghost use Rattle.sha2.specs.Sha256.{sha256};
+    ghost use Rattle.geo_grammar.specs.Holdings.{held};
 
     ghost Value = { List ℕ };
 
-    ghost view = { λ v. v.bytes.items };
+    ghost view = { λ v. held v.bytes };
 
-    ghost invariant = { λ v. IfSome v.digest (λ d. d.value ≡ sha256 v.bytes.items) };
+    ghost invariant = { λ v. IfSome v.digest (λ d. d.value ≡ sha256 (held v.bytes)) };
 }
 
 impl ValueBytes {
@@ -33,17 +35,9 @@ impl ValueBytes {
         ensures { result ≡ bytes.items }
     {
         ValueBytes {
-            bytes,
+            bytes: Holding::Lone(bytes),
             digest: None,
         }
-    }
-
-    /// Its bytes, given back without taking memory.
-    pub fn into_vec(self) -> Vec<u8>
-        ensures { result.items ≡ self }
-    {
-        let ValueBytes { bytes, .. } = self;
-        bytes
     }
 
     /// Its bytes.
@@ -57,7 +51,7 @@ impl ValueBytes {
     pub fn len(&self) -> usize
         ensures { result ≡ length self.now }
     {
-        self.bytes.len()
+        self.as_slice().len()
     }
 
     /// Their SHA-256, which is computed here unless it is known.
@@ -90,7 +84,7 @@ impl ValueBytes {
 impl Twin for ValueBytes {
     fn twin(&self, alloc: Global) -> Result<Self, AllocError> {
         Ok(ValueBytes {
-            bytes: Vec::from_slice(alloc, self.bytes.as_slice())?,
+            bytes: self.bytes.again(alloc)?,
             digest: None,
         })
     }
@@ -157,13 +151,14 @@ impl DataBlock {
         ensures { result ≡ self }
     {
         let DataBlock { bytes, hasher } = self;
-        let digest = match hasher {
-            Some(hasher) => {
-                let hash = Box::into_inner(hasher).finalize();
-                Box::new(alloc, Digest::new(hash)).ok()
-            }
-            None => None,
+        let Some(hasher) = hasher else {
+            return ValueBytes::of(bytes);
         };
-        ValueBytes { bytes, digest }
+        let hash = Box::into_inner(hasher).finalize();
+        let digest = Box::new(alloc, Digest::new(hash)).ok();
+        ValueBytes {
+            bytes: Holding::joint(alloc, bytes),
+            digest,
+        }
     }
 }

@@ -96,7 +96,7 @@ fn push_value(out: &mut Vec<u8>, value: ValueBytes) -> Result<(), AllocError> {
     let alloc = *out.allocator();
     push_number(out, value.len() as u64)?;
     push_bytes(out, value.twin(alloc)?.as_slice())?;
-    push_bytes(out, value.into_vec().as_slice())
+    push_bytes(out, value.as_slice())
 }
 
 #[test]
