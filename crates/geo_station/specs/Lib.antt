@@ -3,4 +3,5 @@ pub mod Endings
 pub mod Maintenance
 pub mod Calls
 pub mod Lacking
+pub mod Receipts
 pub mod Eras

@@ -3,7 +3,7 @@ ghost use Rattle.std.specs.Prelude.{◌≡◌, ◌≢◌, ◌+◌, ◌≤◌, �
 ghost use Rattle.sha2.specs.Sha256.{sha256};
 ghost use Rattle.geo_delta.specs.Ranges.{InRange};
 ghost use Rattle.geo_grammar.specs.declared.reply.Reply.TheVariants.{OutOfMemory};
-ghost use Rattle.geo_history.specs.Keeping.{most_steps, made_by, made_in_all, is_flush_due, RetireForDoes};
+ghost use Rattle.geo_history.specs.Keeping.{most_steps, made_by, made_in_all, is_flush_due, TickForDoes, ActForDoes, RetireForDoes};
 ghost use Rattle.geo_history.specs.Stories.{story_in, last_era, is_full};
 ghost use Rattle.geo_station.specs.Eras.{ended_by};
 ghost use Rattle.geo_station.specs.Seats.{IsLawful};
@@ -64,6 +64,7 @@ fn listed(mut room: Vec<History>, ended: Result<Option<History>, AllocError>) ->
 
 impl<L: Ledger> Desk<L> {
     ghost use Rattle.geo_station.specs.Calls.{sends_made, takes_made};
+    ghost use Rattle.geo_station.specs.Receipts.{AnswersFor, SendsFrom, TakesFrom};
 
     /// A seat that was not given yet.
     pub(crate) fn seat(&mut self, alloc: Global) -> Result<Seat<L>, NoSeat>
@@ -102,6 +103,7 @@ impl<L: Ledger> Desk<L> {
         ensures told { IfOk result (λ flushed. account.new.count ≡ account.old.count + cond flushed 1 0) }
         ensures undue { IfOk result (λ _. is_flush_due (story_in self.new.kept) now ≡ false) }
         ensures unmade { IfErr result (λ _. account.new.count ≡ account.old.count) }
+        ensures does { TickForDoes (story_in self.old.kept) (story_in self.new.kept) number now result }
     {
         let flushed = self.kept.tick_for(number, now)?;
         if flushed {
@@ -127,6 +129,7 @@ impl<L: Ledger> Desk<L> {
         ensures equal { IfOk result (λ replies. replies.1 ≡ replies.0) }
         ensures said { IfOk result (λ replies. replies.0 ≢ OutOfMemory) }
         ensures unmade { IfErr result (λ _. account.new.count ≡ account.old.count) }
+        ensures does { ActForDoes (story_in self.old.kept) (story_in self.new.kept) number now request result }
     {
         let replies = self.kept.act_for(alloc, number, now, request)?;
         account.book(&mut self.book);
@@ -148,6 +151,7 @@ impl<L: Ledger> Desk<L> {
         ensures said { IfOk result (λ replies. replies.0 ≢ OutOfMemory) }
         ensures unmade { IfErr result (λ _. (flushes : ℕ) × (flushes ≤ 1) × (account.new.count ≡ account.old.count + flushes)) }
         ensures spent { IfErr result (λ why. why ≡ Spent → most_steps ≤ account.old.count + 1) }
+        ensures does { AnswersFor (story_in self.old.kept) (story_in self.new.kept) number now request result }
     {
         if account.is_spent() {
             return Err(Unmade::Spent);
@@ -196,6 +200,7 @@ impl<L: Ledger> Desk<L> {
         ensures ranges { IfOk result (λ parcels. InRange parcels.0) }
         ensures unmade { IfErr result (λ why. account.new.count ≡ account.old.count + sends_made why) }
         ensures spent { IfErr result (λ why. why ≡ SeatSpent → most_steps ≤ account.old.count) }
+        ensures does { SendsFrom (story_in self.old.kept) (story_in self.new.kept) number to result }
     {
         if account.is_spent() {
             return Err(CallError::SeatSpent);
@@ -230,6 +235,7 @@ impl<L: Ledger> Desk<L> {
         ensures unmade { IfErr result (λ returned. account.new.count ≡ account.old.count + takes_made returned.why) }
         ensures back { IfErr result (λ returned. returned.parcel ≡ parcel) }
         ensures spent { IfErr result (λ returned. returned.why ≡ SeatSpent → most_steps ≤ account.old.count) }
+        ensures does { TakesFrom (story_in self.old.kept) (story_in self.new.kept) number parcel result }
     {
         if account.is_spent() {
             let why = CallError::SeatSpent;
@@ -260,6 +266,7 @@ impl<L: Ledger> Desk<L> {
 
 impl<L: Ledger> Desk<L> {
     ghost use Rattle.geo_station.specs.Calls.{retires_made};
+    ghost use Rattle.geo_station.specs.Receipts.{FillsFrom};
 
     /// Offers the site bytes of a key for a seat.
     fn fill_in_era(
@@ -273,6 +280,7 @@ impl<L: Ledger> Desk<L> {
         ensures made { IfOk result (λ _. account.new.count ≡ account.old.count + 1) }
         ensures unmade { IfErr result (λ _. account.new.count ≡ account.old.count) }
         ensures spent { IfErr result (λ why. why ≡ SeatSpent → most_steps ≤ account.old.count) }
+        ensures does { FillsFrom (story_in self.old.kept) (story_in self.new.kept) number key.now bytes result }
     {
         if account.is_spent() {
             return Err(CallError::SeatSpent);
@@ -324,6 +332,7 @@ impl<L: Ledger> Desk<L> {
 impl<L: Ledger> Desk<L> {
     ghost use Rattle.geo_station.specs.Calls.{sends_made, takes_made, retires_made};
     ghost use Rattle.geo_station.specs.Eras.{EndsWhereFull};
+    ghost use Rattle.geo_station.specs.Receipts.{AnswersOnce, SendsOnce, TakesOnce, FillsOnce, RetiresOnce};
 
     /// Begins a new era, where the steps of this one keep as many bytes as they may, and hands out the history that ends.
     fn end_era(&mut self, alloc: Global) -> Ended
@@ -361,6 +370,7 @@ impl<L: Ledger> Desk<L> {
         ensures unmade { IfErr result (λ _. (flushes : ℕ) × (flushes ≤ 1) × (account.new.count ≡ account.old.count + flushes)) }
         ensures spent { IfErr result (λ why. why ≡ Spent → most_steps ≤ account.old.count + 1) }
         ensures ended { EndsWhereFull self.new.kept (ended_by ended.new) }
+        ensures does { AnswersOnce (story_in self.old.kept) number now request result }
     {
         let outcome = self.act_in_era(alloc, number, account, now, request);
         *ended = self.end_full(alloc);
@@ -382,6 +392,7 @@ impl<L: Ledger> Desk<L> {
         ensures unmade { IfErr result (λ why. account.new.count ≡ account.old.count + sends_made why) }
         ensures spent { IfErr result (λ why. why ≡ SeatSpent → most_steps ≤ account.old.count) }
         ensures ended { EndsWhereFull self.new.kept (ended_by ended.new) }
+        ensures does { SendsOnce (story_in self.old.kept) number to result }
     {
         let outcome = self.send_in_era(alloc, number, account, to);
         *ended = self.end_full(alloc);
@@ -404,6 +415,7 @@ impl<L: Ledger> Desk<L> {
         ensures back { IfErr result (λ returned. returned.parcel ≡ parcel) }
         ensures spent { IfErr result (λ returned. returned.why ≡ SeatSpent → most_steps ≤ account.old.count) }
         ensures ended { EndsWhereFull self.new.kept (ended_by ended.new) }
+        ensures does { TakesOnce (story_in self.old.kept) number parcel result }
     {
         let outcome = self.take_in_era(alloc, number, account, parcel, copy);
         *ended = self.end_full(alloc);
@@ -424,6 +436,7 @@ impl<L: Ledger> Desk<L> {
         ensures unmade { IfErr result (λ _. account.new.count ≡ account.old.count) }
         ensures spent { IfErr result (λ why. why ≡ SeatSpent → most_steps ≤ account.old.count) }
         ensures ended { EndsWhereFull self.new.kept (ended_by ended.new) }
+        ensures does { FillsOnce (story_in self.old.kept) number key.now bytes result }
     {
         let outcome = self.fill_in_era(alloc, number, account, key, bytes);
         *ended = self.end_full(alloc);
@@ -443,6 +456,7 @@ impl<L: Ledger> Desk<L> {
         ensures unmade { IfErr result (λ why. account.new.count ≡ account.old.count + retires_made why) }
         ensures spent { IfErr result (λ why. why ≡ SeatSpent → most_steps ≤ account.old.count) }
         ensures ended { EndsWhereFull self.new.kept (ended_by ended.new) }
+        ensures does { IfOk result (RetiresOnce (story_in self.old.kept) number other) }
     {
         let outcome = self.retire_in_era(number, account, other);
         *ended = self.end_full(alloc);
