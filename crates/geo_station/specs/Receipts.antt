@@ -1,6 +1,7 @@
 -- What stands behind an answer of a station: a site whose history leads to it, at which the seat's event comes to this answer.
-use Rattle.std.specs.Prelude.{◌≡◌, ◌⊎◌, ℕ, Bool, false, List, Result, Ok, Err}
+use Rattle.std.specs.Prelude.{◌≡◌, ◌⊎◌, ℕ, Bool, false, List, Option, None, map, option_map, Vec, Result, Ok, Err, IfOk}
 use Rattle.std.specs.declared.alloc.AllocError.{AllocError}
+use Rattle.std.specs.declared.alloc.Global.{Global}
 use Rattle.geo_delta.specs.declared.parcel.Parcel.{Parcel}
 use Rattle.geo_grammar.specs.declared.request.Request.{Request}
 use Rattle.geo_grammar.specs.declared.reply.Reply.{Reply}
@@ -11,8 +12,12 @@ use Rattle.geo_site.specs.declared.refusal.SendError.{SendError}
 use Rattle.geo_site.specs.declared.refusal.SendError.TheVariants as sends
 use Rattle.geo_site.specs.declared.refusal.TakeError.{TakeError}
 use Rattle.geo_site.specs.declared.refusal.TakeError.TheVariants as takes
+use Rattle.geo_site.specs.Fills.{IsFirstMissing, AreFirstMissing}
+use Rattle.geo_site.specs.Sites.{state_in}
+use Rattle.geo_values.specs.Stock.{with_digest}
 use Rattle.geo_history.specs.Keeping.{Story, IsKept, is_flush_due, ActsFor, DoesNothing, TickForDoes, SendForDoes, TakeForDoes, RefusedFor, FillForDoes, RetireForDoes}
 use Rattle.geo_station.specs.declared.desk.Unmade.{Unmade}
+use Rattle.geo_station.specs.declared.missing.Missing.{Missing}
 use Rattle.geo_station.specs.declared.refusal.CallError.{CallError}
 use Rattle.geo_station.specs.declared.refusal.CallError.TheVariants.{SeatSpent, Site}
 use Rattle.geo_station.specs.declared.refusal.Returned.{Returned}
@@ -123,3 +128,20 @@ pub record IsRetirement (seat other : ℕ) (fresh : Bool) : Type 0 where
   pub new : Story
   pub lawful : ∥ IsKept old ∥₁
   pub retires : RetireForDoes old new seat other (Ok fresh)
+
+-- this is what such a site lacks of the least key above another, and of the least keys, so many at most
+pub record LacksLeast (now : ℕ) (after : Option (List ℕ)) (result : Result (Option Missing) AllocError) : Type 0 where
+  pub at : Story
+  pub lawful : ∥ IsKept at ∥₁
+  pub first : IfOk result (λ missing. IsFirstMissing (state_in at.site) now after (option_map (λ m. m.key) missing))
+
+pub record LacksFirst (now most : ℕ) (result : Result (Vec Missing Global) AllocError) : Type 0 where
+  pub at : Story
+  pub lawful : ∥ IsKept at ∥₁
+  pub first : IfOk result (λ lacked. AreFirstMissing (state_in at.site) now None most (map (λ m. m.key) lacked.items))
+
+-- and this what it holds of a key, where that has a SHA-256
+pub record HoldsOf (key digest : List ℕ) (result : Result (Option (Vec ℕ Global)) AllocError) : Type 0 where
+  pub at : Story
+  pub lawful : ∥ IsKept at ∥₁
+  pub got : IfOk result (λ offered. option_map (λ v. v.items) offered ≡ with_digest digest ((state_in at.site).stock.held key))

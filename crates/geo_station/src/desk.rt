@@ -1,9 +1,11 @@
 //! What lies under a station's lock.
-ghost use Rattle.std.specs.Prelude.{◌≡◌, ◌≢◌, ◌+◌, ◌≤◌, ◌<◌, ◌^◌, ℕ, [], true, false, cond, length, vec_capacity, ◌⊎◌, Result, Ok, IfOk, IfErr, IfSome, IfNone};
+ghost use Rattle.std.specs.Prelude.{◌≡◌, ◌≢◌, ◌+◌, ◌≤◌, ◌<◌, ◌^◌, ℕ, [], true, false, cond, length, vec_capacity, option_map, ◌⊎◌, Result, Ok, IfOk, IfErr, IfSome, IfNone};
 ghost use Rattle.sha2.specs.Sha256.{sha256};
 ghost use Rattle.geo_delta.specs.Ranges.{InRange};
 ghost use Rattle.geo_grammar.specs.declared.reply.Reply.TheVariants.{OutOfMemory};
-ghost use Rattle.geo_history.specs.Keeping.{most_steps, made_by, made_in_all, is_flush_due, TickForDoes, ActForDoes, RetireForDoes};
+ghost use Rattle.geo_site.specs.Sites.{state_in};
+ghost use Rattle.geo_values.specs.Stock.{with_digest};
+ghost use Rattle.geo_history.specs.Keeping.{most_steps, made_by, made_in_all, is_flush_due, IsKept, TickForDoes, ActForDoes, RetireForDoes};
 ghost use Rattle.geo_history.specs.Stories.{story_in, last_era, is_full};
 ghost use Rattle.geo_station.specs.Eras.{ended_by};
 ghost use Rattle.geo_station.specs.Seats.{IsLawful};
@@ -470,6 +472,9 @@ impl<L: Ledger> Desk<L> {
         key: &Key,
         digest: &Digest,
     ) -> Result<Option<Vec<u8>>, AllocError>
+        ensures lawful { ∥ IsKept (story_in self.now.kept) ∥₁ }
+        ensures got { IfOk result (λ offered. option_map (λ v. v.items) offered
+            ≡ with_digest digest.now ((state_in (story_in self.now.kept).site).stock.held key.now)) }
         ensures digest { IfOk result (λ offered. IfSome offered (λ bytes. sha256 bytes.items ≡ digest.now)) }
         ensures short { IfOk result (λ offered. IfSome offered (λ bytes. length bytes.items ≤ 1048576)) }
     {

@@ -4,6 +4,7 @@ ghost use Rattle.std.specs.List.{All};
 ghost use Rattle.geo_records.specs.Operations.{version_in};
 ghost use Rattle.geo_site.specs.Fills.{IsFirstMissing, AreFirstMissing, is_missing};
 ghost use Rattle.geo_site.specs.Sites.{state_in};
+ghost use Rattle.geo_history.specs.Keeping.{IsKept};
 ghost use Rattle.geo_history.specs.Stories.{story_in};
 ghost use Rattle.geo_station.specs.Lacking.{IsLackedBy};
 
@@ -75,6 +76,7 @@ impl<L: Ledger> Desk<L> {
         now: u64,
         most: usize,
     ) -> Result<Vec<Missing>, AllocError>
+        ensures lawful { ∥ IsKept (story_in self.now.kept) ∥₁ }
         ensures first { IfOk result (λ lacked. AreFirstMissing (state_in (story_in self.now.kept).site) now None most
             (map (λ m. m.key) lacked.items)) }
         ensures each { IfOk result (λ lacked. All (λ m. IsLackedBy (state_in (story_in self.now.kept).site)
@@ -98,6 +100,7 @@ impl<L: Ledger> Desk<L> {
         now: u64,
         after: Option<&Key>,
     ) -> Result<Option<Missing>, AllocError>
+        ensures lawful { ∥ IsKept (story_in self.now.kept) ∥₁ }
         ensures first { IfOk result (λ missing. IsFirstMissing (state_in (story_in self.now.kept).site) now (option_copied after.entry)
             (option_map (λ m. m.key) missing)) }
         ensures named { IfOk result (λ missing. IfSome missing

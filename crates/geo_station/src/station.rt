@@ -1,5 +1,5 @@
 //! A site for several threads.
-ghost use Rattle.std.specs.Prelude.{◌≡◌, ◌≢◌, ◌⊎◌, ℕ, ◌+◌, ◌≤◌, ◌^◌, [], false, vec_len, sum_by, length, IfOk, IfErr, IfSome, IsErr, Err};
+ghost use Rattle.std.specs.Prelude.{◌≡◌, ◌≢◌, ◌⊎◌, ℕ, ◌+◌, ◌≤◌, ◌^◌, [], false, vec_len, sum_by, length, option_copied, IfOk, IfErr, IfSome, IsErr, Err};
 ghost use Rattle.std.specs.List.{All};
 ghost use Rattle.geo_delta.specs.Ranges.{InRange};
 ghost use Rattle.geo_history.specs.Keeping.{most_steps, opened_with, opened_total};
@@ -94,7 +94,7 @@ impl<L: Ledger> Station<L> {
     ghost use Rattle.geo_grammar.specs.declared.reply.Reply.TheVariants.{OutOfMemory};
     ghost use Rattle.geo_history.specs.Keeping.{Story};
     ghost use Rattle.geo_station.specs.Calls.{ActsBy, SendsBy, TakesBy, FillsBy, RetiresBy, MaintainsBy, takes_made};
-    ghost use Rattle.geo_station.specs.Receipts.{IsAnswer, SendingOf, TakingOf, TakesOnce, IsFilling, IsRetirement};
+    ghost use Rattle.geo_station.specs.Receipts.{IsAnswer, SendingOf, TakingOf, TakesOnce, IsFilling, IsRetirement, LacksLeast, LacksFirst, HoldsOf};
 
     /// Answers a client's request at a moment in seconds, 1 to 2^40, after a due flush. Where memory was wanted for the answer, its
     /// step, or the seat's copy, it is [`Reply::OutOfMemory`], and nothing was done but the due flush.
@@ -343,6 +343,7 @@ impl<L: Ledger> Station<L> {
         now: u64,
         after: Option<&Key>,
     ) -> Result<Option<Missing>, AllocError>
+        ensures lacking { LacksLeast now (option_copied after.entry) result }
         ensures number { IfOk result (λ missing. IfSome missing (λ m. (1 ≤ m.from) × (m.from ≤ m.sites))) }
         ensures sites { IfOk result (λ missing. IfSome missing (λ m. m.sites ≤ 16)) }
     {
@@ -358,6 +359,7 @@ impl<L: Ledger> Station<L> {
         now: u64,
         most: usize,
     ) -> Result<Vec<Missing>, AllocError>
+        ensures lacking { LacksFirst now most result }
         ensures few { IfOk result (λ lacked. length lacked.items ≤ most) }
     {
         self.desk.lock(rt).first_missing(alloc, now, most)
@@ -372,6 +374,7 @@ impl<L: Ledger> Station<L> {
         key: &Key,
         digest: &Digest,
     ) -> Result<Option<Vec<u8>>, AllocError>
+        ensures held { HoldsOf key.now digest.now result }
         ensures digest { IfOk result (λ offered. IfSome offered (λ bytes. sha256 bytes.items ≡ digest.now)) }
         ensures short { IfOk result (λ offered. IfSome offered (λ bytes. length bytes.items ≤ 1048576)) }
     {
