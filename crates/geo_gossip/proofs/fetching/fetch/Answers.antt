@@ -4,7 +4,7 @@ use Rattle.geo_gossip.proofs.Fetched.{fetched_none, fetched_next, fetched_early,
 use Rattle.geo_gossip.proofs.fetching.fetch.Goals as goal
 
 pub loop-at-init : goal.loop-at-init
-loop-at-init g c = fetched_none _ _ _ _ c.in-Ok.ensures
+loop-at-init g c = fetched_none _ _ _ _ c.in-Ok.ensures.few
 
 pub returns-then-not-goes_on-clause-fetches : goal.returns-then-not-goes_on-clause-fetches
 returns-then-not-goes_on-clause-fetches g c =
