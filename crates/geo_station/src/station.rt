@@ -1,5 +1,5 @@
 //! A site for several threads.
-ghost use Rattle.std.specs.Prelude.{◌≡◌, ◌≢◌, ◌⊎◌, ℕ, ◌+◌, ◌≤◌, ◌^◌, [], false, vec_len, sum_by, length, option_copied, IfOk, IfErr, IfSome, IsErr, Err};
+ghost use Rattle.std.specs.Prelude.{◌≡◌, ◌≢◌, ℕ, ◌+◌, ◌≤◌, ◌^◌, [], false, vec_len, sum_by, length, option_copied, IfOk, IfErr, IfSome, IsErr, Err};
 ghost use Rattle.std.specs.List.{All};
 ghost use Rattle.geo_delta.specs.Ranges.{InRange};
 ghost use Rattle.geo_history.specs.Keeping.{most_steps, opened_with, opened_total};
@@ -91,10 +91,8 @@ impl<L: Ledger> Station<L> {
 
 impl<L: Ledger> Station<L> {
     ghost use Rattle.sha2.specs.Sha256.{sha256};
-    ghost use Rattle.geo_grammar.specs.declared.reply.Reply.TheVariants.{OutOfMemory};
-    ghost use Rattle.geo_history.specs.Keeping.{Story};
     ghost use Rattle.geo_station.specs.Calls.{ActsBy, SendsBy, TakesBy, FillsBy, RetiresBy, MaintainsBy, takes_made};
-    ghost use Rattle.geo_station.specs.Receipts.{IsAnswer, SendingOf, TakingOf, TakesOnce, IsFilling, IsRetirement, LacksLeast, LacksFirst, HoldsOf};
+    ghost use Rattle.geo_station.specs.Receipts.{LacksLeast, LacksFirst, HoldsOf};
 
     /// Answers a client's request at a moment in seconds, 1 to 2^40, after a due flush. Where memory was wanted for the answer, its
     /// step, or the seat's copy, it is [`Reply::OutOfMemory`], and nothing was done but the due flush.
@@ -108,7 +106,6 @@ impl<L: Ledger> Station<L> {
     ) -> Result<Reply, SeatSpent>
         requires { now ≤ 2 ^ 40 }
         ensures acts { ActsBy seat.old seat.new now request result }
-        ensures answered { IfOk result (λ reply. (reply ≡ OutOfMemory) ⊎ IsAnswer seat.old.number now request reply) }
         ensures limit { seat.old.steps ≡ most_steps → IsErr result }
         ensures spent { IsErr result → most_steps ≤ seat.old.steps + 1 }
     {
@@ -153,7 +150,6 @@ impl<L: Ledger> Station<L> {
         to: u8,
     ) -> Result<Parcel, CallError<SendError>>
         ensures sends { SendsBy seat.old seat.new to result }
-        ensures sent { SendingOf seat.old.number to result }
         ensures addressee { IfOk result (λ parcel. parcel.to ≡ to) }
         ensures ranges { IfOk result (λ parcel. InRange parcel) }
         ensures limit { seat.old.steps ≡ most_steps → result ≡ Err refused.SeatSpent }
@@ -212,7 +208,6 @@ impl<L: Ledger> Station<L> {
         ensures unmade { IfErr result (λ returned. account.new.count ≡ account.old.count + takes_made returned.why) }
         ensures back { IfErr result (λ returned. returned.parcel ≡ parcel) }
         ensures spent { IfErr result (λ returned. returned.why ≡ refused.SeatSpent → most_steps ≤ account.old.count) }
-        ensures takes { (old : Story) × TakesOnce old number parcel result }
     {
         let mut ended = Ok(Vec::new(alloc));
         let done = self
@@ -231,7 +226,6 @@ impl<L: Ledger> Station<L> {
         parcel: Parcel,
     ) -> Result<Taken, Returned>
         ensures takes { TakesBy seat.old seat.new parcel result }
-        ensures taken { TakingOf seat.old.number parcel result }
         ensures limit { seat.old.steps ≡ most_steps → IfErr result (λ returned. returned.why ≡ refused.SeatSpent) }
         ensures spent { IfErr result (λ returned. returned.why ≡ refused.SeatSpent → most_steps ≤ seat.old.steps) }
     {
@@ -281,7 +275,6 @@ impl<L: Ledger> Station<L> {
         mut bytes: ValueBytes,
     ) -> Result<Filled, CallError<AllocError>>
         ensures fills { FillsBy seat.old seat.new result }
-        ensures filled { IfOk result (IsFilling seat.old.number key.now bytes) }
         ensures limit { seat.old.steps ≡ most_steps → result ≡ Err refused.SeatSpent }
         ensures spent { result ≡ Err refused.SeatSpent → most_steps ≤ seat.old.steps }
     {
@@ -313,7 +306,6 @@ impl<L: Ledger> Station<L> {
         other: u8,
     ) -> Result<bool, CallError<RetireError>>
         ensures retires { RetiresBy seat.old seat.new result }
-        ensures retired { IfOk result (IsRetirement seat.old.number other) }
         ensures limit { seat.old.steps ≡ most_steps → result ≡ Err refused.SeatSpent }
         ensures spent { result ≡ Err refused.SeatSpent → most_steps ≤ seat.old.steps }
     {
