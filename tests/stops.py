@@ -135,15 +135,19 @@ def a_client_that_never_reads_is_let_go_once_the_drain_is_over(serve):
         one = sites[1]
         silent = one.client()
         stored(silent, b"k", b"x" * 100_000)
-        # at once, for of many small pieces the system hands on some alone, and what is owed for these it may take whole
-        silent.send(b"get k\r\n" * 2000)
-        time.sleep(0.5)
+        silent.socket.settimeout(0.5)
+        try:
+            for _ in range(200):
+                silent.send(b"get k\r\n" * 10)
+        except (TimeoutError, OSError):
+            pass
         began = time.monotonic()
         told = one.stops()
         passed = time.monotonic() - began
         assert 0.9 < passed < 4, passed
-        serve.has(told, sessions=1, faults=1, audit="sound")
-        assert told["requests"] < 2001, told
+        serve.has(told, sessions=1, audit="sound")
+        # a fault where some of what it is owed could not be written, and none where the system had taken all that was answered
+        assert told["faults"] <= 1 and told["requests"] < 2001, told
         silent.close()
 
 
