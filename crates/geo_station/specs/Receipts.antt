@@ -1,9 +1,10 @@
--- What stands behind an answer of a station: a site whose history leads to it, where the seat's event comes to this answer, or which
--- lacks or holds this.
-use Rattle.std.specs.Prelude.{◌≡◌, ◌⊎◌, ℕ, List, Option, None, map, option_map, Vec, Result, Ok, Err, IfOk}
+-- What stands behind an answer of a station: a site whose history leads to it, at which the seat's event comes to this answer.
+use Rattle.std.specs.Prelude.{◌≡◌, ◌⊎◌, ℕ, Bool, false, List, Option, None, map, option_map, Vec, Result, Ok, Err, IfOk}
 use Rattle.std.specs.declared.alloc.AllocError.{AllocError}
 use Rattle.std.specs.declared.alloc.Global.{Global}
 use Rattle.geo_delta.specs.declared.parcel.Parcel.{Parcel}
+use Rattle.geo_grammar.specs.declared.request.Request.{Request}
+use Rattle.geo_grammar.specs.declared.reply.Reply.{Reply}
 use Rattle.geo_site.specs.declared.exchange.Taken.{Taken}
 use Rattle.geo_site.specs.declared.fill.Filled.{Filled}
 use Rattle.geo_site.specs.declared.refusal.SendError.{SendError}
@@ -12,11 +13,30 @@ use Rattle.geo_site.specs.declared.refusal.TakeError.TheVariants as takes
 use Rattle.geo_site.specs.Fills.{IsFirstMissing, AreFirstMissing}
 use Rattle.geo_site.specs.Sites.{state_in}
 use Rattle.geo_values.specs.Stock.{with_digest}
-use Rattle.geo_history.specs.Keeping.{Story, IsKept, SendForDoes, TakeForDoes, RefusedFor, FillForDoes}
+use Rattle.geo_history.specs.Keeping.{Story, IsKept, is_flush_due, ActsFor, DoesNothing, TickForDoes, SendForDoes, TakeForDoes, RefusedFor, FillForDoes, RetireForDoes}
+use Rattle.geo_station.specs.declared.desk.Unmade.{Unmade}
 use Rattle.geo_station.specs.declared.missing.Missing.{Missing}
 use Rattle.geo_station.specs.declared.refusal.CallError.{CallError}
 use Rattle.geo_station.specs.declared.refusal.CallError.TheVariants.{SeatSpent, Site}
 use Rattle.geo_station.specs.declared.refusal.Returned.{Returned}
+
+-- a due flush is carried out for a seat, if there is one, and then its request is answered
+pub record AnswersFrom (old new : Story) (seat now : ℕ) (request : Request) (replies : Reply × Reply) : Type 0 where
+  pub flushed : Bool
+  pub mid : Story
+  pub flush : TickForDoes old mid seat now (Ok flushed)
+  pub undue : is_flush_due mid now ≡ false
+  pub acts : ActsFor mid new seat now request replies
+
+-- nothing is done but a due flush, if there is one
+pub record RestsFrom (old new : Story) (seat now : ℕ) : Type 0 where
+  pub mid : Story
+  pub first : DoesNothing old mid seat now
+  pub then : DoesNothing mid new seat now
+
+abbrev pub AnswersFor : Story → Story → ℕ → ℕ → Request → Result (Reply × Reply) Unmade → Type 0
+AnswersFor old new seat now request (Ok replies) = AnswersFrom old new seat now request replies
+AnswersFor old new seat now request (Err why) = RestsFrom old new seat now
 
 -- a parcel is made for a seat, or refused
 abbrev pub SendsFrom : Story → Story → ℕ → ℕ → Result (Parcel × Parcel) (CallError SendError) → Type 0
@@ -41,6 +61,9 @@ FillsFrom old new seat key bytes (Err SeatSpent) = new ≡ old
 FillsFrom old new seat key bytes (Err (Site refused)) = (new ≡ old) ⊎ FillForDoes old new seat key bytes (Err refused)
 
 -- the same, from a lawful history on, where what comes behind it under the same hold of the lock is not told
+abbrev pub AnswersOnce : Story → ℕ → ℕ → Request → Result (Reply × Reply) Unmade → Type 0
+AnswersOnce old seat now request outcome = ∥ IsKept old ∥₁ × ((new : Story) × AnswersFor old new seat now request outcome)
+
 abbrev pub SendsOnce : Story → ℕ → ℕ → Result (Parcel × Parcel) (CallError SendError) → Type 0
 SendsOnce old seat to outcome = ∥ IsKept old ∥₁ × ((new : Story) × SendsFrom old new seat to outcome)
 
@@ -50,7 +73,31 @@ TakesOnce old seat parcel outcome = ∥ IsKept old ∥₁ × ((new : Story) × T
 abbrev pub FillsOnce : Story → ℕ → List ℕ → List ℕ → Result Filled (CallError AllocError) → Type 0
 FillsOnce old seat key bytes outcome = ∥ IsKept old ∥₁ × ((new : Story) × FillsFrom old new seat key bytes outcome)
 
--- this is what a site whose history leads to it lacks of the least key above another, and of the least keys, so many at most
+abbrev pub RetiresOnce : Story → ℕ → ℕ → Bool → Type 0
+RetiresOnce old seat other fresh = ∥ IsKept old ∥₁ × ((new : Story) × RetireForDoes old new seat other (Ok fresh))
+
+-- at a site whose history leads to it a seat's request has this answer, after a due flush
+pub record IsAnswer (seat now : ℕ) (request : Request) (reply : Reply) : Type 0 where
+  pub old : Story
+  pub new : Story
+  pub lawful : ∥ IsKept old ∥₁
+  pub answers : AnswersFrom old new seat now request (reply, reply)
+
+-- this comes of bytes that it offers
+pub record IsFilling (seat : ℕ) (key bytes : List ℕ) (filled : Filled) : Type 0 where
+  pub old : Story
+  pub new : Story
+  pub lawful : ∥ IsKept old ∥₁
+  pub fills : FillForDoes old new seat key bytes (Ok filled)
+
+-- and this of holding another site for gone for good
+pub record IsRetirement (seat other : ℕ) (fresh : Bool) : Type 0 where
+  pub old : Story
+  pub new : Story
+  pub lawful : ∥ IsKept old ∥₁
+  pub retires : RetireForDoes old new seat other (Ok fresh)
+
+-- this is what such a site lacks of the least key above another, and of the least keys, so many at most
 pub record LacksLeast (now : ℕ) (after : Option (List ℕ)) (result : Result (Option Missing) AllocError) : Type 0 where
   pub at : Story
   pub lawful : ∥ IsKept at ∥₁

@@ -66,7 +66,7 @@ fn listed(mut room: Vec<History>, ended: Result<Option<History>, AllocError>) ->
 
 impl<L: Ledger> Desk<L> {
     ghost use Rattle.geo_station.specs.Calls.{sends_made, takes_made};
-    ghost use Rattle.geo_station.specs.Receipts.{SendsFrom, TakesFrom};
+    ghost use Rattle.geo_station.specs.Receipts.{AnswersFor, SendsFrom, TakesFrom};
 
     /// A seat that was not given yet.
     pub(crate) fn seat(&mut self, alloc: Global) -> Result<Seat<L>, NoSeat>
@@ -153,6 +153,7 @@ impl<L: Ledger> Desk<L> {
         ensures said { IfOk result (λ replies. replies.0 ≢ OutOfMemory) }
         ensures unmade { IfErr result (λ _. (flushes : ℕ) × (flushes ≤ 1) × (account.new.count ≡ account.old.count + flushes)) }
         ensures spent { IfErr result (λ why. why ≡ Spent → most_steps ≤ account.old.count + 1) }
+        ensures does { AnswersFor (story_in self.old.kept) (story_in self.new.kept) number now request result }
     {
         if account.is_spent() {
             return Err(Unmade::Spent);
@@ -333,7 +334,7 @@ impl<L: Ledger> Desk<L> {
 impl<L: Ledger> Desk<L> {
     ghost use Rattle.geo_station.specs.Calls.{sends_made, takes_made, retires_made};
     ghost use Rattle.geo_station.specs.Eras.{EndsWhereFull};
-    ghost use Rattle.geo_station.specs.Receipts.{SendsOnce, TakesOnce, FillsOnce};
+    ghost use Rattle.geo_station.specs.Receipts.{AnswersOnce, SendsOnce, TakesOnce, FillsOnce, RetiresOnce};
 
     /// Begins a new era, where the steps of this one keep as many bytes as they may, and hands out the history that ends.
     fn end_era(&mut self, alloc: Global) -> Ended
@@ -371,6 +372,7 @@ impl<L: Ledger> Desk<L> {
         ensures unmade { IfErr result (λ _. (flushes : ℕ) × (flushes ≤ 1) × (account.new.count ≡ account.old.count + flushes)) }
         ensures spent { IfErr result (λ why. why ≡ Spent → most_steps ≤ account.old.count + 1) }
         ensures ended { EndsWhereFull self.new.kept (ended_by ended.new) }
+        ensures does { AnswersOnce (story_in self.old.kept) number now request result }
     {
         let outcome = self.act_in_era(alloc, number, account, now, request);
         *ended = self.end_full(alloc);
@@ -456,6 +458,7 @@ impl<L: Ledger> Desk<L> {
         ensures unmade { IfErr result (λ why. account.new.count ≡ account.old.count + retires_made why) }
         ensures spent { IfErr result (λ why. why ≡ SeatSpent → most_steps ≤ account.old.count) }
         ensures ended { EndsWhereFull self.new.kept (ended_by ended.new) }
+        ensures does { IfOk result (RetiresOnce (story_in self.old.kept) number other) }
     {
         let outcome = self.retire_in_era(number, account, other);
         *ended = self.end_full(alloc);

@@ -1,5 +1,5 @@
 //! A site for several threads.
-ghost use Rattle.std.specs.Prelude.{◌≡◌, ◌≢◌, ℕ, ◌+◌, ◌≤◌, ◌^◌, [], false, vec_len, sum_by, length, option_copied, IfOk, IfErr, IfSome, IsErr, Err};
+ghost use Rattle.std.specs.Prelude.{◌≡◌, ◌≢◌, ◌⊎◌, ℕ, ◌+◌, ◌≤◌, ◌^◌, [], false, vec_len, sum_by, length, option_copied, IfOk, IfErr, IfSome, IsErr, Err};
 ghost use Rattle.std.specs.List.{All};
 ghost use Rattle.geo_delta.specs.Ranges.{InRange};
 ghost use Rattle.geo_history.specs.Keeping.{most_steps, opened_with, opened_total};
@@ -91,8 +91,9 @@ impl<L: Ledger> Station<L> {
 
 impl<L: Ledger> Station<L> {
     ghost use Rattle.sha2.specs.Sha256.{sha256};
+    ghost use Rattle.geo_grammar.specs.declared.reply.Reply.TheVariants.{OutOfMemory};
     ghost use Rattle.geo_station.specs.Calls.{ActsBy, SendsBy, TakesBy, FillsBy, RetiresBy, MaintainsBy, takes_made};
-    ghost use Rattle.geo_station.specs.Receipts.{LacksLeast, LacksFirst, HoldsOf};
+    ghost use Rattle.geo_station.specs.Receipts.{IsAnswer, IsFilling, IsRetirement, LacksLeast, LacksFirst, HoldsOf};
 
     /// Answers a client's request at a moment in seconds, 1 to 2^40, after a due flush. Where memory was wanted for the answer, its
     /// step, or the seat's copy, it is [`Reply::OutOfMemory`], and nothing was done but the due flush.
@@ -106,6 +107,7 @@ impl<L: Ledger> Station<L> {
     ) -> Result<Reply, SeatSpent>
         requires { now ≤ 2 ^ 40 }
         ensures acts { ActsBy seat.old seat.new now request result }
+        ensures answered { IfOk result (λ reply. (reply ≡ OutOfMemory) ⊎ IsAnswer seat.old.number now request reply) }
         ensures limit { seat.old.steps ≡ most_steps → IsErr result }
         ensures spent { IsErr result → most_steps ≤ seat.old.steps + 1 }
     {
@@ -275,6 +277,7 @@ impl<L: Ledger> Station<L> {
         mut bytes: ValueBytes,
     ) -> Result<Filled, CallError<AllocError>>
         ensures fills { FillsBy seat.old seat.new result }
+        ensures filled { IfOk result (IsFilling seat.old.number key.now bytes) }
         ensures limit { seat.old.steps ≡ most_steps → result ≡ Err refused.SeatSpent }
         ensures spent { result ≡ Err refused.SeatSpent → most_steps ≤ seat.old.steps }
     {
@@ -306,6 +309,7 @@ impl<L: Ledger> Station<L> {
         other: u8,
     ) -> Result<bool, CallError<RetireError>>
         ensures retires { RetiresBy seat.old seat.new result }
+        ensures retired { IfOk result (IsRetirement seat.old.number other) }
         ensures limit { seat.old.steps ≡ most_steps → result ≡ Err refused.SeatSpent }
         ensures spent { result ≡ Err refused.SeatSpent → most_steps ≤ seat.old.steps }
     {

@@ -1,5 +1,7 @@
-use Rattle.std.proofs.Common.{◌≡◌, Ok, Err, ap, subst, ◌∙◌}
+use Rattle.std.proofs.Common.{◌≡◌, ◌⊎◌, Ok, Err, ap, subst, ◌∙◌}
+use Rattle.geo_grammar.specs.declared.reply.Reply.TheVariants.{OutOfMemory}
 use Rattle.geo_station.specs.Calls.{ActsBy}
+use Rattle.geo_station.specs.Receipts.{IsAnswer}
 use Rattle.geo_station.specs.Seats.{Seated, trimmed}
 use Rattle.geo_session.proofs.counted.CountedBackend.act.Goals as goal
 
@@ -12,6 +14,7 @@ returns-in-Ok-clause-some g c =
         least = c.now-now.ensures.least;
         most = c.now-now.ensures.most;
         acts = subst (λ (s : Seated). ActsBy s c.act.new.seat c.now-now.result c.args.request (Ok c.in-Ok.reply)) seat_is c.in-Ok.ensures.acts;
+        answered = subst (λ (s : Seated). (c.in-Ok.reply ≡ OutOfMemory) ⊎ IsAnswer s.number c.now-now.result c.args.request c.in-Ok.reply) seat_is c.in-Ok.ensures.answered;
       };
       counted = c.count.ensures.counts;
     }

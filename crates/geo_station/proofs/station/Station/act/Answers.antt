@@ -1,4 +1,5 @@
-use Rattle.std.proofs.Common.{rules, refl, inr}
+use Rattle.std.proofs.Common.{rules, refl, inr, ap}
+use Rattle.geo_station.proofs.Receiving.{is_answer}
 use Rattle.geo_station.proofs.Closing.{flushed_none}
 use Rattle.geo_station.proofs.station.Station.act.Goals.{in_default-via-in-Ok+in_default, in_default-via-in_default}
 use Rattle.geo_station.proofs.station.Station.act.Goals as goal
@@ -11,3 +12,6 @@ returns-in_default-clause-acts g c = inr (
     | in_default-via-in_default w ↦ flushed_none c.args.seat.now _ (search rules)
   ],
 )
+
+pub returns-in-Ok-clause-answered : goal.returns-in-Ok-clause-answered
+returns-in-Ok-clause-answered g c = inr (is_answer _ _ _ _ _ _ _ _ (ap (λ s. s.number) c.seat.view_is) c.know_digest.ensures c.in-Ok.ensures.equal c.in-Ok.ensures.does)
