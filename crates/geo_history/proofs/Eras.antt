@@ -1,5 +1,5 @@
 -- A new era keeps what a site with its history is.
-use Rattle.std.proofs.Common.{◌≡◌, ℕ, ◌<◌, ◌≤◌, List, length, Option, None, Some, Result, Ok, Err, refl, sym, ap, subst, ◌∙◌, arith}
+use Rattle.std.proofs.Common.{◌≡◌, ℕ, ◌<◌, ◌≤◌, Bool, List, length, Option, None, Some, Result, Ok, Err, refl, sym, ap, subst, ◌∙◌, arith}
 use Rattle.std.proofs.lemmas.Grind.{merely}
 use Rattle.std.specs.declared.alloc.AllocError.{AllocError}
 use Rattle.geo_site.specs.declared.site.Site.{Site}
@@ -36,13 +36,13 @@ made_anew old new r seat below =
     let none : length (steps_of seat new.steps) ≡ 0 = ap (λ (ss : List Step). length (steps_of seat ss)) r.steps in
     omega (arith, none, r.counts seat below)
 
-pub renewed_kept : (old new : Story) (result : Result (Option History) AllocError) → NewEraDoes old new result → ∥ IsKept old ∥₁ → ∥ IsKept new ∥₁
-renewed_kept old new (Ok (Some history)) does kept = merely (keeps_anew old new does.1)
-renewed_kept old new (Ok None) does kept = subst (λ (s : Story). ∥ IsKept s ∥₁) (sym does.1) kept
-renewed_kept old new (Err refused) does kept = subst (λ (s : Story). ∥ IsKept s ∥₁) (sym does) kept
+pub renewed_kept : (logged : Bool) (old new : Story) (result : Result (Option History) AllocError) → NewEraDoes logged old new result → ∥ IsKept old ∥₁ → ∥ IsKept new ∥₁
+renewed_kept logged old new (Ok (Some history)) does kept = merely (keeps_anew old new does.1)
+renewed_kept logged old new (Ok None) does kept = subst (λ (s : Story). ∥ IsKept s ∥₁) (sym does.1) kept
+renewed_kept logged old new (Err refused) does kept = subst (λ (s : Story). ∥ IsKept s ∥₁) (sym does) kept
 
-pub renewed_counted : (old new : Story) (counts : List ℕ) (result : Result (Option History) AllocError) → NewEraDoes old new result → IsCounted old.opening old.steps counts → IsCounted new.opening new.steps counts
-renewed_counted old new counts (Ok (Some history)) does h = record {
+pub renewed_counted : (logged : Bool) (old new : Story) (counts : List ℕ) (result : Result (Option History) AllocError) → NewEraDoes logged old new result → IsCounted old.opening old.steps counts → IsCounted new.opening new.steps counts
+renewed_counted logged old new counts (Ok (Some history)) does h = record {
   many = h.many;
   few = λ seat below. subst (λ n. n ≤ most_steps) (sym (made_anew old new does.1 seat below)) (h.few seat below);
   counted = λ seat below. h.counted seat below ∙ sym (made_anew old new does.1 seat below);
@@ -50,10 +50,10 @@ renewed_counted old new counts (Ok (Some history)) does h = record {
       let none : length new.steps ≡ 0 = ap length does.1.steps in
       omega (arith, none, h.total, does.1.total);
 }
-renewed_counted old new counts (Ok None) does h = subst (λ (s : Story). IsCounted s.opening s.steps counts) (sym does.1) h
-renewed_counted old new counts (Err refused) does h = subst (λ (s : Story). IsCounted s.opening s.steps counts) (sym does) h
+renewed_counted logged old new counts (Ok None) does h = subst (λ (s : Story). IsCounted s.opening s.steps counts) (sym does.1) h
+renewed_counted logged old new counts (Err refused) does h = subst (λ (s : Story). IsCounted s.opening s.steps counts) (sym does) h
 
-pub renewed_who : (old new : Story) (result : Result (Option History) AllocError) → NewEraDoes old new result → who_in new.site ≡ who_in old.site
-renewed_who old new (Ok (Some history)) does = ap who_in does.1.site
-renewed_who old new (Ok None) does = ap (λ (s : Story). who_in s.site) does.1
-renewed_who old new (Err refused) does = ap (λ (s : Story). who_in s.site) does
+pub renewed_who : (logged : Bool) (old new : Story) (result : Result (Option History) AllocError) → NewEraDoes logged old new result → who_in new.site ≡ who_in old.site
+renewed_who logged old new (Ok (Some history)) does = ap who_in does.1.site
+renewed_who logged old new (Ok None) does = ap (λ (s : Story). who_in s.site) does.1
+renewed_who logged old new (Err refused) does = ap (λ (s : Story). who_in s.site) does

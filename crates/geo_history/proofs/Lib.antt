@@ -4,3 +4,4 @@ pub mod Keeps
 pub mod Calls
 pub mod Eras
 mod Counting
+pub mod Logging

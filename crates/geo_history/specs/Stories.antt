@@ -1,5 +1,5 @@
 -- What a site with its history opens with, and what is left of it in the end.
-use Rattle.std.specs.Prelude.{◌≡◌, ℕ, ◌+◌, ◌<◌, Bool, [], Option, None, Some, Result, Ok, Err}
+use Rattle.std.specs.Prelude.{◌≡◌, ◌⊎◌, ℕ, ◌+◌, ◌<◌, Bool, true, false, List, [], Option, None, Some, Result, Ok, Err}
 use Rattle.std.specs.declared.alloc.AllocError.{AllocError}
 use Rattle.geo_site.specs.declared.setup.Setup.{Setup}
 use Rattle.geo_site.specs.declared.refusal.SetupError.{SetupError}
@@ -7,6 +7,8 @@ use Rattle.geo_site.specs.Sites.{SetupRefuses}
 use Rattle.geo_site.specs.States.{IsStateOf}
 use Rattle.geo_history.specs.declared.history.History.{History}
 use Rattle.geo_history.specs.declared.kept.Kept.{Kept}
+use Rattle.geo_history.specs.declared.step.Step.{Step}
+use Rattle.geo_history.specs.Logging.{logged_in}
 use Rattle.geo_history.specs.Sizes.{fills}
 use Rattle.geo_history.specs.Standings.{who_in, who_of}
 use Rattle.geo_history.specs.Keeping.{Story, story_of, most_seats, opened_with, opened_total, made_by, made_in_all, IsKept, OpensEmpty}
@@ -21,12 +23,19 @@ setup_in kept = kept.parts.setup
 abbrev pub most_bytes_in : Kept → Option ℕ
 most_bytes_in kept = kept.most_bytes
 
-abbrev pub StaysTold : Kept → Kept → Type 0
-StaysTold old new = (setup_in new ≡ setup_in old) × (most_bytes_in new ≡ most_bytes_in old)
+-- whether its steps are logged, and those that are
+abbrev pub is_logged : Kept → Bool
+is_logged kept = kept.parts.steps.logged
 
--- its steps keep as many bytes as they may, or more
+abbrev pub logged_steps : Kept → List Step
+logged_steps kept = logged_in kept.parts.steps
+
+abbrev pub StaysTold : Kept → Kept → Type 0
+StaysTold old new = (setup_in new ≡ setup_in old) × (most_bytes_in new ≡ most_bytes_in old) × (is_logged new ≡ is_logged old)
+
+-- its logged steps keep as many bytes as they may, or more
 abbrev pub is_full : Kept → Bool
-is_full kept = fills (most_bytes_in kept) (story_in kept).steps
+is_full kept = fills (most_bytes_in kept) (logged_steps kept)
 
 abbrev pub KeptOpens : Setup → Result Kept SetupError → Type 0
 KeptOpens setup (Ok kept) = OpensEmpty setup (story_in kept)
@@ -51,8 +60,8 @@ pub record Renews (old new : Story) : Type 0 where
 abbrev pub last_era : ℕ
 last_era = 4294967295
 
--- the history up to a new era is handed out; where the last era is reached there is none
-abbrev pub NewEraDoes : Story → Story → Result (Option History) AllocError → Type 0
-NewEraDoes old new (Ok (Some history)) = IsHistoryOf old history × Renews old new
-NewEraDoes old new (Ok None) = (old.opening.era ≡ last_era) × (new ≡ old)
-NewEraDoes old new (Err refused) = new ≡ old
+-- the history up to a new era is handed out; where the last era is reached, or no step is logged, there is none
+abbrev pub NewEraDoes : Bool → Story → Story → Result (Option History) AllocError → Type 0
+NewEraDoes logged old new (Ok (Some history)) = IsHistoryOf old history × Renews old new × (logged ≡ true)
+NewEraDoes logged old new (Ok None) = ((logged ≡ false) ⊎ (old.opening.era ≡ last_era)) × (new ≡ old)
+NewEraDoes logged old new (Err refused) = new ≡ old

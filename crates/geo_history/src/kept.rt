@@ -41,25 +41,36 @@ fn no_steps(alloc: Global) -> Result<Vec<u64>, AllocError>
 }
 
 impl Kept {
-    ghost use Rattle.std.specs.Prelude.{◌≡◌, ◌+◌, IfOk, IfSome, None, Some};
+    ghost use Rattle.std.specs.Prelude.{◌≡◌, ◌+◌, true, IfOk, IfSome, None, Some};
     ghost use Rattle.geo_site.specs.Machine.{Numbered};
     ghost use Rattle.geo_site.specs.Sites.{state_in};
     ghost use Rattle.geo_history.specs.Keeping.{most_steps, made_by};
     ghost use Rattle.geo_history.specs.Sizes.{kept_bytes};
-    ghost use Rattle.geo_history.specs.Stories.{story_in, setup_in, most_bytes_in, is_full, StaysTold, KeptOpens, IsHistoryOf, NewEraDoes};
+    ghost use Rattle.geo_history.specs.Stories.{story_in, setup_in, most_bytes_in, is_logged, logged_steps, is_full, StaysTold, KeptOpens, IsHistoryOf, NewEraDoes};
 
-    /// A site that knows nothing, with an empty history. It is refused as [`Site::new`] refuses it.
+    /// A site that knows nothing, with an empty history, which is logged. It is refused as [`Site::new`] refuses it.
     pub fn new(alloc: Global, setup: Setup) -> Result<Kept, SetupError>
         ensures opens { KeptOpens setup result }
         ensures setup { IfOk result (λ kept. setup_in kept ≡ setup) }
         ensures bound { IfOk result (λ kept. most_bytes_in kept ≡ None) }
+        ensures logged { IfOk result (λ kept. is_logged kept ≡ true) }
+    {
+        Kept::opened(alloc, setup, true)
+    }
+
+    /// The same, whose history is logged or not. One that isn't proofs alone have: calls keep nothing, and no new era begins.
+    pub fn opened(alloc: Global, setup: Setup, logged: bool) -> Result<Kept, SetupError>
+        ensures opens { KeptOpens setup result }
+        ensures setup { IfOk result (λ kept. setup_in kept ≡ setup) }
+        ensures bound { IfOk result (λ kept. most_bytes_in kept ≡ None) }
+        ensures logged { IfOk result (λ kept. is_logged kept ≡ logged) }
     {
         let own = setup.copied();
         let site = Site::new(alloc, setup)?;
         let Ok(counts) = no_steps(alloc) else {
             return Err(SetupError::Memory);
         };
-        let Ok(steps) = Log::new(alloc) else {
+        let Ok(steps) = Log::new(alloc, logged) else {
             return Err(SetupError::Memory);
         };
         let opening = Opening {
@@ -84,6 +95,7 @@ impl Kept {
         ensures story { story_in result ≡ story_in self }
         ensures setup { setup_in result ≡ setup_in self }
         ensures bound { most_bytes_in result ≡ Some most_bytes }
+        ensures logged { is_logged result ≡ is_logged self }
     {
         let Kept { parts, .. } = self;
         Kept {
@@ -121,22 +133,29 @@ impl Kept {
         MOST_STEPS - self.parts.counts[seat as usize]
     }
 
-    /// The steps so far.
+    /// Whether the steps are logged.
+    pub fn is_logged(&self) -> bool
+        ensures { result ≡ is_logged self.now }
+    {
+        self.parts.steps.is_logged()
+    }
+
+    /// The steps so far, where they are logged, and else none.
     pub fn steps(&self) -> &Chunks<Step>
-        ensures { result.now.items ≡ (story_in self.now).steps }
+        ensures { result.now.items ≡ logged_steps self.now }
     {
         self.parts.steps.steps()
     }
 
-    /// How many bytes the steps so far keep: the lengths of what they own, and a fixed size for each step and for each thing that it
-    /// lists.
+    /// How many bytes the steps so far keep that are logged: the lengths of what they own, and a fixed size for each step and for each
+    /// thing that it lists.
     pub fn bytes(&self) -> u64
-        ensures { result ≡ kept_bytes (story_in self.now).steps }
+        ensures { result ≡ kept_bytes (logged_steps self.now) }
     {
         self.parts.steps.bytes()
     }
 
-    /// Whether the steps so far keep as many bytes as they may, or more.
+    /// Whether the steps so far that are logged keep as many bytes as they may, or more.
     pub fn is_full(&self) -> bool
         ensures { result ≡ is_full self.now }
     {
@@ -147,19 +166,19 @@ impl Kept {
     }
 
     /// Begins a new era where the site stands, and hands out the history that ends there, so that it can be let go where nobody waits.
-    /// The site stays, and so do the seats' numbers of steps. Where memory is wanted, or this is era 2^32 - 1, nothing is done; then
-    /// None is told.
+    /// The site stays, and so do the seats' numbers of steps. Where memory is wanted, no step is logged, or this is era 2^32 - 1, nothing
+    /// is done; in the two latter cases None is told.
     pub fn new_era(&mut self, alloc: Global) -> Result<Option<History>, AllocError>
-        ensures does { NewEraDoes (story_in self.old) (story_in self.new) result }
+        ensures does { NewEraDoes (is_logged self.old) (story_in self.old) (story_in self.new) result }
         ensures setup { IfOk result (λ ended. IfSome ended (λ history. history.setup ≡ setup_in self.old)) }
         ensures told { StaysTold self.old self.new }
     {
         self.parts.new_era(alloc)
     }
 
-    /// The history, which ends here.
+    /// The history, which ends here. Where it was not logged, what is given has no step.
     pub fn history(self) -> History
-        ensures is { IsHistoryOf (story_in self) result }
+        ensures is { is_logged self ≡ true → IsHistoryOf (story_in self) result }
         ensures setup { result.setup ≡ setup_in self }
     {
         let Kept { parts, .. } = self;

@@ -59,6 +59,7 @@ impl Parts {
         requires left { made_in self.old.opening self.old.steps.items seat < most_steps }
         ensures site { self.new.site ≡ self.old.site }
         ensures setup { self.new.setup ≡ self.old.setup }
+        ensures logged { self.new.steps.logged ≡ self.old.steps.logged }
         ensures opening { self.new.opening ≡ self.old.opening }
         ensures steps { self.new.steps.items ≡ self.old.steps.items
             ++ step_with seat (made_in self.old.opening self.old.steps.items seat + 1) event answer victim made ∷ [] }
@@ -85,6 +86,7 @@ impl Parts {
         ensures told { result ≡ is_flush_due (story_of self.old) now }
         ensures flush { FlushDoes self.old.site self.new.site now }
         ensures setup { self.new.setup ≡ self.old.setup }
+        ensures logged { self.new.steps.logged ≡ self.old.steps.logged }
         ensures opening { self.new.opening ≡ self.old.opening }
         ensures steps { self.new.steps.items ≡ self.old.steps.items ++ flush_steps (story_of self.old) seat now }
         ensures counted { IsCounted self.new.opening self.new.steps.items self.new.counts.items }
@@ -110,6 +112,7 @@ impl Parts {
         requires left { made_in self.old.opening self.old.steps.items seat + flush_count (story_of self.old) now + 1 ≤ most_steps }
         ensures does { ActForDoes (story_of self.old) (story_of self.new) seat now request result }
         ensures setup { self.new.setup ≡ self.old.setup }
+        ensures logged { self.new.steps.logged ≡ self.old.steps.logged }
         ensures counted { IsCounted self.new.opening self.new.steps.items self.new.counts.items }
     {
         self.steps.ready(2)?;
@@ -144,6 +147,7 @@ impl Parts {
         requires left { made_in self.old.opening self.old.steps.items seat < most_steps }
         ensures does { SendForDoes (story_of self.old) (story_of self.new) seat to result }
         ensures setup { self.new.setup ≡ self.old.setup }
+        ensures logged { self.new.steps.logged ≡ self.old.steps.logged }
         ensures counted { IsCounted self.new.opening self.new.steps.items self.new.counts.items }
     {
         if self.steps.ready(1).is_err() {
@@ -182,6 +186,7 @@ impl Parts {
         requires copy { copy ≡ parcel }
         ensures does { TakeForDoes (story_of self.old) (story_of self.new) seat parcel result }
         ensures setup { self.new.setup ≡ self.old.setup }
+        ensures logged { self.new.steps.logged ≡ self.old.steps.logged }
         ensures counted { IsCounted self.new.opening self.new.steps.items self.new.counts.items }
     {
         if self.steps.ready(1).is_err() {
@@ -215,6 +220,7 @@ impl Parts {
         requires left { made_in self.old.opening self.old.steps.items seat < most_steps }
         ensures does { RemoveForDoes (story_of self.old) (story_of self.new) seat result }
         ensures setup { self.new.setup ≡ self.old.setup }
+        ensures logged { self.new.steps.logged ≡ self.old.steps.logged }
         ensures counted { IsCounted self.new.opening self.new.steps.items self.new.counts.items }
     {
         self.steps.ready(1)?;
@@ -236,6 +242,7 @@ impl Parts {
         requires left { made_in self.old.opening self.old.steps.items seat < most_steps }
         ensures does { EvictForDoes (story_of self.old) (story_of self.new) seat key.now result }
         ensures setup { self.new.setup ≡ self.old.setup }
+        ensures logged { self.new.steps.logged ≡ self.old.steps.logged }
         ensures counted { IsCounted self.new.opening self.new.steps.items self.new.counts.items }
     {
         self.steps.ready(1)?;
@@ -258,6 +265,7 @@ impl Parts {
         requires left { made_in self.old.opening self.old.steps.items seat < most_steps }
         ensures does { FillForDoes (story_of self.old) (story_of self.new) seat key.now bytes result }
         ensures setup { self.new.setup ≡ self.old.setup }
+        ensures logged { self.new.steps.logged ≡ self.old.steps.logged }
         ensures counted { IsCounted self.new.opening self.new.steps.items self.new.counts.items }
     {
         self.steps.ready(1)?;
@@ -275,6 +283,7 @@ impl Parts {
         requires left { made_in self.old.opening self.old.steps.items seat < most_steps }
         ensures does { RetireForDoes (story_of self.old) (story_of self.new) seat other result }
         ensures setup { self.new.setup ≡ self.old.setup }
+        ensures logged { self.new.steps.logged ≡ self.old.steps.logged }
         ensures counted { IsCounted self.new.opening self.new.steps.items self.new.counts.items }
     {
         if self.steps.ready(1).is_err() {
@@ -299,6 +308,7 @@ impl Parts {
         requires left { made_in self.old.opening self.old.steps.items seat + flush_count (story_of self.old) now ≤ most_steps }
         ensures does { TickForDoes (story_of self.old) (story_of self.new) seat now result }
         ensures setup { self.new.setup ≡ self.old.setup }
+        ensures logged { self.new.steps.logged ≡ self.old.steps.logged }
         ensures counted { IsCounted self.new.opening self.new.steps.items self.new.counts.items }
     {
         self.steps.ready(1)?;
@@ -317,6 +327,7 @@ impl Parts {
         requires left { made_in self.old.opening self.old.steps.items seat + flush_count (story_of self.old) now + 1 ≤ most_steps }
         ensures does { ReapForDoes (story_of self.old) (story_of self.new) seat now key.now result }
         ensures setup { self.new.setup ≡ self.old.setup }
+        ensures logged { self.new.steps.logged ≡ self.old.steps.logged }
         ensures counted { IsCounted self.new.opening self.new.steps.items self.new.counts.items }
     {
         let (Ok(()), Ok(copy)) = (self.steps.ready(2), key.twin(alloc)) else {
@@ -344,6 +355,7 @@ impl Parts {
         requires counted { IsCounted self.old.opening self.old.steps.items self.old.counts.items }
         ensures does { JuggleForDoes (story_of self.old) (story_of self.new) class result }
         ensures setup { self.new.setup ≡ self.old.setup }
+        ensures logged { self.new.steps.logged ≡ self.old.steps.logged }
         ensures counted { IsCounted self.new.opening self.new.steps.items self.new.counts.items }
     {
         self.site.juggle(class)
@@ -360,15 +372,19 @@ impl Parts {
         requires kept { ∥ IsKept (story_of self.old) ∥₁ }
         requires counted { IsCounted self.old.opening self.old.steps.items self.old.counts.items }
         requires who { who_in self.old.site ≡ who_of self.old.setup }
-        ensures does { NewEraDoes (story_of self.old) (story_of self.new) result }
+        ensures does { NewEraDoes self.old.steps.logged (story_of self.old) (story_of self.new) result }
         ensures told { IfOk result (λ ended. IfSome ended (λ history. history.setup ≡ self.old.setup)) }
         ensures setup { self.new.setup ≡ self.old.setup }
+        ensures logged { self.new.steps.logged ≡ self.old.steps.logged }
         ensures counts { self.new.counts ≡ self.old.counts }
     {
+        if !self.steps.is_logged() {
+            return Ok(None);
+        }
         let Some(era) = self.opening.era.checked_add(1) else {
             return Ok(None);
         };
-        let steps = Log::new(alloc)?;
+        let steps = Log::new(alloc, true)?;
         let counts = Vec::from_slice(alloc, self.counts.as_slice())?;
         let state = self.site.state(alloc)?;
         let opening = Opening { era, state, counts };

@@ -1,5 +1,5 @@
 -- What a station's end tells of its history.
-use Rattle.std.proofs.Common.{◌≡◌, ◌+◌, true, List, Option, None, Some, Result, Ok, Err, IfOk, IfSome, ap, inr, sym, subst, ◌∙◌, arith}
+use Rattle.std.proofs.Common.{◌≡◌, ◌≢◌, ◌⊎◌, ◌≤◌, ◌+◌, ℕ, Bool, true, false, cond, List, [], Option, None, Some, Result, Ok, Err, IfOk, IfSome, ap, inl, inr, sym, subst, ◌∙◌, arith}
 use Rattle.std.specs.declared.alloc.AllocError.{AllocError}
 use Rattle.std.proofs.Math.Logic.{∥∥₁_map}
 use Rattle.geo_history.specs.declared.history.History.{History}
@@ -7,9 +7,15 @@ use Rattle.geo_history.specs.Standings.{who_of, standing_in}
 use Rattle.geo_history.specs.Keeping.{Keeps, Story}
 use Rattle.geo_history.specs.declared.kept.Kept.{Kept}
 use Rattle.geo_history.specs.Sizes.{fills}
-use Rattle.geo_history.specs.Stories.{IsHistoryOf, NewEraDoes, StaysTold, is_full, most_bytes_in, setup_in, story_in}
-use Rattle.geo_station.specs.Seats.{Seated, IsLawful}
-use Rattle.geo_station.specs.Calls.{HasFlushed}
+use Rattle.geo_grammar.specs.declared.request.Request.{Request}
+use Rattle.geo_grammar.specs.declared.reply.Reply.{Reply}
+use Rattle.geo_grammar.specs.declared.reply.Reply.TheVariants.{OutOfMemory}
+use Rattle.geo_history.specs.declared.step.Event.TheVariants.{Command}
+use Rattle.geo_history.specs.declared.step.Answer.TheVariants.{Replied}
+use Rattle.geo_history.specs.declared.step.Step.{Step}
+use Rattle.geo_history.specs.Stories.{IsHistoryOf, NewEraDoes, StaysTold, is_full, is_logged, last_era, most_bytes_in, logged_steps, setup_in, story_in}
+use Rattle.geo_station.specs.Seats.{Seated, IsLawful, call_of, kept_with}
+use Rattle.geo_station.specs.Calls.{HasAsked, HasFlushed}
 use Rattle.geo_station.specs.Eras.{EndsWhereFull}
 
 pub lawful_of : (story : Story) (history : History) → IsHistoryOf story history → IsLawful history
@@ -20,23 +26,46 @@ lawful_of story history is = ∥∥₁_map is.kept (λ k. (
       (subst (λ who. Keeps who story.opening story.steps (standing_in story.site)) (sym is.who) k)),
 ))
 
-pub ended_lawful : (old new : Story) (result : Result (Option History) AllocError) → NewEraDoes old new result → IfOk result (λ ended. IfSome ended IsLawful)
-ended_lawful old new (Ok (Some history)) does = lawful_of old history does.0
-ended_lawful old new (Ok None) does = tt
-ended_lawful old new (Err refused) does = tt
+pub ended_lawful : (logged : Bool) (old new : Story) (result : Result (Option History) AllocError) → NewEraDoes logged old new result → IfOk result (λ ended. IfSome ended IsLawful)
+ended_lawful logged old new (Ok (Some history)) does = lawful_of old history does.0
+ended_lawful logged old new (Ok None) does = tt
+ended_lawful logged old new (Err refused) does = tt
+
+-- where steps are logged those are all
+pub all_logged : (kept : Kept) → is_logged kept ≡ true → logged_steps kept ≡ (story_in kept).steps
+all_logged kept on = ap (λ (b : Bool). cond b (story_in kept).steps []) on
 
 -- what a new era tells where the steps kept as many bytes as they may
-pub ends_where_full : (old new : Kept) (result : Result (Option History) AllocError) → is_full old ≡ true → NewEraDoes (story_in old) (story_in new) result
+pub ends_where_full : (old new : Kept) (result : Result (Option History) AllocError) → is_full old ≡ true → NewEraDoes (is_logged old) (story_in old) (story_in new) result
     → IfOk result (λ ended. IfSome ended (λ history. history.setup ≡ setup_in old)) → StaysTold old new → EndsWhereFull new result
 ends_where_full old new (Ok (Some history)) full does setup told = record {
-  full = ap (λ m. fills m history.steps.items) told.1 ∙ ap (λ steps. fills (most_bytes_in old) steps) does.0.steps ∙ full;
+  full = ap (λ m. fills m history.steps.items) told.1 ∙ ap (λ steps. fills (most_bytes_in old) steps) (does.0.steps ∙ sym (all_logged old does.2)) ∙ full;
   lawful = lawful_of (story_in old) history does.0;
   setup = setup ∙ sym told.0;
   anew = does.1.steps;
 }
-ends_where_full old new (Ok None) full does setup told = inr (ap (λ (s : Story). s.opening.era) does.1 ∙ does.0)
+ends_where_full old new (Ok None) full does setup told = by does.0
+  where
+    by : (is_logged old ≡ false) ⊎ ((story_in old).opening.era ≡ last_era) → EndsWhereFull new (Ok None)
+    by (inl off) = inr (inl (told.2 ∙ off))
+    by (inr last) = inr (inr (ap (λ (s : Story). s.opening.era) does.1 ∙ last))
 ends_where_full old new (Err refused) full does setup told =
-    ap (λ m. fills m (story_in new).steps) told.1 ∙ ap (λ (s : Story). fills (most_bytes_in old) s.steps) does ∙ full
+    ap (λ m. fills m (logged_steps new)) told.1
+    ∙ ap (λ (b : Bool). fills (most_bytes_in old) (cond {A = List Step} b (story_in new).steps [])) told.2
+    ∙ ap (λ (s : Story). fills (most_bytes_in old) (cond {A = List Step} (is_logged old) s.steps [])) does ∙ full
+
+-- a seat that keeps no call
+pub asked_unlogged : (old new : Seated) (now flushes : ℕ) (request : Request) (reply : Reply) → flushes ≤ 1 → reply ≢ OutOfMemory → old.logged ≡ false
+    → new ≡ record old { steps = old.steps + (flushes + 1) } → HasAsked old new now request reply
+asked_unlogged old new now flushes request reply few said off same = record {
+  flushes = flushes;
+  few = few;
+  said = said;
+  is = same ∙ (λ i. record old { steps = old.steps + (flushes + 1); calls = as_they_were i });
+}
+  where
+    as_they_were : old.calls ≡ kept_with old.logged old.calls (call_of (Command now request) (Replied reply))
+    as_they_were = sym (ap (λ (b : Bool). kept_with b old.calls (call_of (Command now request) (Replied reply))) off)
 
 -- a seat that is as it was
 pub flushed_none : (old new : Seated) → new ≡ old → HasFlushed old new

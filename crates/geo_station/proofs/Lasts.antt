@@ -1,5 +1,5 @@
 -- The last of so many first steps.
-use Rattle.std.proofs.Common.{◌≡◌, ◌≤◌, ◌<◌, ◌-◌, ◌+◌, ℕ, zero, suc, List, [], ◌∷◌, ◌++◌, length, take, Option, None, Some, slice_get, option_copied, IfSome, IfNone, Bor, refl, sym, ap, subst, ◌∙◌, arith}
+use Rattle.std.proofs.Common.{◌≡◌, ◌≤◌, ◌-◌, ℕ, zero, suc, List, [], ◌∷◌, ◌++◌, length, take, Option, None, Some, slice_get, option_copied, IfSome, IfNone, Bor, sym, ap, subst, arith}
 use Rattle.geo_history.specs.declared.step.Step.{Step}
 
 abbrev IsThere : Option Step → Type 0

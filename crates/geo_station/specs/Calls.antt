@@ -1,5 +1,5 @@
 -- What a call of a station leaves of the seat that made it.
-use Rattle.std.specs.Prelude.{◌≡◌, ◌≢◌, ◌⊎◌, ℕ, ◌+◌, ◌≤◌, Bool, [], ◌∷◌, ◌++◌, Result, Ok, Err}
+use Rattle.std.specs.Prelude.{◌≡◌, ◌≢◌, ◌⊎◌, ℕ, ◌+◌, ◌≤◌, Bool, Result, Ok, Err}
 use Rattle.geo_delta.specs.declared.parcel.Parcel.{Parcel}
 use Rattle.geo_grammar.specs.declared.request.Request.{Request}
 use Rattle.geo_grammar.specs.declared.reply.Reply.{Reply}
@@ -24,11 +24,12 @@ use Rattle.geo_station.specs.declared.refusal.Returned.{Returned}
 use Rattle.geo_station.specs.declared.refusal.SeatSpent.{SeatSpent as Spent}
 use Rattle.geo_station.specs.declared.refusal.StationError.{StationError}
 use Rattle.geo_station.specs.Maintenance.{Maintains}
-use Rattle.geo_station.specs.Seats.{Seated, call_of}
+use Rattle.geo_station.specs.Seats.{Seated, kept_with, call_of}
 
--- it made so many steps, and keeps the call with its answer
+-- it made so many steps, and keeps the call with its answer, if it keeps any
 abbrev pub called : Seated → ℕ → Event → Answer → Seated
-called seat count event answer = record seat { steps = seat.steps + count; calls = seat.calls ++ call_of event answer ∷ [] }
+called seat count event answer =
+    record seat { steps = seat.steps + count; calls = kept_with seat.logged seat.calls (call_of event answer) }
 
 -- a request, with a due flush before it
 pub record HasAsked (old new : Seated) (now : ℕ) (request : Request) (reply : Reply) : Type 0 where

@@ -1,5 +1,5 @@
 -- What a seat keeps of its calls, and what a history tells of them.
-use Rattle.std.specs.Prelude.{◌≡◌, ◌⊎◌, ℕ, ◌+◌, Bool, true, false, ◌==◌, ◌&&◌, ◌||◌, if◌then◌else◌, List, [], ◌∷◌, ◌++◌, length, nat_le, sum_by}
+use Rattle.std.specs.Prelude.{◌≡◌, ◌⊎◌, ℕ, ◌+◌, Bool, true, false, ◌==◌, ◌&&◌, ◌||◌, if◌then◌else◌, List, [], ◌∷◌, ◌++◌, cond, length, nat_le, sum_by}
 use Rattle.std.specs.List.{All}
 use Rattle.geo_history.specs.declared.history.History.{History}
 use Rattle.geo_history.specs.declared.history.Opening.{Opening}
@@ -13,12 +13,17 @@ use Rattle.geo_history.specs.Keeping.{opened_with, Keeps, Story}
 use Rattle.geo_history.specs.Sizes.{answer_bytes, capped, event_bytes, step_size}
 use Rattle.geo_station.specs.declared.call.Call.{Call}
 
--- a seat: its number, how many steps it made, the calls that it keeps, and whether it let go of earlier ones
+-- a seat: its number, how many steps it made, the calls that it keeps, whether it let go of earlier ones, and whether it keeps any
 pub record Seated : Type 0 where
   pub number : ℕ
   pub steps : ℕ
   pub calls : List Call
   pub forgot : Bool
+  pub logged : Bool
+
+-- what is kept with one call more
+abbrev pub kept_with : Bool → List Call → Call → List Call
+kept_with logged calls call = cond logged (calls ++ call ∷ []) calls
 
 -- how many bytes calls keep
 abbrev pub call_bytes : Call → ℕ

@@ -1,9 +1,11 @@
 //! The calls that a seat keeps.
-ghost use Rattle.std.specs.Prelude.{◌≡◌, ◌<◌, ◌++◌, ◌∷◌, [], OnOk, vec_len, vec_capacity};
-ghost use Rattle.geo_station.specs.Seats.{call_of, calls_bytes, is_long};
+ghost use Rattle.std.specs.Prelude.{◌≡◌, ◌<◌, [], true, false, OnOk, IfOk, IfSome, IfNone, vec_len, vec_capacity};
+ghost use Rattle.geo_station.specs.Seats.{call_of, calls_bytes, is_long, kept_with};
 
 use crate::call::Call;
+use geo_grammar::Request;
 use geo_history::{Answer, Event};
+use geo_lattice::Twin;
 use std::alloc::{AllocError, Global};
 
 /// So many calls are let go of when a seat is trimmed.
@@ -15,38 +17,64 @@ const MOST_KEPT_BYTES: u64 = 4_194_304;
 /// What stands for a call, with keys of up to 24 bytes.
 const CALL_SIZE: u64 = 320;
 
-/// The calls that a seat keeps, and how many bytes they keep.
+/// The calls that a seat keeps, and how many bytes they keep. Where they aren't logged it keeps none.
 #[derive(Drop)]
 pub(crate) struct Calls {
     pub(crate) list: Vec<Call>,
     bytes: u64,
+    pub(crate) logged: bool,
     ghost counted: { bytes ≡ calls_bytes list.items },
 }
 
 impl Calls {
     /// None yet. It takes no memory.
-    pub(crate) fn new(alloc: Global) -> Calls
-        ensures { result.list.items ≡ [] }
+    pub(crate) fn new(alloc: Global, logged: bool) -> Calls
+        ensures items { result.list.items ≡ [] }
+        ensures logged { result.logged ≡ logged }
     {
         Calls {
             list: Vec::new(alloc),
             bytes: 0,
+            logged,
         }
     }
 
-    /// Makes room for one more.
+    /// Makes room for one more, where they are logged.
     pub(crate) fn reserve(&mut self) -> Result<(), AllocError>
         ensures items { self.new.list.items ≡ self.old.list.items }
-        ensures ok { OnOk result (vec_len self.new.list < vec_capacity self.new.list) }
+        ensures logged { self.new.logged ≡ self.old.logged }
+        ensures ok { OnOk result (self.new.logged ≡ true → vec_len self.new.list < vec_capacity self.new.list) }
     {
+        if !self.logged {
+            return Ok(());
+        }
         self.list.reserve(1)
     }
 
-    /// Keeps a call, for which there is room.
-    pub(crate) fn keep(&mut self, event: Event, answer: Answer)
-        requires { vec_len self.old.list < vec_capacity self.old.list }
-        ensures { self.new.list.items ≡ self.old.list.items ++ call_of event answer ∷ [] }
+    /// A copy of a request that is to be kept, where calls are logged.
+    pub(crate) fn copy(
+        &self,
+        alloc: Global,
+        request: &Request,
+    ) -> Result<Option<Request>, AllocError>
+        ensures some { IfOk result (λ copy. IfSome copy (λ c. c ≡ request.now)) }
+        ensures none { IfOk result (λ copy. IfNone copy (self.now.logged ≡ false)) }
     {
+        if !self.logged {
+            return Ok(None);
+        }
+        Ok(Some(request.twin(alloc)?))
+    }
+
+    /// Keeps a call, for which there is room, where calls are logged.
+    pub(crate) fn keep(&mut self, event: Event, answer: Answer)
+        requires { self.old.logged ≡ true → vec_len self.old.list < vec_capacity self.old.list }
+        ensures items { self.new.list.items ≡ kept_with self.old.logged self.old.list.items (call_of event answer) }
+        ensures logged { self.new.logged ≡ self.old.logged }
+    {
+        if !self.logged {
+            return;
+        }
         let sized = self.bytes.saturating_add(CALL_SIZE);
         let asked = sized.saturating_add(event.bytes());
         let all = asked.saturating_add(answer.bytes());
@@ -70,7 +98,8 @@ impl Calls {
 
     /// Lets go of them.
     pub(crate) fn clear(&mut self)
-        ensures { self.new.list.items ≡ [] }
+        ensures items { self.new.list.items ≡ [] }
+        ensures logged { self.new.logged ≡ self.old.logged }
     {
         self.list.clear();
         self.bytes = 0;

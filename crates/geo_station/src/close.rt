@@ -1,8 +1,9 @@
 //! The end of a station.
-ghost use Rattle.std.specs.Prelude.{◌≡◌, ◌+◌, MatchBool, sum_by, vec_len};
+ghost use Rattle.std.specs.Prelude.{◌≡◌, ◌≢◌, ◌+◌, true, false, Some, MatchBool, IfNone, sum_by, length, vec_len};
 ghost use Rattle.std.specs.List.{All};
-ghost use Rattle.geo_history.specs.Stories.{story_in};
-ghost use Rattle.geo_station.specs.Seats.{FitsIn};
+ghost use Rattle.geo_history.specs.Stories.{story_in, is_logged};
+ghost use Rattle.geo_station.specs.Seats.{FitsIn, DiffersFrom};
+ghost use Rattle.geo_station.specs.declared.close.Why.TheVariants as whys;
 
 use crate::desk::Desk;
 use crate::fits::{Ending, ending_of};
@@ -18,6 +19,9 @@ pub enum Why {
     /// A seat is missing.
     #[error("a seat is missing")]
     Missing,
+    /// The history was not logged.
+    #[error("the history was not logged")]
+    Unlogged,
     /// The history doesn't tell of a seat what the seat keeps.
     #[error("the history differs from what a seat keeps")]
     Differs,
@@ -50,8 +54,9 @@ pub struct Unclosed<L: Ledger> {
     pub seats: Vec<Seat<L>>,
 }
 
-/// Whether the history tells of a seat what the seat keeps.
+/// Whether the history, which is logged, tells of a seat what the seat keeps.
 fn fits<L: Ledger>(kept: &Kept, seat: &Seat<L>) -> bool
+    requires { is_logged kept.now ≡ true }
     ensures { MatchBool result (FitsIn (story_in kept.now).opening (story_in kept.now).steps seat.now) (FitsIn
         (story_in kept.now).opening (story_in kept.now).steps seat.now → ⊥) }
 {
@@ -67,7 +72,8 @@ fn fits<L: Ledger>(kept: &Kept, seat: &Seat<L>) -> bool
 }
 
 /// Whether it does of each.
-pub fn all_fit<L: Ledger>(kept: &Kept, seats: &[Seat<L>]) -> bool
+fn all_fit<L: Ledger>(kept: &Kept, seats: &[Seat<L>]) -> bool
+    requires { is_logged kept.now ≡ true }
     ensures { MatchBool result (All (FitsIn (story_in kept.now).opening (story_in kept.now).steps) seats.now) (All
         (FitsIn (story_in kept.now).opening (story_in kept.now).steps) seats.now → ⊥) }
 {
@@ -77,6 +83,26 @@ pub fn all_fit<L: Ledger>(kept: &Kept, seats: &[Seat<L>]) -> bool
         }
     }
     true
+}
+
+/// Why a station of so many seats isn't closed with these, if there is a reason.
+pub fn open_for<L: Ledger>(kept: &Kept, count: u64, seats: &[Seat<L>]) -> Option<Why>
+    ensures missing { result ≡ Some whys.Missing → length seats.now ≢ count }
+    ensures unlogged { result ≡ Some whys.Unlogged → (length seats.now ≡ count) × (is_logged kept.now ≡ false) }
+    ensures differs { result ≡ Some whys.Differs → (length seats.now ≡ count) × DiffersFrom (story_in kept.now) seats.now }
+    ensures none { IfNone result ((is_logged kept.now ≡ true) × (length seats.now ≡ count)
+        × All (FitsIn (story_in kept.now).opening (story_in kept.now).steps) seats.now) }
+{
+    if seats.len() as u64 != count {
+        return Some(Why::Missing);
+    }
+    if !kept.is_logged() {
+        return Some(Why::Unlogged);
+    }
+    if !all_fit(kept, seats) {
+        return Some(Why::Differs);
+    }
+    None
 }
 
 /// Puts the seats' shares together.

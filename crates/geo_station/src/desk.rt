@@ -6,7 +6,7 @@ ghost use Rattle.geo_grammar.specs.declared.reply.Reply.TheVariants.{OutOfMemory
 ghost use Rattle.geo_site.specs.Sites.{state_in};
 ghost use Rattle.geo_values.specs.Stock.{with_digest};
 ghost use Rattle.geo_history.specs.Keeping.{most_steps, made_by, made_in_all, is_flush_due, IsKept, TickForDoes, ActForDoes, RetireForDoes};
-ghost use Rattle.geo_history.specs.Stories.{story_in, last_era, is_full};
+ghost use Rattle.geo_history.specs.Stories.{story_in, last_era, is_logged, logged_steps, is_full};
 ghost use Rattle.geo_station.specs.Eras.{ended_by};
 ghost use Rattle.geo_station.specs.Seats.{IsLawful};
 ghost use Rattle.geo_station.specs.declared.desk.Unmade.TheVariants.{Spent};
@@ -70,7 +70,8 @@ impl<L: Ledger> Desk<L> {
 
     /// A seat that was not given yet.
     pub(crate) fn seat(&mut self, alloc: Global) -> Result<Seat<L>, NoSeat>
-        ensures { IfOk result (λ seat. (seat.steps ≡ 0) × (seat.calls ≡ []) × (seat.forgot ≡ false)) }
+        ensures fresh { IfOk result (λ seat. (seat.steps ≡ 0) × (seat.calls ≡ []) × (seat.forgot ≡ false)) }
+        ensures logged { IfOk result (λ seat. seat.logged ≡ is_logged self.old.kept) }
     {
         if self.given >= self.seats {
             return Err(NoSeat);
@@ -81,7 +82,7 @@ impl<L: Ledger> Desk<L> {
         Ok(Seat {
             number,
             account: Account::new(share),
-            calls: Calls::new(alloc),
+            calls: Calls::new(alloc, self.kept.is_logged()),
             forgot: false,
         })
     }
@@ -180,8 +181,8 @@ impl<L: Ledger> Desk<L> {
     pub(crate) fn renew(&mut self, alloc: Global, after: u64) -> Result<Option<History>, AllocError>
         ensures lawful { IfOk result (λ ended. IfSome ended IsLawful) }
         ensures due { IfOk result (λ ended. IfSome ended (λ history. after ≤ length history.steps.items)) }
-        ensures early { IfOk result (λ ended. IfNone ended ((length (story_in self.old.kept).steps < after)
-            ⊎ ((story_in self.old.kept).opening.era ≡ last_era))) }
+        ensures early { IfOk result (λ ended. IfNone ended ((length (logged_steps self.old.kept) < after)
+            ⊎ ((is_logged self.old.kept ≡ false) ⊎ ((story_in self.old.kept).opening.era ≡ last_era)))) }
     {
         if (self.kept.steps().len() as u64) < after {
             return Ok(None);

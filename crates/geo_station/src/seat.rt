@@ -9,7 +9,7 @@ use std::marker::Model;
 use std::sync::ledger::Ledger;
 
 /// What a thread calls a station with. It keeps its requests, sends and takes with the answers that it was handed, in order, until
-/// [`Seat::forget`].
+/// [`Seat::forget`]; at a station whose history is not logged it keeps none.
 #[derive(Drop)]
 pub struct Seat<L: Ledger> {
     pub(crate) number: u8,
@@ -23,7 +23,7 @@ impl<L: Ledger> Model for Seat<L> {
 
     ghost Value = { Seated };
 
-    ghost view = { λ s. record { number = s.number; steps = s.account.count; calls = s.calls.list.items; forgot = s.forgot } };
+    ghost view = { λ s. record { number = s.number; steps = s.account.count; calls = s.calls.list.items; forgot = s.forgot; logged = s.calls.logged } };
 }
 
 impl<L: Ledger> Seat<L> {

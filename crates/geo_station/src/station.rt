@@ -3,12 +3,12 @@ ghost use Rattle.std.specs.Prelude.{◌≡◌, ◌≢◌, ◌⊎◌, ℕ, ◌+�
 ghost use Rattle.std.specs.List.{All};
 ghost use Rattle.geo_delta.specs.Ranges.{InRange};
 ghost use Rattle.geo_history.specs.Keeping.{most_steps, opened_with, opened_total};
-ghost use Rattle.geo_history.specs.Stories.{story_in};
+ghost use Rattle.geo_history.specs.Stories.{story_in, is_logged};
 ghost use Rattle.geo_station.specs.Seats.{FitsIn, IsLawful, DiffersFrom};
 ghost use Rattle.geo_station.specs.declared.refusal.CallError.TheVariants as refused;
 
 use crate::account::Account;
-use crate::close::{Unclosed, Unlocked, Why, all_fit, merge_all};
+use crate::close::{Unclosed, Unlocked, merge_all, open_for};
 use crate::desk::{Desk, Unmade};
 use crate::maintain::Maintained;
 use crate::missing::Missing;
@@ -17,7 +17,6 @@ use crate::seat::Seat;
 use geo_delta::Parcel;
 use geo_grammar::{Reply, Request, ValueBytes};
 use geo_history::{Answer, BoxedParcel, Event, History, Kept};
-use geo_lattice::Twin;
 use geo_site::{Filled, RetireError, SendError, TakeError, Taken};
 use geo_versions::{Digest, Key};
 use std::alloc::{AllocError, Global};
@@ -81,7 +80,8 @@ impl<L: Ledger> Station<L> {
         }
     }
 
-    /// A seat that was not given yet, by rising number from 0; NoSeat where all were given. It takes no memory.
+    /// A seat that was not given yet, by rising number from 0; NoSeat where all were given. It keeps its calls where the history is
+    /// logged. It takes no memory.
     pub fn seat(&self, rt: &impl Wait, alloc: Global) -> Result<Seat<L>, NoSeat>
         ensures { IfOk result (λ seat. (seat.steps ≡ 0) × (seat.calls ≡ []) × (seat.forgot ≡ false)) }
     {
@@ -120,7 +120,7 @@ impl<L: Ledger> Station<L> {
         if account.is_spent() {
             return Err(SeatSpent);
         }
-        let (Ok(()), Ok(copy)) = (calls.reserve(), request.twin(alloc)) else {
+        let (Ok(()), Ok(copy)) = (calls.reserve(), calls.copy(alloc, &request)) else {
             return Ok(Reply::OutOfMemory);
         };
         // SHA-256 is most of a set, and no other thread waits for it here.
@@ -133,7 +133,10 @@ impl<L: Ledger> Station<L> {
             .act(alloc, *number, account, now, request, &mut ended);
         match done {
             Ok((reply, kept)) => {
-                let event = Event::Command { now, request: copy };
+                let Some(request) = copy else {
+                    return Ok(reply);
+                };
+                let event = Event::Command { now, request };
                 let answer = Answer::Replied(kept);
                 calls.keep(event, answer);
                 Ok(reply)
@@ -171,10 +174,7 @@ impl<L: Ledger> Station<L> {
         }
         let event = Event::Send { to };
         let mut ended = Ok(Vec::new(alloc));
-        let done = self
-            .desk
-            .lock(rt)
-            .send(alloc, *number, account, to, &mut ended);
+        let done = self.desk.lock(rt).send(alloc, *number, account, to, &mut ended);
         match done {
             Ok((parcel, kept)) => {
                 let answer = Answer::Sent(kept);
@@ -427,8 +427,8 @@ impl<L: Ledger> Station<L> {
 impl<L: Ledger> Station<L> {
     ghost use Rattle.geo_station.specs.declared.close.Why.TheVariants as whys;
 
-    /// The history of what was done, where all seats are handed in and it tells of each what the seat keeps. Else station and seats
-    /// come back, the station without its lock, so that its history can be spoken of.
+    /// The history of what was done, where all seats are handed in, it was logged, and it tells of each seat what the seat keeps. Else
+    /// station and seats come back, the station without its lock, so that its history can be spoken of.
     pub fn close(self, seats: Vec<Seat<L>>) -> Result<History, Unclosed<L>>
         ensures lawful { IfOk result (λ history. IsLawful history) }
         ensures sum { IfOk result (λ history. opened_total history.opening + length history.steps.items
@@ -436,16 +436,16 @@ impl<L: Ledger> Station<L> {
         ensures each { IfOk result (λ history. All (FitsIn history.opening history.steps.items) seats.items) }
         ensures all { IfOk result (λ _. vec_len seats ≡ self) }
         ensures missing { IfErr result (λ unclosed. unclosed.why ≡ whys.Missing → vec_len seats ≢ self) }
+        ensures unlogged { IfErr result (λ unclosed. unclosed.why ≡ whys.Unlogged
+            → (vec_len seats ≡ self) × (is_logged unclosed.station.desk.kept ≡ false)) }
         ensures differs { IfErr result (λ unclosed. unclosed.why ≡ whys.Differs
             → (vec_len seats ≡ self) × DiffersFrom (story_in unclosed.station.desk.kept) seats.items) }
         ensures back { IfErr result (λ unclosed. (unclosed.seats ≡ seats) × (unclosed.station.seats ≡ self) × (self ≡ L.parts)) }
     {
         let Station { desk, seats: count } = self;
         let mut desk = desk.into_inner();
-        let whole = seats.len() as u64 == count;
-        if !whole || !all_fit(&desk.kept, seats.as_slice()) {
+        if let Some(why) = open_for(&desk.kept, count, seats.as_slice()) {
             let station = Unlocked { desk, seats: count };
-            let why = if whole { Why::Differs } else { Why::Missing };
             return Err(Unclosed {
                 why,
                 station,

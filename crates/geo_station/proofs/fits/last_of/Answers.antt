@@ -1,4 +1,4 @@
-use Rattle.std.proofs.Common.{◌≤◌, arith}
+use Rattle.std.proofs.Common.{arith}
 use Rattle.geo_station.proofs.Lasts.{some_last, none_last}
 use Rattle.geo_station.proofs.fits.last_of.Goals as goal
 

@@ -10,8 +10,9 @@ invariant_of-self c =
     let new = c.new_era.new.self in
     let old = story_of was.parts in
     let does = c.new_era.ensures.does in
+    let logged = was.parts.steps.logged in
     record {
-      kept = renewed_kept old (story_of new) c.new_era.result does was.kept;
-      counted = subst (λ counts. IsCounted new.opening new.steps.items counts) (ap (λ v. v.items) (sym c.new_era.ensures.counts)) (renewed_counted old (story_of new) was.parts.counts.items c.new_era.result does was.counted);
-      who = renewed_who old (story_of new) c.new_era.result does ∙ was.who ∙ ap who_of (sym c.new_era.ensures.setup);
+      kept = renewed_kept logged old (story_of new) c.new_era.result does was.kept;
+      counted = subst (λ counts. IsCounted new.opening new.steps.items counts) (ap (λ v. v.items) (sym c.new_era.ensures.counts)) (renewed_counted logged old (story_of new) was.parts.counts.items c.new_era.result does was.counted);
+      who = renewed_who logged old (story_of new) c.new_era.result does ∙ was.who ∙ ap who_of (sym c.new_era.ensures.setup);
     }

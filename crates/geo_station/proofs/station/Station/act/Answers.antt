@@ -15,3 +15,6 @@ returns-in_default-clause-acts g c = inr (
 
 pub returns-in-Ok-clause-answered : goal.returns-in-Ok-clause-answered
 returns-in-Ok-clause-answered g c = inr (is_answer _ _ _ _ _ _ _ _ (ap (λ s. s.number) c.seat.view_is) c.know_digest.ensures c.in-Ok.ensures.equal c.in-Ok.ensures.does)
+
+pub returns-in_default-copy-clause-answered : goal.returns-in_default-copy-clause-answered
+returns-in_default-copy-clause-answered g c = inr (is_answer _ _ _ _ _ _ _ _ (ap (λ s. s.number) c.seat.view_is) c.know_digest.ensures c.in-Ok.ensures.equal c.in-Ok.ensures.does)

@@ -1,23 +1,22 @@
-use Rattle.std.proofs.Common.{rules, sym, subst}
+use Rattle.std.proofs.Common.{Some, sym, subst, ap, ◌∙◌, arith}
 use Rattle.std.specs.List.{All}
 use Rattle.geo_history.specs.Stories.{story_in}
-use Rattle.geo_station.specs.Seats.{FitsIn}
+use Rattle.geo_station.specs.Seats.{FitsIn, DiffersFrom}
 use Rattle.geo_station.proofs.Closing.{lawful_of}
-use Rattle.geo_station.proofs.station.Station.close.Goals.{then-not-whole-via-then-not-whole, then-not-whole-via-else-not-whole+then-not-all_fit, then-whole, else-whole}
 use Rattle.geo_station.proofs.station.Station.close.Goals as goal
 
-pub returns-then-not-whole-clause-differs : goal.returns-then-not-whole-clause-differs
-returns-then-not-whole-clause-differs g c = λ e.
-    elim c.if-whole.branch [
-      | then-whole w ↦ elim c.then-not-whole.branch [
-        | then-not-whole-via-then-not-whole v ↦ absurd (search rules)
-        | then-not-whole-via-else-not-whole+then-not-all_fit v ↦ (search rules, subst (λ seats. All (FitsIn (story_in c.into_inner-desk.result.kept).opening (story_in c.into_inner-desk.result.kept).steps) seats → ⊥) v.as_slice.ensures.value v.if-not-all_fit.ensures)
-      ]
-      | else-whole w ↦ absurd (search rules)
-    ]
+pub returns-in-Some-clause-differs : goal.returns-in-Some-clause-differs
+returns-in-Some-clause-differs g c = λ e.
+    let differs = c.open_for.ensures.differs (c.in-Some.is ∙ ap Some e) in
+    (omega (arith, c.as_slice.ensures.len, differs.0, c.self.view_is), subst (DiffersFrom (story_in c.into_inner-desk.result.kept)) c.as_slice.ensures.value differs.1)
 
 pub returns-clause-lawful : goal.returns-clause-lawful
-returns-clause-lawful g c = lawful_of (story_in c.into_inner-desk.result.kept) c.history.result c.history.ensures.is
+returns-clause-lawful g c = lawful_of (story_in c.into_inner-desk.result.kept) c.history.result (c.history.ensures.is c.in_default.ensures.none.0)
 
 pub returns-clause-each : goal.returns-clause-each
-returns-clause-each g c = subst (λ opening. All (FitsIn opening c.history.result.steps.items) c.args.seats.items) (sym c.history.ensures.is.opening) (subst (λ steps. All (FitsIn (story_in c.into_inner-desk.result.kept).opening steps) c.args.seats.items) (sym c.history.ensures.is.steps) (subst (All (FitsIn (story_in c.into_inner-desk.result.kept).opening (story_in c.into_inner-desk.result.kept).steps)) c.as_slice.ensures.value c.if-not-all_fit.ensures))
+returns-clause-each g c =
+    let is = c.history.ensures.is c.in_default.ensures.none.0 in
+    let story = story_in c.into_inner-desk.result.kept in
+    subst (λ opening. All (FitsIn opening c.history.result.steps.items) c.args.seats.items) (sym is.opening)
+    (subst (λ steps. All (FitsIn story.opening steps) c.args.seats.items) (sym is.steps)
+    (subst (All (FitsIn story.opening story.steps)) c.as_slice.ensures.value c.in_default.ensures.none.2))
