@@ -20,9 +20,16 @@ use geo_history::{Answer, BoxedParcel, Event, History, Kept};
 use geo_site::{Filled, RetireError, SendError, TakeError, Taken};
 use geo_versions::{Digest, Key};
 use std::alloc::{AllocError, Global};
+use std::hint::spin_loop;
 use std::marker::Model;
 use std::sync::ledger::{Blank, Ledger};
-use std::sync::{Mutex, Wait};
+use std::sync::{Mutex, MutexGuard, Wait};
+
+/// How often a call asks for the lock before it sleeps for it, and how often it pauses between two of these. A call holds the lock for
+/// about a microsecond, which is less than sleeping and waking take.
+const TRIES: usize = 64;
+
+const PAUSES: usize = 10;
 
 /// A lock round a site with its history, and a ledger whose total is the number of steps. Each call by a seat waits for the lock.
 /// Seats are used with the station that gave them.
@@ -80,12 +87,25 @@ impl<L: Ledger> Station<L> {
         }
     }
 
+    /// What lies under the lock, once no other has it.
+    fn held(&self, rt: &impl Wait) -> MutexGuard<'_, Desk<L>> {
+        for _try in 0..TRIES {
+            if let Some(desk) = self.desk.try_lock() {
+                return desk;
+            }
+            for _pause in 0..PAUSES {
+                spin_loop();
+            }
+        }
+        self.desk.lock(rt)
+    }
+
     /// A seat that was not given yet, by rising number from 0; NoSeat where all were given. It keeps its calls where the history is
     /// logged. It takes no memory.
     pub fn seat(&self, rt: &impl Wait, alloc: Global) -> Result<Seat<L>, NoSeat>
         ensures { IfOk result (λ seat. (seat.steps ≡ 0) × (seat.calls ≡ []) × (seat.forgot ≡ false)) }
     {
-        self.desk.lock(rt).seat(alloc)
+        self.held(rt).seat(alloc)
     }
 }
 
@@ -128,8 +148,7 @@ impl<L: Ledger> Station<L> {
         // A history that ends is let go of behind the lock.
         let mut ended = Ok(Vec::new(alloc));
         let done = self
-            .desk
-            .lock(rt)
+            .held(rt)
             .act(alloc, *number, account, now, request, &mut ended);
         match done {
             Ok((reply, kept)) => {
@@ -174,7 +193,7 @@ impl<L: Ledger> Station<L> {
         }
         let event = Event::Send { to };
         let mut ended = Ok(Vec::new(alloc));
-        let done = self.desk.lock(rt).send(alloc, *number, account, to, &mut ended);
+        let done = self.held(rt).send(alloc, *number, account, to, &mut ended);
         match done {
             Ok((parcel, kept)) => {
                 let answer = Answer::Sent(kept);
@@ -213,8 +232,7 @@ impl<L: Ledger> Station<L> {
     {
         let mut ended = Ok(Vec::new(alloc));
         let done = self
-            .desk
-            .lock(rt)
+            .held(rt)
             .take(alloc, number, account, parcel, copy, &mut ended);
         done
     }
@@ -293,8 +311,7 @@ impl<L: Ledger> Station<L> {
         bytes.know_digest(alloc);
         let mut ended = Ok(Vec::new(alloc));
         let done = self
-            .desk
-            .lock(rt)
+            .held(rt)
             .fill(alloc, *number, account, key, bytes, &mut ended);
         done
     }
@@ -323,8 +340,7 @@ impl<L: Ledger> Station<L> {
         }
         let mut ended = Ok(Vec::new(alloc));
         let done = self
-            .desk
-            .lock(rt)
+            .held(rt)
             .retire(alloc, *number, account, other, &mut ended);
         done
     }
@@ -343,7 +359,7 @@ impl<L: Ledger> Station<L> {
         ensures number { IfOk result (λ missing. IfSome missing (λ m. (1 ≤ m.from) × (m.from ≤ m.sites))) }
         ensures sites { IfOk result (λ missing. IfSome missing (λ m. m.sites ≤ 16)) }
     {
-        self.desk.lock(rt).missing(alloc, now, after)
+        self.held(rt).missing(alloc, now, after)
     }
 
     /// What the site lacks of the keys that [`Station::missing`] would give one after the other from the least on, so many at most. It is no
@@ -358,7 +374,7 @@ impl<L: Ledger> Station<L> {
         ensures lacking { LacksFirst now most result }
         ensures few { IfOk result (λ lacked. length lacked.items ≤ most) }
     {
-        self.desk.lock(rt).first_missing(alloc, now, most)
+        self.held(rt).first_missing(alloc, now, most)
     }
 
     /// A copy of the bytes, at most a mebibyte, that the site holds of a key, where they have this SHA-256. It is no step, and counts no
@@ -374,7 +390,7 @@ impl<L: Ledger> Station<L> {
         ensures digest { IfOk result (λ offered. IfSome offered (λ bytes. sha256 bytes.items ≡ digest.now)) }
         ensures short { IfOk result (λ offered. IfSome offered (λ bytes. length bytes.items ≤ 1048576)) }
     {
-        self.desk.lock(rt).offer(alloc, key, digest)
+        self.held(rt).offer(alloc, key, digest)
     }
 
     /// Does at a moment in seconds what the site needs from time to time: a due flush, the deletes of at most 16 keys whose writes
@@ -400,8 +416,7 @@ impl<L: Ledger> Station<L> {
         }
         let mut ended = Ok(Vec::new(alloc));
         let done = self
-            .desk
-            .lock(rt)
+            .held(rt)
             .maintain(alloc, *number, account, now, &mut ended);
         done
     }
@@ -420,7 +435,7 @@ impl<L: Ledger> Station<L> {
         ensures lawful { IfOk result (λ ended. IfSome ended IsLawful) }
         ensures due { IfOk result (λ ended. IfSome ended (λ history. after ≤ length history.steps.items)) }
     {
-        self.desk.lock(rt).renew(alloc, after)
+        self.held(rt).renew(alloc, after)
     }
 }
 
