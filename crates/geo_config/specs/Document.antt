@@ -1,4 +1,4 @@
--- What a document says of the numbers, the link, the switch and the sites of a configuration.
+-- What a document says of the numbers, the link, the switches and the sites of a configuration.
 use Rattle.std.specs.Prelude.{ℕ, ℤ, pos, ◌≡◌, Bool, true, false, Option, Some, None, option_and_then, option_map, List, [], ◌∷◌, map, IsPermutation, codes, string_bytes}
 use Rattle.toml.specs.Data.{Data, array, table, Items, no_items, item, Members, as_bool, as_integer, as_str, get_member}
 use Rattle.geo_config.specs.declared.settings.Config.{Config}
@@ -96,7 +96,7 @@ SessionsAre None (Some n) = ⊥
 SessionsAre (Some value) None = ⊥
 SessionsAre (Some value) (Some n) = as_integer value ≡ Some (pos n)
 
--- the numbers, the link and the switch are those of the document, or their defaults, and this one for the connections
+-- the numbers, the link and the switches are those of the document, or their defaults, and this one for the connections
 pub record IsOfBy (by_default : Option ℤ) (document : Members) (c : Config) : Type 0 where
   pub pages : number_at document (codes "pages") (Some (pos 64)) ≡ Some (pos c.pages)
   pub max_records : number_at document (codes "max_records") (Some (pos 100000)) ≡ Some (pos c.max_records)
@@ -107,6 +107,7 @@ pub record IsOfBy (by_default : Option ℤ) (document : Members) (c : Config) : 
   pub era_bytes : number_at document (codes "era_bytes") (Some (pos 268435456)) ≡ Some (pos c.era_bytes)
   pub sessions : number_at document (codes "sessions") by_default ≡ Some (pos c.sessions)
   pub fills : switch_at document (codes "fills") false ≡ Some c.fills
+  pub audit : switch_at document (codes "audit") true ≡ Some c.audit
   pub patience : number_at document (codes "patience") (Some (pos 5000)) ≡ Some (pos c.patience)
   pub drain : number_at document (codes "drain") (Some (pos 5000)) ≡ Some (pos c.drain)
 
@@ -130,4 +131,5 @@ pub record DraftIsOf (by_default : Option ℤ) (document : Members) (d : Draft) 
   pub era_bytes : number_at document (codes "era_bytes") (Some (pos 268435456)) ≡ Some d.era_bytes
   pub sessions : number_at document (codes "sessions") by_default ≡ Some d.sessions
   pub fills : switch_at document (codes "fills") false ≡ Some d.fills
+  pub audit : switch_at document (codes "audit") true ≡ Some d.audit
   pub waits : WaitsAreOf document d.waits

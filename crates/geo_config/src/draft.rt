@@ -8,7 +8,7 @@ ghost use Rattle.geo_config.specs.Lawful.{IsInRange, SiteIsInRange};
 ghost use Rattle.geo_config.specs.declared.settings.LinkKind.TheVariants as kind;
 
 use crate::fault::ConfigFault;
-use crate::keys::{NumberKey, fills_of, link_of, text_at};
+use crate::keys::{NumberKey, link_of, switch_of, text_at};
 use crate::settings::{Config, LinkKind, SiteConfig};
 use std::alloc::Global;
 use toml::{Table, Value};
@@ -106,6 +106,7 @@ pub struct Draft {
     era_bytes: i64,
     sessions: i64,
     fills: bool,
+    audit: bool,
     waits: WaitsDraft,
     sites: Vec<SiteDraft>,
 }
@@ -152,7 +153,8 @@ impl Draft {
             default: sessions,
         };
         let sessions = key.read(document)?;
-        let fills = fills_of(document)?;
+        let fills = switch_of(document, "fills", false)?;
+        let audit = switch_of(document, "audit", true)?;
         let waits = WaitsDraft::read(document)?;
         let sites = site_drafts(alloc, document, asks_for_tcp(link))?;
         Ok(Draft {
@@ -165,6 +167,7 @@ impl Draft {
             era_bytes,
             sessions,
             fills,
+            audit,
             waits,
             sites,
         })
@@ -213,6 +216,7 @@ impl Draft {
             era_bytes,
             sessions,
             fills: self.fills,
+            audit: self.audit,
             patience: waits.patience,
             drain: waits.drain,
             sites,

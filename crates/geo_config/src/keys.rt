@@ -1,5 +1,5 @@
 //! The keys of a configuration.
-ghost use Rattle.std.specs.Prelude.{◌≡◌, ◌≤◌, Some, pos, codes, string_bytes, IfOk, IfSome, false};
+ghost use Rattle.std.specs.Prelude.{◌≡◌, ◌≤◌, Some, pos, codes, string_bytes, IfOk, IfSome};
 ghost use Rattle.toml.specs.Data.{get_member};
 ghost use Rattle.toml.specs.View.{table_view};
 ghost use Rattle.geo_config.specs.Document.{LinkIs, SessionsAre, link_text, number_at, switch_at, text_at as text_said};
@@ -74,13 +74,13 @@ pub fn link_of(document: &Table) -> Result<Option<LinkKind>, ConfigFault>
     }
 }
 
-/// Whether a document asks for fills: not where it says nothing of them.
-pub fn fills_of(document: &Table) -> Result<bool, ConfigFault>
-    ensures { IfOk result (λ fills. switch_at (table_view document.now) (codes "fills") false ≡ Some fills) }
+/// Whether a document says that something is on, and what stands for that where it says nothing of it.
+pub fn switch_of(document: &Table, name: &'static str, default: bool) -> Result<bool, ConfigFault>
+    ensures { IfOk result (λ on. switch_at (table_view document.now) name.now default ≡ Some on) }
 {
-    match document.get("fills") {
-        Some(value) => value.as_bool().ok_or(ConfigFault::WrongType("fills")),
-        None => Ok(false),
+    match document.get(name) {
+        Some(value) => value.as_bool().ok_or(ConfigFault::WrongType(name)),
+        None => Ok(default),
     }
 }
 
@@ -180,6 +180,7 @@ fn is_known(name: &str) -> bool {
             | "era_bytes"
             | "sessions"
             | "fills"
+            | "audit"
             | "patience"
             | "drain"
             | "site"

@@ -30,6 +30,8 @@ pub struct Config {
     pub sessions: u64,
     /// Whether each site asks the others for the bytes of values that it knows of and doesn't hold; not where nothing is said.
     pub fills: bool,
+    /// Whether each site's history is logged, so that it can be audited at the end; it is where nothing is said.
+    pub audit: bool,
     /// For how many milliseconds a site waits for another: for a connection, for room for what it writes, and for what it asked for, 100
     /// to 600,000; 5,000 where nothing is said.
     pub patience: u64,

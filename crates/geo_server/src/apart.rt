@@ -9,7 +9,7 @@ use crate::operator::Operator;
 use crate::outbound::{Outbound, Route};
 use crate::porter::{Apart, Porter, Visit};
 use crate::putting::Way;
-use crate::report::{report, verdict_word};
+use crate::report::{SKIPPED, report, verdict_word};
 use crate::site::{Crew, Ended, Job, Shared, made_posts, run_site};
 use crate::start::Start;
 use crate::tcp::Getting;
@@ -128,13 +128,13 @@ fn word_of(
     ended: Vec<Ended>,
 ) -> Result<&'static str, ClusterFault> {
     let told = ended.iter().all(|site| site.history.is_some());
-    if !told {
+    if config.audit && !told {
         return Ok(verdict_word(None));
     }
     if config.sites.len() > 1 {
-        return Ok("skipped");
+        return Ok(SKIPPED);
     }
-    audited(alloc, ended)
+    audited(alloc, config, ended)
 }
 
 /// Both ports of the site.
@@ -230,8 +230,8 @@ fn run<
 /// A site that is told to stop lets in whoever has come, and nobody else. Requests that came whole are answered. A connection ends once
 /// nothing more is there of it, or `drain` is over. Then each other site to which a connection stands is told all that it isn't known to
 /// know, and is waited for, for as long as `patience`. At last the sums of what was counted are written, as [`crate::run_cluster`] does;
-/// of one site of several the audit is skipped. When it is ready, when a link comes up or goes down, that frames are refused and that it
-/// stops is told on standard error. All sessions pass the gate.
+/// of one site of several, or where no history was logged, the audit is skipped. When it is ready, when a link comes up or goes down, that
+/// frames are refused and that it stops is told on standard error. All sessions pass the gate.
 pub fn run_apart<
     R: Net<Stream = TcpStream, Listener = TcpListener>
         + Threads

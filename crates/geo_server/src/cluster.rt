@@ -2,12 +2,12 @@
 ghost use Rattle.std.specs.Prelude.{◌≡◌, ◌≤◌, true, length, IfOk, Some};
 ghost use Rattle.geo_audit.specs.Verdicts.{AreInOrder};
 ghost use Rattle.geo_config.specs.Lawful.{IsLawful};
-ghost use Rattle.geo_history.specs.Stories.{most_bytes_in, setup_in};
+ghost use Rattle.geo_history.specs.Stories.{is_logged, most_bytes_in, setup_in};
 
 use crate::accept::Entrance;
 use crate::fault::{ClusterFault, add};
 use crate::putting::Way;
-use crate::report::{report, verdict_word};
+use crate::report::{SKIPPED, report, verdict_word};
 use crate::site::{Crew, Ended, Fresh, Job, Shared, made_posts, run_site};
 use crate::start::Start;
 use crate::threads::run_all;
@@ -62,6 +62,7 @@ pub(crate) fn opened<R: RandomSource>(
     ensures records { IfOk result (λ fresh. (setup_in fresh.kept).max_records ≡ config.now.max_records) }
     ensures reaps { IfOk result (λ fresh. (setup_in fresh.kept).reap_after ≡ config.now.reap_after) }
     ensures bound { IfOk result (λ fresh. most_bytes_in fresh.kept ≡ Some config.now.era_bytes) }
+    ensures logged { IfOk result (λ fresh. is_logged fresh.kept ≡ config.now.audit) }
 {
     let Ok(hasher) = RandomState::new(rt) else {
         return Err(ClusterFault::Socket);
@@ -74,7 +75,7 @@ pub(crate) fn opened<R: RandomSource>(
         reap_after: config.reap_after,
         hasher,
     };
-    match Kept::new(alloc, setup) {
+    match Kept::opened(alloc, setup, config.audit) {
         Ok(kept) => Ok(Fresh {
             kept: kept.bounded(config.era_bytes),
         }),
@@ -315,8 +316,15 @@ fn are_in_order(histories: &[History]) -> bool
     true
 }
 
-/// The word for the audit of what was done at all sites.
-pub(crate) fn audited(alloc: Global, ended: Vec<Ended>) -> Result<&'static str, ClusterFault> {
+/// The word for the audit of what was done at all sites, where their histories were logged.
+pub(crate) fn audited(
+    alloc: Global,
+    config: &Config,
+    ended: Vec<Ended>,
+) -> Result<&'static str, ClusterFault> {
+    if !config.audit {
+        return Ok(SKIPPED);
+    }
     let Some(all) = histories(alloc, ended)? else {
         return Ok(verdict_word(None));
     };
@@ -331,7 +339,7 @@ pub(crate) fn audited(alloc: Global, ended: Vec<Ended>) -> Result<&'static str, 
 /// two sites by links, and has each site tell the others what was written, at every so many milliseconds. It ends once each site
 /// has accepted as many connections as the configuration says and all of them have ended; then it writes the sums of what was
 /// counted at all sites, and whether the sites' histories are one lawful schedule: `audit sound`, `audit refused`, or `audit
-/// skipped` where a history does not begin at the start. All sessions pass the gate.
+/// skipped` where a history does not begin at the start, or was not logged. All sessions pass the gate.
 pub fn run_cluster<
     R: Net<Stream = TcpStream, Listener = TcpListener>
         + Threads
@@ -353,6 +361,6 @@ pub fn run_cluster<
 {
     let ended = run(rt, alloc, config, gate)?;
     let sums = total(ended.as_slice());
-    let word = audited(alloc, ended)?;
+    let word = audited(alloc, config, ended)?;
     report(alloc, writer, sums, word)
 }

@@ -5,11 +5,14 @@ use geo_grammar::Device;
 use std::alloc::Global;
 use std::io::Write;
 
+/// The word for an audit that says nothing.
+pub(crate) const SKIPPED: &str = "skipped";
+
 /// The words for a verdict; none was reached where a site's seats tell another story than its history.
 pub(crate) fn verdict_word(verdict: Option<&Verdict>) -> &'static str {
     match verdict {
         Some(Verdict::Sound(_)) => "sound",
-        Some(Verdict::LaterEra { .. }) => "skipped",
+        Some(Verdict::LaterEra { .. }) => SKIPPED,
         Some(Verdict::Stuck(_) | Verdict::Wrong { .. }) | None => "refused",
     }
 }

@@ -22,8 +22,8 @@ fn told_apart(alloc: Global, text: &str) -> Result<String, AllocError> {
     }
 }
 
-/// The values in the order in which the format lists them, the era's length and bytes, fills, patience and drain where they aren't the
-/// defaults, each site behind a semicolon.
+/// The values in the order in which the format lists them, the era's length and bytes, fills, the audit, patience and drain where they
+/// aren't the defaults, each site behind a semicolon.
 fn shown(alloc: Global, config: &Config) -> Result<String, AllocError> {
     let Config {
         pages,
@@ -34,6 +34,7 @@ fn shown(alloc: Global, config: &Config) -> Result<String, AllocError> {
         era,
         era_bytes,
         fills,
+        audit,
         patience,
         drain,
         sessions,
@@ -50,6 +51,9 @@ fn shown(alloc: Global, config: &Config) -> Result<String, AllocError> {
     }
     if *fills {
         text.push_str(" fills")?;
+    }
+    if !*audit {
+        text.push_str(" unaudited")?;
     }
     if *patience != 5_000 {
         text.push_str(format!(in alloc; " patience {patience}")?.as_str())?;
@@ -262,12 +266,19 @@ fn told_of_sites(alloc: Global, count: u8) -> Result<String, AllocError> {
     told(alloc, text.as_str())
 }
 
-/// Lines that ask for fills or don't, and what is told.
-const FILLS: [(&str, &str); 4] = [
+/// Lines that turn something on or off, and what is told.
+const SWITCHES: [(&str, &str); 8] = [
     ("fills = true", "64 100000 60 Memory 100 5 fills; 1 a 4 -"),
     ("fills = false", "64 100000 60 Memory 100 5; 1 a 4 -"),
     ("fills = 1", "wrong type fills"),
     ("fills = \"true\"", "wrong type fills"),
+    ("audit = true", "64 100000 60 Memory 100 5; 1 a 4 -"),
+    (
+        "audit = false",
+        "64 100000 60 Memory 100 5 unaudited; 1 a 4 -",
+    ),
+    ("audit = 0", "wrong type audit"),
+    ("audit = \"no\"\nfills = 0", "wrong type fills"),
 ];
 
 /// How many bytes the steps of an era may keep: a line at the top, what is told.
@@ -368,8 +379,8 @@ fn tells_of_the_bytes_of_an_era(rt: HostRuntime) -> Result<(), Fail> {
 }
 
 #[test]
-fn tells_whether_sites_fill_each_other(rt: HostRuntime) -> Result<(), Fail> {
-    for (top, want) in FILLS {
+fn tells_what_is_turned_on_or_off(rt: HostRuntime) -> Result<(), Fail> {
+    for (top, want) in SWITCHES {
         assert_eq!(rt; told_of_lines(rt.alloc(), top, "")?.as_str(), want, "{top}");
     }
     Ok(())
