@@ -24,3 +24,5 @@ mod shown;
 mod stations;
 #[cfg(test)]
 mod threads;
+#[cfg(test)]
+mod unlogged;

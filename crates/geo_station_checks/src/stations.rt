@@ -39,7 +39,7 @@ fn one_seat_is_too_few(rt: HostRuntime) {
 
 /// A call by a station's first seat.
 #[derive(Clone, Copy)]
-enum Call {
+pub enum Call {
     /// A request in the text of the protocol, at the moment 100.
     Act(&'static [u8]),
     /// At the moment 211.
@@ -92,7 +92,7 @@ fn exchange<L: Ledger>(
 }
 
 /// Writes what is told on a line of its own.
-fn say(alloc: Global, out: &mut Vec<u8>, told: &impl Debug) -> Option<()> {
+pub fn say(alloc: Global, out: &mut Vec<u8>, told: &impl Debug) -> Option<()> {
     let text = format!(in alloc; "{told:?}\n").ok()?;
     out.extend_from_slice(text.as_bytes()).ok()
 }
@@ -177,7 +177,7 @@ fn offer<L: Ledger>(
 }
 
 /// Carries out a call, and writes what it answers.
-fn answer<L: Ledger>(
+pub fn answer<L: Ledger>(
     rt: &impl Wait,
     alloc: Global,
     station: &Station<L>,
@@ -242,7 +242,7 @@ fn closed_at_last<L: Ledger>(
 }
 
 /// Writes how many calls a seat keeps, and whether there is another seat.
-fn show_seats<L: Ledger>(
+pub fn show_seats<L: Ledger>(
     rt: &impl Wait,
     alloc: Global,
     station: &Station<L>,
@@ -292,7 +292,7 @@ fn bounded(rt: &impl RandomSource, alloc: Global, most_bytes: u64) -> Option<Kep
 }
 
 /// The second site, which set a key that the station sets too.
-fn other_site(rt: &impl RandomSource, alloc: Global) -> Option<Site> {
+pub fn other_site(rt: &impl RandomSource, alloc: Global) -> Option<Site> {
     let request = request(alloc, b"set a 0 0 2\r\nyo\r\n")?;
     let mut site = Site::new(alloc, setup_of(rt, 2, 2)?).ok()?;
     let _stored = site.act(alloc, 100, &request);
