@@ -2,7 +2,7 @@
 ghost use Rattle.std.specs.Prelude.{◌≡◌};
 
 use crate::client::{Client, Talk};
-use crate::hall::{Fresh, Hall, Size, new_site, opened};
+use crate::hall::{Fresh, Hall, Size, lone_site, opened};
 use crate::lines::{
     Store, push_end, push_figure, push_number, push_of_key, push_store, push_with_figure,
     push_word, set,
@@ -300,11 +300,12 @@ fn run_named<R: Wait + Clock, L: Ledger>(
     hall.ended(rt, alloc)
 }
 
-/// The sum of all that came of it.
+/// The sum of all that came of it, at a site whose steps are logged or not.
 pub fn run<R: Wait + Clock>(
     rt: &R,
     alloc: Global,
     hasher: &RandomState,
+    logged: bool,
     seed: u64,
     scale: u64,
 ) -> Result<u64> {
@@ -313,6 +314,6 @@ pub fn run<R: Wait + Clock>(
         max_records: 1_000_000,
         reap_after: 60,
     };
-    let fresh = new_site(alloc, hasher, size, 1, 1)?;
+    let fresh = lone_site(alloc, hasher, size, logged)?;
     run_named::<R, Brand>(rt, alloc, Blank::new(4), fresh, seed, scale)
 }

@@ -54,6 +54,18 @@ pub struct Size {
     pub reap_after: u32,
 }
 
+/// What one of so many sites is told.
+fn setup_of(hasher: &RandomState, size: Size, site: u8, sites: u8) -> Result<Setup> {
+    Ok(Setup {
+        site,
+        sites,
+        pages: size.pages,
+        max_records: size.max_records,
+        reap_after: size.reap_after,
+        hasher: hasher.clone()?,
+    })
+}
+
 /// One of so many sites.
 pub fn new_site(
     alloc: Global,
@@ -62,15 +74,16 @@ pub fn new_site(
     site: u8,
     sites: u8,
 ) -> Result<Fresh> {
-    let setup = Setup {
-        site,
-        sites,
-        pages: size.pages,
-        max_records: size.max_records,
-        reap_after: size.reap_after,
-        hasher: hasher.clone()?,
-    };
-    match Kept::new(alloc, setup) {
+    site_of(alloc, setup_of(hasher, size, site, sites)?, true)
+}
+
+/// A site alone, whose steps are logged or not.
+pub fn lone_site(alloc: Global, hasher: &RandomState, size: Size, logged: bool) -> Result<Fresh> {
+    site_of(alloc, setup_of(hasher, size, 1, 1)?, logged)
+}
+
+fn site_of(alloc: Global, setup: Setup, logged: bool) -> Result<Fresh> {
+    match Kept::opened(alloc, setup, logged) {
         Ok(kept) => Ok(Fresh { kept }),
         Err(_) => Err(anyhow!("no site")),
     }

@@ -25,7 +25,9 @@ use std::rt::Clock;
 use std::sync::Wait;
 
 /// All that there is.
-const ALL: &[&str] = &["clients", "full", "spread", "ends", "script", "audit"];
+const ALL: &[&str] = &[
+    "clients", "full", "spread", "ends", "script", "audit", "unlogged",
+];
 
 /// The sum of what came of one.
 fn sum_of<R: Wait + Clock + AllocGlobal + RandomSource>(
@@ -37,7 +39,8 @@ fn sum_of<R: Wait + Clock + AllocGlobal + RandomSource>(
     let alloc = rt.alloc();
     let hasher = RandomState::new(rt)?;
     match name {
-        "clients" => clients::run(rt, alloc, &hasher, seed, scale),
+        "clients" => clients::run(rt, alloc, &hasher, true, seed, scale),
+        "unlogged" => clients::run(rt, alloc, &hasher, false, seed, scale),
         "full" => full::run(rt, alloc, &hasher, seed, scale),
         "spread" => spread::run(rt, alloc, &hasher, seed, scale),
         "ends" => ends::run(rt, alloc, &hasher, seed, scale),
