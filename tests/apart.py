@@ -10,6 +10,8 @@ import tempfile
 import threading
 import time
 
+from modes import in_both
+
 SUMS = ["sessions", "requests", "faults", "rounds", "frames_refused", "audit"]
 TESTS = []
 
@@ -280,10 +282,10 @@ def a_site_that_stands_still_holds_up_no_other(serve):
             sites[number].stops()
 
 
-@test
-def the_others_go_on_where_a_site_is_killed_under_load(serve):
+@in_both(TESTS)
+def the_others_go_on_where_a_site_is_killed_under_load(serve, mode):
     keys = [b"k%d" % number for number in range(200)]
-    with Apart(serve, 3, more="fills = true") as sites:
+    with Apart(serve, 3, more=f"fills = true\n{mode.more}") as sites:
         sites.until_joined()
         loads = [Load(sites[number].client(), keys, number) for number in (1, 2, 3)]
         for load in loads:

@@ -6,6 +6,8 @@ import struct
 import threading
 import time
 
+from modes import in_both
+
 FILLS = "fills = true"
 # For how many seconds clients write and read at random.
 AT_RANDOM = 10
@@ -139,9 +141,9 @@ class Writer(threading.Thread):
             self.fault = fault
 
 
-def at_random(serve, sites, link):
+def at_random(serve, sites, link, mode):
     written = {key: set() for key in KEYS}
-    with serve.Server(sites, 2, link=link, more=ONE_ERA, pages=64) as server:
+    with serve.Server(sites, 2, link=link, more=f"{ONE_ERA}\n{mode.more}", pages=64) as server:
         end = time.monotonic() + AT_RANDOM
         clients = [(site, server.client(site)) for site in range(1, sites + 1) for _ in range(2)]
         writers = [Writer(client, written, 100 * site + at, end) for at, (site, client) in enumerate(clients)]
@@ -153,17 +155,17 @@ def at_random(serve, sites, link):
                 raise writer.fault
             assert writer.hits > 100, writer.hits
             writer.client.quit()
-        serve.has(server.ends(), sessions=2 * sites, faults=0, frames_refused=0, audit="sound")
+        serve.has(server.ends(), sessions=2 * sites, faults=0, frames_refused=0, audit=mode.audit)
 
 
-@test
-def nobody_is_shown_what_nobody_set_while_two_sites_write_over_sockets(serve):
-    at_random(serve, 2, "tcp")
+@in_both(TESTS)
+def nobody_is_shown_what_nobody_set_while_two_sites_write_over_sockets(serve, mode):
+    at_random(serve, 2, "tcp", mode)
 
 
-@test
-def nobody_is_shown_what_nobody_set_while_three_sites_write_over_memory_links(serve):
-    at_random(serve, 3, "memory")
+@in_both(TESTS)
+def nobody_is_shown_what_nobody_set_while_three_sites_write_over_memory_links(serve, mode):
+    at_random(serve, 3, "memory", mode)
 
 
 def framed(kind, fields):

@@ -10,14 +10,11 @@ import resource
 import socket
 import time
 
-# By how many mebibytes memory may rise for what a client is owed; and how much of what was answered the history keeps, once, and once
-# more while an era that ended is let go.
+# By how many mebibytes memory may rise for what a client is owed; and how much of what was answered a history that is logged keeps, once,
+# and once more while an era that ended is let go.
 OWED, ERA = 64, 32
-KEPT = 2 * ERA
 # The program may take so many more than it has once the tests begin.
 MOST = 768
-# One worker has all clients.
-SETTINGS = {"workers": 1, "more": f"era_bytes = {ERA << 20}"}
 SESSIONS = 2
 # A value of no pattern, so that each byte out of place is seen.
 LARGE = random.Random(3).randbytes(1 << 20)
@@ -30,6 +27,11 @@ TESTS = []
 def test(function):
     TESTS.append(function)
     return function
+
+
+def settings(mode):
+    """What a server is started with. One worker has all clients."""
+    return {"workers": 1, "more": f"era_bytes = {ERA << 20}\n{mode.more}"}
 
 
 def number_in(pid, name):
@@ -67,8 +69,9 @@ def takes_shown(client, times):
 class Pair:
     """A client that asks for much, and another one."""
 
-    def __init__(self, server):
+    def __init__(self, server, mode):
         self.server, self.pid = server, server.process.pid
+        self.kept = 2 * ERA if mode.is_logged else 0
         self.client, self.other = server.client(1), server.client(1)
         self.client.ask(STORE, b"STORED\r\n")
         self.other.ask(b"set b 0 0 1\r\n!\r\n", b"STORED\r\n")
@@ -93,7 +96,7 @@ class Pair:
         self.client.quit()
         self.other.quit()
         told = self.server.ends()
-        # an era ended where it keeps more than an era's bytes
+        # an era ended where it keeps more than an era's bytes, or no history was logged
         assert (told["sessions"], told["faults"], told["audit"]) == (SESSIONS, 0, "skipped"), told
 
 
@@ -131,7 +134,7 @@ def a_thousand_large_answers_that_nobody_reads_take_no_memory(pair):
     pair.rose_by(OWED)
     for _ in range(1000):
         takes(pair.client, SHOWN + END)
-    pair.rose_by(OWED + KEPT)
+    pair.rose_by(OWED + pair.kept)
     pair.ends()
 
 
@@ -143,5 +146,5 @@ def what_a_slow_client_has_read_is_let_go_though_it_is_always_owed_more(pair):
     for _ in range(300):
         takes(pair.client, SHOWN + END)
         pair.serves_the_other()
-    pair.rose_by(OWED + KEPT)
+    pair.rose_by(OWED + pair.kept)
     pair.ends()

@@ -9,7 +9,8 @@ import tempfile
 import threading
 import time
 
-from apart import Apart, Load, Site, all_show, shown, stored, test
+from apart import TESTS, Apart, Load, Site, all_show, shown, stored, test
+from modes import in_both
 
 # How many keys there are where links are cut at random, and for how many seconds they are.
 KEYS, CUTTING = 10_000, 20
@@ -61,10 +62,10 @@ class Proxy(threading.Thread):
         self.listener.close()
 
 
-@test
-def links_that_are_cut_at_random_lose_nothing(serve):
+@in_both(TESTS)
+def links_that_are_cut_at_random_lose_nothing(serve, mode):
     keys = [b"key%d" % number for number in range(KEYS)]
-    with Apart(serve, 3, started=[], pages=64, more="fills = true\npatience = 1000") as sites:
+    with Apart(serve, 3, started=[], pages=64, more=f"fills = true\npatience = 1000\n{mode.more}") as sites:
         proxies = {}
         for one in (1, 2, 3):
             for other in (1, 2, 3):

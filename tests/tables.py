@@ -273,7 +273,7 @@ def configuration_refusals():
         "configuration: unreadable": [(outcome(None, "serve", "/nowhere/at/all.toml"), "")],
         "configuration: not toml": [(outcome("sessions = \n"), ""), (outcome("sessions = 1\n" + memory), "")],
         "configuration: missing NAME": [(outcome(SITE), "sessions"), (outcome("sessions = 1\n"), "site")],
-        "configuration: wrong type NAME": [(outcome('sessions = "1"\n' + SITE), "sessions")],
+        "configuration: wrong type NAME": [(outcome('sessions = "1"\n' + SITE), "sessions"), (outcome("audit = 1\n" + memory), "audit")],
         "configuration: out of range NAME": [(outcome("pages = 14\n" + memory), "pages"), (outcome(memory, "1"), "link")],
         "configuration: unknown NAME": [(outcome("colour = 3\n" + memory), "colour")],
         "configuration: site numbers": [(outcome(memory + SITE), "")],
