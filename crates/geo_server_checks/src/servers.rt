@@ -1,5 +1,8 @@
 //! What clients of a cluster read, over sockets of the loopback, and what is told at its end.
-use geo_config::{config, config_apart};
+ghost use Rattle.std.specs.Prelude.{IfSome};
+ghost use Rattle.geo_config.specs.Lawful.{IsLawful};
+
+use geo_config::{ApartConfig, config, config_apart};
 use geo_grammar::Device;
 use geo_server::{ClusterFault, Operator, run_apart, run_cluster};
 use geo_session::{Gate, OpenGate};
@@ -44,6 +47,38 @@ fn run<
     Some(writer.into_inner())
 }
 
+/// What a site that runs alone is told, with two ports.
+fn alone(alloc: Global, client: u16, peer: u16) -> Option<ApartConfig>
+    ensures { IfSome result (λ told. IsLawful told.config) }
+{
+    let text = format!(in alloc;
+        "pages = 15\nlink = \"tcp\"\n[[site]]\nnumber = 1\nclient = \"127.0.0.1:{client}\"\npeer = \"127.0.0.1:{peer}\"\n"
+    ).ok()?;
+    config_apart(alloc, text.as_str()).ok()
+}
+
+/// What it tells where an operator says these lines.
+fn told_alone<
+    R: Net<Stream = TcpStream, Listener = TcpListener>
+        + Threads
+        + Wait
+        + Clock
+        + RandomSource
+        + Eprint
+        + Sync,
+>(rt: &R, alloc: Global, config: &ApartConfig, lines: &[u8]) -> Option<Vec<u8>>
+    requires { IsLawful config.now.config }
+{
+    if config.config.sites.len() < 1 {
+        return None;
+    }
+    let mut writer = Device::new(Vec::new(alloc));
+    // a descriptor of which no system tells anything
+    let operator = Operator::new(alloc, lines, -1);
+    run_apart(rt, alloc, config, 1, &OpenGate, operator, &mut writer).ok()?;
+    Some(writer.into_inner())
+}
+
 /// What a site that runs alone tells where an operator says these lines.
 fn run_alone<
     R: Net<Stream = TcpStream, Listener = TcpListener>
@@ -55,18 +90,8 @@ fn run_alone<
         + Sync,
 >(rt: &R, alloc: Global, lines: &[u8]) -> Option<Vec<u8>> {
     let (client, peer) = (free_port(rt)?, free_port(rt)?);
-    let text = format!(in alloc;
-        "pages = 15\nlink = \"tcp\"\n[[site]]\nnumber = 1\nclient = \"127.0.0.1:{client}\"\npeer = \"127.0.0.1:{peer}\"\n"
-    ).ok()?;
-    let config = config_apart(alloc, text.as_str()).ok()?;
-    if config.config.sites.len() < 1 {
-        return None;
-    }
-    let mut writer = Device::new(Vec::new(alloc));
-    // a descriptor of which no system tells anything
-    let operator = Operator::new(alloc, lines, -1);
-    run_apart(rt, alloc, &config, 1, &OpenGate, operator, &mut writer).ok()?;
-    Some(writer.into_inner())
+    let config = alone(alloc, client, peer)?;
+    told_alone(rt, alloc, &config, lines)
 }
 
 /// A connection to a port, once somebody listens there.
