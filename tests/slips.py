@@ -13,7 +13,7 @@ SLIPS = [
     # a clause has another name
     (
         "crates/geo_slabs/src/slabs.rt", "ensures put {", "ensures placed {",
-        r"docs/words/calls/geo_slabs\.md:\d+: no contract of `Slabs::put` has or cites `put`",
+        r"docs/words/calls/geo_slabs\.md:\d+: nothing of `Slabs::put` has or cites `put`",
     ),
     # a call promises something else
     (
@@ -61,7 +61,7 @@ SLIPS = [
     # words name what is not there, or what no reader has to believe
     (
         "docs/words/calls/geo_memcache.md", "(`decided`)", "(`resolved`)",
-        r"docs/words/calls/geo_memcache\.md:\d+: no contract of `decide` has or cites `resolved`",
+        r"docs/words/calls/geo_memcache\.md:\d+: nothing of `decide` has or cites `resolved`",
     ),
     (
         "docs/words/calls/geo_frame.md", "## `wanted`", "## `wanted`, `unwanted`",

@@ -42,10 +42,10 @@ def faults_of_crate(repository, crate):
 
 
 def faults_of_brackets(entry, parts):
-    """Names that the words have in brackets are clauses of the calls, or what their contracts cite."""
+    """Names that the words have in brackets are clauses or definitions of which they speak, or what these cite."""
     known = {word for part in parts for word in part.cited().union(part.clauses)}
     named = [name for bracket in BRACKET.findall(entry.words) for name in words.spans_in(bracket)]
-    return [f"{entry.page}:{entry.line}: no contract of {entry.title} has or cites `{name}`" for name in named if name not in known]
+    return [f"{entry.page}:{entry.line}: nothing of {entry.title} has or cites `{name}`" for name in named if name not in known]
 
 
 def faults_of_reading(entry, parts, folder):
@@ -76,7 +76,8 @@ def faults_of_row(repository, row):
     faults = [f"{where}: none of the files of {row.title} defines `{name}`" for name in missing]
     faults += [f"{where}: no public contract cites {path}, and no reader has to believe it" for path in files
                if path not in repository.definitions.cited]
-    return faults or faults_of_reading(row, repository.parts_of_row(row), folder_of(row))
+    parts = repository.parts_of_row(row)
+    return faults + faults_of_brackets(row, parts) or faults_of_reading(row, parts, folder_of(row))
 
 
 def faults_of_files(repository):
