@@ -4,7 +4,7 @@ use Rattle.std.proofs.lemmas.Bool.{cases_eq, ne_eqb}
 use Rattle.std.proofs.lemmas.Option.{slice_get_within, get_or_from_slice_get}
 use Rattle.std.specs.List.{All}
 use Rattle.geo_delta.specs.declared.parcel.Parcel.{Parcel}
-use Rattle.geo_site.specs.declared.event.Event.{Event as Happening}
+use Rattle.geo_world.specs.declared.event.Event.{Event as Happening}
 use Rattle.geo_history.specs.declared.history.History.{History}
 use Rattle.geo_history.specs.declared.step.Event.TheVariants.{Take}
 use Rattle.geo_history.specs.declared.step.Answer.{Answer}

@@ -7,15 +7,15 @@ use Rattle.std.proofs.lemmas.Option.{slice_get_within, get_or_from_slice_get, sl
 use Rattle.std.specs.List.{All}
 use Rattle.geo_delta.specs.declared.parcel.Parcel.{Parcel}
 use Rattle.geo_site.specs.declared.site.Site.{Site}
-use Rattle.geo_site.specs.declared.event.Event.{Event as Happening}
+use Rattle.geo_world.specs.declared.event.Event.{Event as Happening}
 use Rattle.geo_history.specs.declared.history.History.{History}
 use Rattle.geo_history.specs.declared.step.Step.{Step}
 use Rattle.geo_audit.specs.declared.sent.Place.{Place}
 use Rattle.geo_audit.specs.declared.play.Play.{Play}
-use Rattle.geo_site.specs.Schedule.{known}
-use Rattle.geo_site.specs.Served.{NoCollision, AllServe}
-use Rattle.geo_site.proofs.Served.{all_serve}
-use Rattle.geo_site.proofs.Sound.{sound_nothing}
+use Rattle.geo_world.specs.Schedule.{known}
+use Rattle.geo_world.specs.Served.{NoCollision, AllServe}
+use Rattle.geo_world.proofs.Serving.{all_serve}
+use Rattle.geo_world.proofs.Sound.{sound_nothing}
 use Rattle.geo_world.specs.Setups.{limits_of}
 use Rattle.geo_world.specs.Agreement.{ShowsVersions}
 use Rattle.geo_world.proofs.Running.{shows}

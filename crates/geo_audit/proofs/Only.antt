@@ -8,10 +8,10 @@ use Rattle.geo_records.specs.Operations.{Record, latest, version_of}
 use Rattle.geo_grammar.specs.declared.request.Request.{Request}
 use Rattle.geo_grammar.specs.declared.reply.Reply.{Reply}
 use Rattle.geo_grammar.specs.declared.reply.Reply.TheVariants.{OutOfMemory}
-use Rattle.geo_site.specs.declared.event.Event.{Event as Happening}
-use Rattle.geo_site.specs.declared.event.Event.TheVariants as at
-use Rattle.geo_site.specs.declared.event.Trace.{Trace}
-use Rattle.geo_site.specs.declared.event.Trace.TheVariants as came
+use Rattle.geo_world.specs.declared.event.Event.{Event as Happening}
+use Rattle.geo_world.specs.declared.event.Event.TheVariants as at
+use Rattle.geo_world.specs.declared.event.Trace.{Trace}
+use Rattle.geo_world.specs.declared.event.Trace.TheVariants as came
 use Rattle.geo_site.specs.declared.refusal.SendError.TheVariants as send_errors
 use Rattle.geo_site.specs.declared.refusal.TakeError.TheVariants as take_errors
 use Rattle.geo_site.specs.declared.refusal.ReapError.TheVariants as reap_errors
@@ -23,7 +23,7 @@ use Rattle.geo_site.specs.declared.fill.Filled.TheVariants.{NotNamed, Full, Done
 use Rattle.geo_site.specs.declared.fill.Filled.TheVariants as filled
 use Rattle.geo_site.specs.Fills.{FillsAs, filled_by}
 use Rattle.geo_site.specs.Machine.{IsCount}
-use Rattle.geo_site.specs.Schedule.{Known, Lawful, FilledIn, basis, flushed, reaps_on, sender, addressee}
+use Rattle.geo_world.specs.Schedule.{Known, Lawful, FilledIn, basis, flushed, reaps_on, sender, addressee}
 use Rattle.geo_history.specs.declared.step.Answer.{Answer}
 use Rattle.geo_history.specs.declared.step.Answer.TheVariants.{Replied, Evicted, Sent, SendRefused, Taken as Took, TakeRefused, Removed, Ticked, Reaped, ReapRefused, Filled as FilledAs, Retired, RetireRefused}
 use Rattle.geo_world.specs.Tables.{Tables, flushed_at, horizon_at, remove_at, OwesBy, CountsDropped, Tallies}

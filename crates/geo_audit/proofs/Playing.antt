@@ -6,9 +6,9 @@ use Rattle.std.proofs.Math.Seq.{take-append_seam, get_or-append_seam}
 use Rattle.geo_delta.specs.declared.parcel.Parcel.{Parcel}
 use Rattle.geo_site.specs.declared.setup.Setup.{Setup}
 use Rattle.geo_site.specs.declared.site.Site.{Site}
-use Rattle.geo_site.specs.declared.event.Event.{Event as Happening}
-use Rattle.geo_site.specs.declared.event.Trace.{Trace}
-use Rattle.geo_site.specs.Schedule.{Known, happens, known, Lawful, EachLawful}
+use Rattle.geo_world.specs.declared.event.Event.{Event as Happening}
+use Rattle.geo_world.specs.declared.event.Trace.{Trace}
+use Rattle.geo_world.specs.Schedule.{Known, happens, known, Lawful, EachLawful}
 use Rattle.geo_world.specs.There.{is_there, EachThere}
 use Rattle.geo_world.specs.Setups.{are_setups, start}
 use Rattle.geo_world.specs.Agreement.{Agrees, WorldOpens, StepDoes}

@@ -6,9 +6,9 @@ use Rattle.std.proofs.lemmas.List.Elements.{All-push}
 use Rattle.std.proofs.lemmas.Option.{slice_get_within}
 use Rattle.geo_delta.specs.declared.parcel.Parcel.{Parcel}
 use Rattle.geo_site.specs.declared.site.Site.{Site}
-use Rattle.geo_site.specs.declared.event.Event.{Event as Happening}
-use Rattle.geo_site.specs.declared.event.Trace.{Trace}
-use Rattle.geo_site.specs.Schedule.{Known, known}
+use Rattle.geo_world.specs.declared.event.Event.{Event as Happening}
+use Rattle.geo_world.specs.declared.event.Trace.{Trace}
+use Rattle.geo_world.specs.Schedule.{Known, known}
 use Rattle.geo_world.specs.Tables.{Tables, kept}
 use Rattle.geo_history.specs.declared.history.History.{History}
 use Rattle.geo_history.specs.declared.step.Event.{Event}

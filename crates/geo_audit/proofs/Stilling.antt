@@ -4,11 +4,11 @@ use Rattle.std.specs.Prelude.{is_some}
 use Rattle.std.proofs.lemmas.Bool.Decides.{eqb_tells}
 use Rattle.geo_records.specs.Operations.{Act, latest}
 use Rattle.geo_records.specs.Operations.Act.{Flush}
-use Rattle.geo_site.specs.declared.event.Event.TheVariants as at
-use Rattle.geo_site.specs.declared.event.Trace.{Trace}
-use Rattle.geo_site.specs.declared.event.Trace.TheVariants as came
+use Rattle.geo_world.specs.declared.event.Event.TheVariants as at
+use Rattle.geo_world.specs.declared.event.Trace.{Trace}
+use Rattle.geo_world.specs.declared.event.Trace.TheVariants as came
 use Rattle.geo_site.specs.Entries.{flushes_due}
-use Rattle.geo_site.specs.Schedule.{Known, happens, known, waits, issues, Lawful, EachLawful}
+use Rattle.geo_world.specs.Schedule.{Known, happens, known, waits, issues, Lawful, EachLawful}
 use Rattle.geo_history.specs.declared.step.Event.{Event}
 use Rattle.geo_history.specs.declared.step.Event.TheVariants.{Command, Evict, Send, Take, Remove, Tick, Reap, Fill, Retire}
 use Rattle.geo_world.specs.There.{is_in_time, EachThere}

@@ -5,13 +5,13 @@ use Rattle.geo_records.specs.Operations.{version_of}
 use Rattle.geo_records.specs.declared.version.Version.{Version}
 use Rattle.geo_delta.specs.declared.parcel.Parcel.{Parcel}
 use Rattle.geo_site.specs.declared.site.Site.{Site}
-use Rattle.geo_site.specs.declared.event.Event.{Event as Happening}
-use Rattle.geo_site.specs.declared.event.Event.TheVariants as at
-use Rattle.geo_site.specs.declared.event.Trace.{Trace}
-use Rattle.geo_site.specs.declared.event.Trace.TheVariants as came
+use Rattle.geo_world.specs.declared.event.Event.{Event as Happening}
+use Rattle.geo_world.specs.declared.event.Event.TheVariants as at
+use Rattle.geo_world.specs.declared.event.Trace.{Trace}
+use Rattle.geo_world.specs.declared.event.Trace.TheVariants as came
 use Rattle.geo_site.specs.Entries.{Held}
 use Rattle.geo_site.specs.Sites.{state_in}
-use Rattle.geo_site.specs.Schedule.{Known, Sending, never_sent, happens, known, Lawful, EachLawful}
+use Rattle.geo_world.specs.Schedule.{Known, Sending, never_sent, happens, known, Lawful, EachLawful}
 use Rattle.geo_history.specs.declared.step.Event.{Event}
 use Rattle.geo_history.specs.declared.step.Event.TheVariants.{Command, Evict, Send, Take, Remove, Tick, Reap, Fill, Retire}
 use Rattle.geo_history.specs.declared.step.Answer.{Answer}

@@ -1,8 +1,8 @@
 -- One turn more, as the parts of a merge have it.
 use Rattle.std.proofs.Common.{◌≡◌, ◌<◌, ◌+◌, ℕ, List, [], ◌∷◌, ◌++◌, length, map, Some, slice_get, slice_index, slice_set, get_or, refl, sym, ap, subst, ◌∙◌}
 use Rattle.std.proofs.lemmas.Option.{slice_get_within}
-use Rattle.geo_site.specs.declared.event.Event.{Event as Happening}
-use Rattle.geo_site.specs.Schedule.{known}
+use Rattle.geo_world.specs.declared.event.Event.{Event as Happening}
+use Rattle.geo_world.specs.Schedule.{known}
 use Rattle.geo_history.specs.declared.history.History.{History}
 use Rattle.geo_history.specs.declared.step.Step.{Step}
 use Rattle.geo_world.specs.Tables.{kept}

@@ -3,7 +3,7 @@ use Rattle.std.specs.Prelude.{◌≡◌, ◌≢◌, ℕ, ◌+◌, ◌-◌, ◌�
 use Rattle.std.specs.HashMap as hash
 use Rattle.geo_stamp.specs.Vectors.{greatest_of}
 use Rattle.geo_delta.specs.declared.parcel.Parcel.{Parcel}
-use Rattle.geo_site.specs.declared.event.Event.{Event as Happening}
+use Rattle.geo_world.specs.declared.event.Event.{Event as Happening}
 use Rattle.geo_site.specs.declared.site.Site.{Site}
 use Rattle.geo_history.specs.declared.history.History.{History}
 use Rattle.geo_history.specs.declared.step.Event.{Event}

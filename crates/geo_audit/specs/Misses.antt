@@ -5,14 +5,14 @@ use Rattle.geo_stamp.specs.Vectors.{vector_joined}
 use Rattle.geo_records.specs.Operations.{version_of}
 use Rattle.geo_records.specs.declared.version.Version.{Version}
 use Rattle.geo_delta.specs.declared.parcel.Parcel.{Parcel}
-use Rattle.geo_site.specs.declared.event.Event.{Event as Happening}
-use Rattle.geo_site.specs.declared.event.Event.TheVariants as at
-use Rattle.geo_site.specs.declared.event.Trace.{Trace}
-use Rattle.geo_site.specs.declared.event.Trace.TheVariants as came
+use Rattle.geo_world.specs.declared.event.Event.{Event as Happening}
+use Rattle.geo_world.specs.declared.event.Event.TheVariants as at
+use Rattle.geo_world.specs.declared.event.Trace.{Trace}
+use Rattle.geo_world.specs.declared.event.Trace.TheVariants as came
 use Rattle.geo_site.specs.declared.fill.Filled.TheVariants.{Full, Done}
 use Rattle.geo_site.specs.Entries.{Held}
 use Rattle.geo_site.specs.Machine.{IsHeldCount}
-use Rattle.geo_site.specs.Schedule.{Known, happens, known, Lawful}
+use Rattle.geo_world.specs.Schedule.{Known, happens, known, Lawful}
 use Rattle.geo_history.specs.declared.step.Event.{Event}
 use Rattle.geo_history.specs.declared.step.Event.TheVariants.{Command, Send, Take}
 use Rattle.geo_history.specs.declared.step.Answer.{Answer}

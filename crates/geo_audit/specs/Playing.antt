@@ -5,12 +5,12 @@ use Rattle.geo_records.specs.Operations.{version_in, version_of}
 use Rattle.geo_records.specs.declared.version.Version.{Version}
 use Rattle.geo_delta.specs.declared.parcel.Parcel.{Parcel}
 use Rattle.geo_site.specs.declared.site.Site.{Site}
-use Rattle.geo_site.specs.declared.event.Event.{Event as Happening}
-use Rattle.geo_site.specs.declared.event.Trace.{Trace}
+use Rattle.geo_world.specs.declared.event.Event.{Event as Happening}
+use Rattle.geo_world.specs.declared.event.Trace.{Trace}
 use Rattle.geo_site.specs.Entries.{Held}
 use Rattle.geo_site.specs.Machine.{IsHeldCount}
 use Rattle.geo_site.specs.Sites.{state_in}
-use Rattle.geo_site.specs.Schedule.{Known, happens, known}
+use Rattle.geo_world.specs.Schedule.{Known, happens, known}
 use Rattle.geo_history.specs.declared.history.History.{History}
 use Rattle.geo_history.specs.declared.step.Event.{Event}
 use Rattle.geo_history.specs.declared.step.Event.TheVariants.{Take}

@@ -18,14 +18,14 @@ use Rattle.geo_site.specs.declared.refusal.SendError.TheVariants as send_errors
 use Rattle.geo_site.specs.declared.refusal.TakeError.TheVariants as take_errors
 use Rattle.geo_site.specs.declared.refusal.ReapError.TheVariants as reap_errors
 use Rattle.geo_site.specs.declared.refusal.RetireError.TheVariants as retire_errors
-use Rattle.geo_site.specs.declared.event.Event.{Event as Happening}
-use Rattle.geo_site.specs.declared.event.Event.TheVariants as at
-use Rattle.geo_site.specs.declared.event.Trace.{Trace}
-use Rattle.geo_site.specs.declared.event.Trace.TheVariants as came
+use Rattle.geo_world.specs.declared.event.Event.{Event as Happening}
+use Rattle.geo_world.specs.declared.event.Event.TheVariants as at
+use Rattle.geo_world.specs.declared.event.Trace.{Trace}
+use Rattle.geo_world.specs.declared.event.Trace.TheVariants as came
 use Rattle.geo_site.specs.Entries.{Held, flushes_due}
 use Rattle.geo_site.specs.Machine.{IsHeldCount}
-use Rattle.geo_site.specs.Served.{NoCollision, AllServe}
-use Rattle.geo_site.specs.Schedule.{Known, known, EachLawful}
+use Rattle.geo_world.specs.Served.{NoCollision, AllServe}
+use Rattle.geo_world.specs.Schedule.{Known, known, EachLawful}
 use Rattle.geo_history.specs.declared.history.History.{History}
 use Rattle.geo_history.specs.declared.step.Event.{Event}
 use Rattle.geo_history.specs.declared.step.Event.TheVariants.{Command, Evict, Send, Take, Remove, Tick, Reap, Fill, Retire}

@@ -9,9 +9,9 @@ use crate::replay::{is_plain, is_said, is_told, seen_at, tells};
 use geo_equal::Equal;
 use geo_history::{Answer, Event, History, Step};
 use geo_lattice::Twin;
-use geo_site::{Event as Happening, Setup, Trace};
+use geo_site::Setup;
 use geo_versions::Key;
-use geo_world::{World, WorldError};
+use geo_world::{Event as Happening, Trace, World, WorldError};
 use std::alloc::{AllocError, Global};
 
 /// All sites, and what was carried out at them since their start.

@@ -12,7 +12,8 @@ use geo_equal::Equal;
 use geo_grammar::{Reply, Request, Verb};
 use geo_history::{Answer, Event, Step};
 use geo_lattice::Lattice;
-use geo_site::{LAST_MOMENT, ReapError, RetireError, SendError, Site, TakeError, Trace};
+use geo_site::{LAST_MOMENT, ReapError, RetireError, SendError, Site, TakeError};
+use geo_world::Trace;
 use geo_slabs::class_of;
 use geo_versions::{Digest, Key, Version};
 

@@ -1,5 +1,5 @@
 //! What an audit finds.
-use geo_site::Event;
+use geo_world::Event;
 
 /// What an audit finds of histories.
 #[derive(Drop)]

@@ -6,9 +6,9 @@ use Rattle.geo_grammar.specs.declared.item.Item.TheVariants.{Request, Fault}
 use Rattle.geo_grammar.specs.declared.request.Request as asked
 use Rattle.geo_grammar.specs.declared.reply.Reply.{Reply}
 use Rattle.geo_grammar.specs.declared.reply.Reply.TheVariants.{OutOfMemory}
-use Rattle.geo_site.specs.declared.event.Event.TheVariants.{Command}
-use Rattle.geo_site.specs.declared.event.Trace.{Trace}
-use Rattle.geo_site.specs.declared.event.Trace.TheVariants.{Replied}
+use Rattle.geo_world.specs.declared.event.Event.TheVariants.{Command}
+use Rattle.geo_world.specs.declared.event.Trace.{Trace}
+use Rattle.geo_world.specs.declared.event.Trace.TheVariants.{Replied}
 use Rattle.geo_world.specs.Setups.{start}
 use Rattle.geo_world.specs.Tables.{empty_tables}
 use Rattle.geo_world.specs.There.{is_site}

@@ -3,12 +3,12 @@ use Rattle.std.proofs.Common.{◌≡◌, ℕ, ◌+◌, true, List, [], ◌∷◌
 use Rattle.std.proofs.lemmas.List.{take_all, take-append-le}
 use Rattle.std.specs.declared.alloc.Global.{Global}
 use Rattle.geo_delta.specs.declared.parcel.Parcel.{Parcel}
-use Rattle.geo_site.specs.Schedule.{Known, happens, known, Lawful, EachLawful}
-use Rattle.geo_site.specs.declared.event.Event.{Event}
-use Rattle.geo_site.specs.declared.event.Trace.{Trace}
+use Rattle.geo_world.specs.Schedule.{Known, happens, known, Lawful, EachLawful}
+use Rattle.geo_world.specs.declared.event.Event.{Event}
+use Rattle.geo_world.specs.declared.event.Trace.{Trace}
 use Rattle.geo_site.specs.declared.site.Site.{Site}
-use Rattle.geo_site.proofs.Served.{all_serve}
-use Rattle.geo_site.proofs.Sound.{sound_nothing}
+use Rattle.geo_world.proofs.Serving.{all_serve}
+use Rattle.geo_world.proofs.Sound.{sound_nothing}
 use Rattle.geo_world.specs.Agreement.{Agrees, StepDoes}
 use Rattle.geo_world.specs.Setups.{start, limits_of}
 use Rattle.geo_world.specs.Tables.{Tables, kept, Keep, EachTallies, Tabled}

@@ -12,10 +12,10 @@ use Rattle.geo_records.specs.Keys.{same_key}
 use Rattle.geo_versions.specs.Maps.{Rising}
 use Rattle.geo_records.specs.Operations.{Operation, floor_of, version_of}
 use Rattle.geo_records.specs.declared.version.Version.{Version}
-use Rattle.geo_site.specs.declared.event.Event.{Event}
-use Rattle.geo_site.specs.declared.event.Event.TheVariants.{Command, Evict, Send, Take, Remove, Tick, Reap, Fill, Retire}
-use Rattle.geo_site.specs.declared.event.Trace.{Trace}
-use Rattle.geo_site.specs.declared.event.Trace.TheVariants.{Replied}
+use Rattle.geo_world.specs.declared.event.Event.{Event}
+use Rattle.geo_world.specs.declared.event.Event.TheVariants.{Command, Evict, Send, Take, Remove, Tick, Reap, Fill, Retire}
+use Rattle.geo_world.specs.declared.event.Trace.{Trace}
+use Rattle.geo_world.specs.declared.event.Trace.TheVariants.{Replied}
 use Rattle.geo_site.specs.declared.setup.Setup.{Setup}
 use Rattle.geo_world.specs.There.{is_site}
 use Rattle.geo_cluster.specs.Sayings.{Said, SaysSites, SaysAt, SaysClient, SaysSend, SaysTake, SaysTick, SaysRemove, SaysReap, SaysEvict, SaysFill, SaysVersions, SaysRetire}

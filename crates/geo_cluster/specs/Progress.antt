@@ -1,9 +1,9 @@
 -- What a script has come to: a schedule of events over its sites, what came of each, and what its clients sent.
 use Rattle.std.specs.Prelude.{ℕ, List, [], ◌∷◌, ◌++◌, length, Bool}
-use Rattle.geo_site.specs.Schedule.{Known, known, EachLawful}
-use Rattle.geo_site.specs.Served.{NoCollision, AllServe}
-use Rattle.geo_site.specs.declared.event.Event.{Event}
-use Rattle.geo_site.specs.declared.event.Trace.{Trace}
+use Rattle.geo_world.specs.Schedule.{Known, known, EachLawful}
+use Rattle.geo_world.specs.Served.{NoCollision, AllServe}
+use Rattle.geo_world.specs.declared.event.Event.{Event}
+use Rattle.geo_world.specs.declared.event.Trace.{Trace}
 use Rattle.geo_site.specs.declared.setup.Setup.{Setup}
 use Rattle.geo_site.specs.declared.site.Site.{Site}
 use Rattle.geo_world.specs.Setups.{start}

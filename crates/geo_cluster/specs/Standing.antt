@@ -2,9 +2,9 @@
 use Rattle.std.specs.Prelude.{◌≡◌, ℕ, ◌++◌, Bool, true, false, List, length, Option, MatchOption, Vec}
 use Rattle.std.specs.declared.alloc.Global.{Global}
 use Rattle.geo_grammar.specs.declared.item.Item.{Item}
-use Rattle.geo_site.specs.Schedule.{Lawful}
-use Rattle.geo_site.specs.declared.event.Event.{Event}
-use Rattle.geo_site.specs.declared.event.Trace.{Trace}
+use Rattle.geo_world.specs.Schedule.{Lawful}
+use Rattle.geo_world.specs.declared.event.Event.{Event}
+use Rattle.geo_world.specs.declared.event.Trace.{Trace}
 use Rattle.geo_world.specs.Setups.{start}
 use Rattle.geo_world.specs.There.{is_site}
 use Rattle.geo_world.specs.Tables.{empty_tables}

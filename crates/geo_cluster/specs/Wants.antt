@@ -2,7 +2,7 @@
 use Rattle.std.specs.Prelude.{◌≡◌, ℕ, ◌<◌, ◌||◌, Bool, true, false, List, ◌∷◌, length, Option, MatchOption, None, Some, codes, ◌⊎◌}
 use Rattle.std.specs.Str.{bytes_eq}
 use Rattle.geo_cluster.specs.Sayings.{Said, SaysSites, SaysAt, SaysClient, SaysSend, SaysTake, SaysTick, SaysRemove, SaysReap, SaysEvict, SaysFill, SaysVersions, SaysRetire, said, skips, split_of}
-use Rattle.geo_site.specs.declared.event.Event.{Event}
+use Rattle.geo_world.specs.declared.event.Event.{Event}
 use Rattle.geo_cluster.specs.Progress.{Progress, can_come}
 use Rattle.geo_cluster.specs.Effects.{can_carry}
 use Rattle.geo_cluster.specs.Standing.{Stands}

@@ -24,8 +24,7 @@ use Rattle.geo_site.specs.declared.fill.Filled.{Filled}
 use Rattle.geo_site.specs.Fills.{FillDoes, is_filled, came}
 use Rattle.geo_site.proofs.Filling.{came_held, fills_as}
 use Rattle.geo_site.specs.Machine as machine
-use Rattle.geo_site.specs.Machine.{SiteState, Same, class_for, accessed, visible_in, removed, without, is_victim, IsRecordCount, IsHeldCount}
-use Rattle.geo_site.specs.Schedule.{VictimOf}
+use Rattle.geo_site.specs.Machine.{VictimOf, SiteState, Same, class_for, accessed, visible_in, removed, without, is_victim, IsRecordCount, IsHeldCount}
 use Rattle.geo_site.specs.Sites.{state_in, heard_in, waiting_in, counts_in, clock_in, basis_in, record_count, held_count, issued_in, victim_in, horizon_in, HasIssued, HasIssuedAfter, FirstVictimFits, Rests, Stays, Remains, FlushDoes, RequestDoes, RequestDoesBy, ActDoes, ReapDoes, TakeDoes, RemoveDoes, RetireDoes, EvictDoes, SendDoes, IsSent as SiteSends}
 use Rattle.geo_site.proofs.Victims.{one_quiet, request_goes, victim_fits}
 use Rattle.geo_history.specs.declared.step.Event.TheVariants.{Command, Evict, Send, Take, Remove, Tick, Reap, Fill, Retire}

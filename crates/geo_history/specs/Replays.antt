@@ -20,8 +20,7 @@ use Rattle.geo_site.specs.declared.refusal.RetireError.{RetireError}
 use Rattle.geo_site.specs.declared.refusal.RetireError.TheVariants as retire
 use Rattle.geo_site.specs.Fills.{FillsAs, is_filled}
 use Rattle.geo_site.specs.Entries.{names, flushes_due, is_stuck, is_done, is_reapable, lacks, owed, made_on}
-use Rattle.geo_site.specs.Machine.{IsRecordCount, IsHeldCount}
-use Rattle.geo_site.specs.Schedule.{VictimOf}
+use Rattle.geo_site.specs.Machine.{VictimOf, IsRecordCount, IsHeldCount}
 use Rattle.geo_site.specs.Sites.{is_sound}
 use Rattle.geo_records.specs.Operations.{version_in}
 use Rattle.geo_history.specs.declared.step.Event.{Event}

@@ -14,8 +14,7 @@ use Rattle.geo_site.specs.declared.setup.Limits.{Limits}
 use Rattle.geo_site.specs.declared.site.Site.{Site}
 use Rattle.geo_site.specs.declared.state.SiteState.{SiteState}
 use Rattle.geo_site.specs.Entries.{Held, Visible, Basis, Counts, none_counted, counted, evicted_on, entry_in, named_by, issued, waits_after, due_acts, waits_on, reap_acts}
-use Rattle.geo_site.specs.Machine.{act_held, without, next_operation, sifted_delta}
-use Rattle.geo_site.specs.Schedule.{held_with}
+use Rattle.geo_site.specs.Machine.{act_held, held_with, without, next_operation, sifted_delta}
 use Rattle.geo_site.specs.Sites.{state_in, heard_in, waiting_in, counts_in, limits_of, delta_of}
 
 -- which site it is, and what it goes by

@@ -9,7 +9,7 @@ use geo_history::{History, Kept};
 use geo_scenes::shown::{push_key, push_number};
 use geo_scenes::texts::{request, word};
 use geo_scenes::{Scene, Stop};
-use geo_site::Event;
+use geo_world::Event;
 use std::alloc::{AllocError, Global};
 use std::random::RandomSource;
 use std::rt::Clock;

@@ -8,10 +8,8 @@ use geo_grammar::{Reply, ValueBytes, push_reply};
 use geo_scenes::shown::{name_of_fill, name_of_take, push_parcel, push_state, push_versions};
 use geo_scenes::texts::{key, request, word};
 use geo_scenes::{Scene, Stop};
-use geo_site::{
-    Event, LAST_MOMENT, ReapError, RetireError, SendError, Setup, Site, TakeError, Trace,
-};
-use geo_world::{Outcome, World, WorldError, are_in_time, run_schedule};
+use geo_site::{LAST_MOMENT, ReapError, RetireError, SendError, Setup, Site, TakeError};
+use geo_world::{Event, Outcome, Trace, World, WorldError, are_in_time, run_schedule};
 use std::alloc::{AllocError, Global};
 use std::random::RandomSource;
 use std::rt::Clock;

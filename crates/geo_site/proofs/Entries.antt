@@ -2,7 +2,11 @@
 use Rattle.std.proofs.Common.{◌≡◌, ◌≢◌, ℕ, zero, suc, ◌≤◌, ◌<◌, max, List, [], ◌∷◌, length, refl, sym, ap, subst, inl, inr, arith, slice_index, slice_set, get_or-set_same, get_or-set_other}
 use Rattle.std.proofs.lemmas.Bool.{cases_eq}
 use Rattle.std.proofs.lemmas.List.{length-set}
-use Rattle.geo_stamp.specs.Vectors.{entry_of, vector_joined, greatest_of, raised}
+use Rattle.geo_stamp.specs.Vectors.{entry_of, zeros, vector_joined, greatest_of, raised}
+
+pub zeros_length : (n : ℕ) → length (zeros n) ≡ n
+zeros_length zero = refl
+zeros_length (suc n) = let h = zeros_length n in omega (arith, h)
 
 pub index_joined : (xs ys : List ℕ) (k : ℕ) → slice_index (vector_joined xs ys) k ≡ max (slice_index xs k) (slice_index ys k)
 index_joined [] ys k = omega arith

@@ -15,7 +15,7 @@ use Rattle.geo_values.specs.Stock as stocks
 use Rattle.geo_site.proofs.Stocking.{stock_kept}
 use Rattle.geo_site.specs.Machine.{settled, Same, issue, Covers, Settled, knows_record, knows_floor}
 use Rattle.geo_site.proofs.Entries.{Within, entry_raised, entry_rises}
-use Rattle.geo_site.proofs.Sound.{named_some}
+use Rattle.geo_site.proofs.Named.{named_some}
 use Rattle.geo_site.proofs.Writing.{knows_joined, knows_floors, knows_more, knows_floor_more}
 use Rattle.geo_records.proofs.Above.{joined_none}
 

@@ -1,10 +1,7 @@
+pub mod Named
+pub mod Times
 pub mod Entries
-pub mod Registers
-pub mod Records
-pub mod Steps
-pub mod Sound
 pub mod Verdicts
-pub mod Served
 pub mod Writing
 pub mod Written
 pub mod Flushing

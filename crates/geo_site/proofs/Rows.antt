@@ -8,7 +8,7 @@ use Rattle.geo_stamp.proofs.Sets.{fits_none, fits_joined, fits_with}
 use Rattle.geo_stamp.specs.Vectors.{zeros, vector_joined}
 use Rattle.geo_site.specs.Machine.{HasRows}
 use Rattle.geo_site.proofs.Entries.{length_joined}
-use Rattle.geo_site.proofs.Steps.{zeros_length}
+use Rattle.geo_site.proofs.Entries.{zeros_length}
 
 none_at : (m n j : ℕ) → j < m → slice_index_or (replicate m (zeros n)) j [] ≡ zeros n
 none_at zero n j lt = absurd (omega arith)

@@ -28,7 +28,7 @@ use Rattle.geo_versions.specs.declared.versions.Versions.{Versions}
 use Rattle.geo_versions.specs.Maps.{record_in, HasRoomFor}
 use Rattle.geo_lattice.specs.Maps.{meaning_or}
 use Rattle.std.specs.List.{list_any}
-use Rattle.geo_site.proofs.Records.{time_of}
+use Rattle.geo_site.proofs.Times.{time_of}
 
 none_some : {V : Type 0} {x : V} → None ≡ Some x → ⊥
 none_some h = cc

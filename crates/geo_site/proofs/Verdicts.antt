@@ -14,8 +14,7 @@ use Rattle.geo_memcache.specs.Entries.{Entry, expiry_at}
 use Rattle.geo_memcache.specs.Decisions.{Verdict, unless_long, keeps, makes, is_seen, stores, deletes, touches, number_in, counted, counts_from, counts}
 use Rattle.geo_memcache.specs.declared.decision.Effect.TheVariants.{Nothing, Keep, Made, Renew, Tomb}
 use Rattle.geo_memcache.specs.declared.decision.Effect.{Effect}
-use Rattle.geo_site.specs.Entries.{is_done}
-use Rattle.geo_site.specs.Served.{values_in}
+use Rattle.geo_site.specs.Entries.{is_done, values_in}
 use Rattle.geo_site.specs.Changes.{IsShort}
 
 some_same : {A : Type 0} {x y : A} → Some x ≡ Some y → x ≡ y

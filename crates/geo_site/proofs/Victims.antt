@@ -12,11 +12,10 @@ use Rattle.geo_memcache.specs.declared.decision.Effect.{Effect}
 use Rattle.geo_memcache.specs.declared.decision.Effect.TheVariants.{Nothing, Keep, Made, Renew, Tomb}
 use Rattle.geo_site.specs.declared.site.Site.{Site}
 use Rattle.geo_site.specs.Entries.{Held, Visible, issued, accesses, acts_of, touches_of, touched_of, flushes_now}
-use Rattle.geo_site.specs.Machine.{SiteState, accessed, victim_by, VictimFits}
+use Rattle.geo_site.specs.Machine.{SiteState, accessed, victim_by, VictimFits, IsVictim, VictimOf}
 use Rattle.geo_site.specs.Sites.{state_in, victim_in, FirstVictimFits}
-use Rattle.geo_site.specs.Schedule.{IsVictim, VictimOf}
 use Rattle.geo_site.proofs.Stocking.{class_is}
-use Rattle.geo_site.proofs.Sound.{some_none}
+use Rattle.geo_site.proofs.Named.{some_none}
 
 -- acts for which no bytes go
 abbrev pub AreQuiet : List Act → Type 0

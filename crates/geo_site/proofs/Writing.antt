@@ -17,7 +17,7 @@ use Rattle.geo_records.specs.declared.body.Body.TheVariants.{Value}
 use Rattle.geo_site.specs.Entries.{names}
 use Rattle.geo_site.specs.Machine.{knows_record, knows_floor}
 use Rattle.geo_site.proofs.Entries.{entry_at_most}
-use Rattle.geo_site.proofs.Registers.{earlier}
+use Rattle.geo_site.proofs.Times.{earlier}
 
 -- a list of bytes is itself
 pub same_bytes : (xs : List ℕ) → bytes_eq xs xs ≡ true

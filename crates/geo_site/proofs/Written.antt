@@ -17,7 +17,7 @@ use Rattle.geo_values.specs.Stock as stocks
 use Rattle.geo_site.specs.Machine.{Same, issue, settled, act_stock, next_operation, map_after, Covers, Settled, knows_record, knows_floor}
 use Rattle.geo_site.proofs.Entries.{Within, entry_rises, entry_raised}
 use Rattle.geo_site.proofs.Writing.{write_wins, written_named, knows_more, knows_floor_more, time_known}
-use Rattle.geo_site.proofs.Sound.{some_same, some_none}
+use Rattle.geo_site.proofs.Named.{some_same, some_none}
 
 pub floor_none : (f : Option Moment) → floor_joined f None ≡ f
 floor_none = newer_none stamp_cmp

@@ -320,6 +320,11 @@ is_done reply.MapFull = false
 is_done reply.ClockEnded = false
 is_done reply.OutOfMemory = false
 
+-- the values in a reply
+abbrev pub values_in : Reply → List Found
+values_in (reply.Values found) = found
+values_in answer = []
+
 -- a flush that waits is due from its moment on
 abbrev pub is_due : Option ℕ → ℕ → Bool
 is_due None now = false

@@ -1,8 +1,5 @@
 pub mod Entries
 pub mod Machine
-pub mod Schedule
-pub mod Served
-pub mod Agreement
 pub mod Sites
 pub mod Fills
 pub mod Changes

@@ -107,6 +107,24 @@ is_victim (Some victim) key = same_key key victim
 abbrev pub without : Option (List ℕ) → Held → Held
 without victim held key = cond (is_victim victim key) None (held key)
 
+-- of what is held, these bytes are held of the key
+abbrev pub held_with : List ℕ → List ℕ → Held → Held
+held_with key bytes held q = cond (same_key q key) (Some bytes) (held q)
+
+-- a victim is another key than the one that is written, and a value of the same class is held of it
+abbrev pub IsVictim : Held → Act → List ℕ → Type 0
+IsVictim held (Write key bytes flags expiry) victim = (same_key victim key ≡ false) × (old : List ℕ) × (held victim ≡ Some old)
+    × (class_for (length old) ≡ class_for (length bytes))
+IsVictim held (Delete key) victim = ⊥
+IsVictim held (Touch key expiry) victim = ⊥
+IsVictim held Flush victim = ⊥
+
+-- there is no victim, or it is one of the first of these acts; no request issues two writes
+abbrev pub VictimOf : Held → List Act → Option (List ℕ) → Type 0
+VictimOf held acts None = Unit {0}
+VictimOf held [] (Some victim) = ⊥
+VictimOf held (act ∷ acts) (Some victim) = IsVictim held act victim
+
 -- the next operation of a site: its time is one more than the greatest that it knows
 abbrev pub next_operation : ℕ → ℕ → Act → Operation
 next_operation clock number act = record { stamp = record { time = clock + 1; site = number }; act = act }

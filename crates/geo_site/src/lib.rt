@@ -9,7 +9,6 @@
 pub mod act;
 pub mod acted;
 pub mod change;
-pub mod event;
 pub mod evict;
 pub mod exchange;
 pub mod fetch;
@@ -30,10 +29,9 @@ pub mod state;
 pub mod touch;
 
 pub use acted::Acted;
-pub use event::{Event, LAST_MOMENT, Trace};
 pub use exchange::{Refused, Taken};
 pub use fill::Filled;
 pub use refusal::{ReapError, RetireError, SendError, SetupError, TakeError, WriteError};
-pub use setup::{Limits, MOST_RECORDS, Setup};
+pub use setup::{LAST_MOMENT, Limits, MOST_RECORDS, Setup};
 pub use site::Site;
 pub use state::SiteState;

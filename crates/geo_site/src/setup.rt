@@ -3,6 +3,9 @@ ghost use Rattle.std.specs.Prelude.{◌≡◌};
 
 use std::hash::RandomState;
 
+/// The greatest moment, in seconds.
+pub const LAST_MOMENT: u64 = 1 << 40;
+
 /// The most records that a site may be told to keep at most.
 pub const MOST_RECORDS: u32 = 1_000_000;
 

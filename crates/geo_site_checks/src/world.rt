@@ -11,9 +11,9 @@ mod retiring;
 mod seeded;
 mod table;
 
-use geo_site::{Event, Setup};
+use geo_site::Setup;
 use geo_versions::Key;
-use geo_world::{Outcome, are_in_time, run_schedule};
+use geo_world::{Event, Outcome, are_in_time, run_schedule};
 use std::alloc::{AllocError, Global};
 use std::hash::RandomState;
 use std::test::Fail;

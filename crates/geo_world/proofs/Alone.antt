@@ -6,8 +6,8 @@ use Rattle.geo_records.specs.Operations.Act.{Write, Delete, Touch, Flush}
 use Rattle.geo_grammar.specs.declared.request.Request.{Request}
 use Rattle.geo_grammar.specs.declared.reply.Reply.{Reply}
 use Rattle.geo_site.specs.declared.site.Site.{Site}
-use Rattle.geo_site.specs.declared.event.Event.{Event}
-use Rattle.geo_site.specs.declared.event.Trace.{Trace}
+use Rattle.geo_world.specs.declared.event.Event.{Event}
+use Rattle.geo_world.specs.declared.event.Trace.{Trace}
 use Rattle.geo_site.specs.Entries.{is_done}
 use Rattle.geo_site.specs.Sites.{state_in, victim_in, issued_in, ActDoes}
 use Rattle.geo_site.specs.declared.setup.Setup.{Setup}

@@ -13,8 +13,8 @@ use Rattle.geo_grammar.specs.declared.request.Request.{Request}
 use Rattle.geo_grammar.specs.declared.reply.Reply.{Reply}
 use Rattle.geo_grammar.specs.declared.reply.Reply.TheVariants.{OutOfMemory}
 use Rattle.geo_site.specs.declared.site.Site.{Site}
-use Rattle.geo_site.specs.declared.event.Event.TheVariants.{Command, Evict, Remove, Tick, Reap, Fill}
-use Rattle.geo_site.specs.declared.event.Trace.TheVariants.{Replied, Evicted, Removed, Ticked, Reaped, ReapRefused, Filled as FilledAs, FillRefused}
+use Rattle.geo_world.specs.declared.event.Event.TheVariants.{Command, Evict, Remove, Tick, Reap, Fill}
+use Rattle.geo_world.specs.declared.event.Trace.TheVariants.{Replied, Evicted, Removed, Ticked, Reaped, ReapRefused, Filled as FilledAs, FillRefused}
 use Rattle.geo_site.specs.declared.refusal.ReapError.{ReapError}
 use Rattle.geo_site.specs.declared.refusal.ReapError.TheVariants.{ClockEnded, Memory}
 use Rattle.geo_site.specs.Entries.{Basis, Counts, Visible, names, entry_in, issued, accesses, counted, evicted_on, waits_after, flushes_due, is_stuck, is_reapable, reap_acts, lacks, Answers, is_done}
@@ -22,12 +22,12 @@ use Rattle.geo_site.specs.declared.fill.Filled.{Filled}
 use Rattle.geo_site.specs.declared.fill.Filled.TheVariants.{Done}
 use Rattle.geo_site.specs.Fills.{FillDoes, FillsAs, filled_in, is_filled, came}
 use Rattle.geo_site.proofs.Filling.{fills_as}
-use Rattle.geo_site.specs.Machine.{Same, class_for, with_stock, removed, visible_in, IsRecordCount, IsHeldCount}
+use Rattle.geo_site.specs.Machine.{Same, class_for, with_stock, removed, visible_in, IsRecordCount, IsHeldCount, VictimOf}
 use Rattle.geo_site.specs.Sites.{state_in, basis_in, counts_in, waiting_in, clock_in, record_count, held_count, issued_in, victim_in, to_reap, reaped_in, Rests, Stays, HasIssued, HasIssuedAfter, FirstVictimFits, FlushDoes, RequestDoes, RequestDoesBy, ActDoes, TickDoes, ReapDoes, ReapResult, EvictDoes, RemoveDoes, heard_in, horizon_in}
-use Rattle.geo_site.specs.Schedule.{Known, Stable, StableAt, issues_on, issues_by, carries_out, evicts, visible, basis, flushed, reaps_on, happens, RepliesTo, RepliesBy, VictimOf, ReapRefusedFor, FilledIn, fills, Lawful}
-use Rattle.geo_site.specs.Agreement.{UpTo}
-use Rattle.geo_site.proofs.Steps.{state_version, state_later, state_removes, state_same}
-use Rattle.geo_site.proofs.Records.{holds_more}
+use Rattle.geo_world.specs.Schedule.{Known, Stable, StableAt, issues_on, issues_by, carries_out, evicts, visible, basis, flushed, reaps_on, happens, RepliesTo, RepliesBy, ReapRefusedFor, FilledIn, fills, Lawful}
+use Rattle.geo_world.specs.Holding.{UpTo}
+use Rattle.geo_world.proofs.Stepping.{state_version, state_later, state_removes, state_same}
+use Rattle.geo_world.proofs.Records.{holds_more}
 use Rattle.geo_stamp.specs.Acks.{Heard, row_of, horizon_of}
 use Rattle.geo_stamp.specs.Retired.{is_in}
 use Rattle.geo_stamp.specs.Vectors.{entry_of, vector_joined}

@@ -15,11 +15,11 @@ use Rattle.geo_delta.specs.declared.parcel.Parcel.{Parcel}
 use Rattle.geo_site.specs.declared.site.Site.{Site}
 use Rattle.geo_site.specs.Entries.{Held}
 use Rattle.geo_site.specs.Machine.{SiteState, clock_of, issue, issue_all, act_held, without, victim_by}
-use Rattle.geo_site.specs.Schedule.{Known, Sending, never_sent, still_held, settles, new_operation, issues}
-use Rattle.geo_site.specs.Agreement.{StateOf}
+use Rattle.geo_world.specs.Schedule.{Known, Sending, never_sent, still_held, settles, new_operation, issues}
+use Rattle.geo_world.specs.Holding.{StateOf}
 use Rattle.geo_site.proofs.Entries.{Within, entry_joined, entry_stays}
-use Rattle.geo_site.proofs.Sound.{here, there, among_left, among_right, grows}
-use Rattle.geo_site.proofs.Steps.{among_append, state_issues}
+use Rattle.geo_world.proofs.Sound.{here, there, among_left, among_right, grows}
+use Rattle.geo_world.proofs.Stepping.{among_append, state_issues}
 use Rattle.geo_site.specs.Sites.{heard_in, retired_in}
 use Rattle.geo_world.specs.Bounds.{at_number, vectors, sets, rows, tolds, reached, IsAbove, told_in, Bounded}
 use Rattle.geo_world.proofs.Worlds.{some_none, some_same, get_appended}

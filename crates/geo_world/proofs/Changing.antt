@@ -10,16 +10,16 @@ use Rattle.geo_delta.specs.declared.parcel.Parcel.{Parcel}
 use Rattle.geo_site.specs.declared.site.Site.{Site}
 use Rattle.geo_site.specs.declared.setup.Limits.{Limits}
 use Rattle.geo_site.specs.Entries.{Held, Counts, flushes_due, due_acts, waits_on}
-use Rattle.geo_site.specs.Machine.{SiteState, Same, with_stock, issue, issue_all, accessed, act_held, without, victim_by, IsCount}
+use Rattle.geo_site.specs.Machine.{SiteState, Same, with_stock, issue, issue_all, accessed, act_held, without, victim_by, IsCount, held_with}
 use Rattle.geo_site.specs.Sites.{state_in, heard_in, retired_in, counts_in, waiting_in, clock_in, HasIssued, HasIssuedAfter, Stays, Rests, FlushDoes, EvictDoes}
-use Rattle.geo_site.specs.Schedule.{Known, Sending, never_sent, still_held, settles, new_operation, issues, counts_keys, lets_go, waits, flushed, held_with, fills, holds_retired}
+use Rattle.geo_world.specs.Schedule.{Known, Sending, never_sent, still_held, settles, new_operation, issues, counts_keys, lets_go, waits, flushed, fills, holds_retired}
 use Rattle.geo_site.specs.Fills.{came}
 use Rattle.geo_site.proofs.Filling.{came_held}
 use Rattle.geo_stamp.specs.Stamps.{Moment}
-use Rattle.geo_site.specs.Agreement.{Holds, UpTo, Spans, StateOf}
-use Rattle.geo_site.proofs.Sound.{here, there, held_here, held_there}
-use Rattle.geo_site.proofs.Steps.{state_issues, state_same}
-use Rattle.geo_site.proofs.Records.{holds_more}
+use Rattle.geo_world.specs.Holding.{Holds, UpTo, Spans, StateOf}
+use Rattle.geo_world.proofs.Sound.{here, there, held_here, held_there}
+use Rattle.geo_world.proofs.Stepping.{state_issues, state_same}
+use Rattle.geo_world.proofs.Records.{holds_more}
 use Rattle.geo_world.specs.Agreement.{SiteKnown, about, Stands, Reaches, Carries, Agrees}
 use Rattle.geo_stamp.specs.Acks.{Heard, row_of, horizon_of}
 use Rattle.geo_stamp.specs.Retired.{is_in}

@@ -13,8 +13,8 @@ use Rattle.geo_records.specs.Operations.{Operation, Among, Record, latest}
 use Rattle.geo_versions.specs.Maps.{Rec, rec_means, listed_at, is_unknown, since, Rising}
 use Rattle.geo_delta.specs.declared.parcel.Parcel.{Parcel}
 use Rattle.geo_site.specs.declared.site.Site.{Site}
-use Rattle.geo_site.specs.declared.event.Event.TheVariants.{Take, Retire}
-use Rattle.geo_site.specs.declared.event.Trace.TheVariants.{Taken, TakeRefused, Retired, RetireRefused}
+use Rattle.geo_world.specs.declared.event.Event.TheVariants.{Take, Retire}
+use Rattle.geo_world.specs.declared.event.Trace.TheVariants.{Taken, TakeRefused, Retired, RetireRefused}
 use Rattle.geo_site.specs.declared.refusal.SendError.{SendError}
 use Rattle.geo_site.specs.declared.refusal.RetireError.{RetireError}
 use Rattle.geo_site.specs.declared.refusal.RetireError.TheVariants as retire
@@ -26,12 +26,12 @@ use Rattle.geo_site.specs.declared.refusal.TakeError.TheVariants as takes
 use Rattle.geo_site.specs.Entries.{Held}
 use Rattle.geo_site.specs.Machine.{Same, take, sifted_delta, knows_record, knows_floor}
 use Rattle.geo_site.specs.Sites.{Remains, heard_in, retired_in, horizon_in, looked_in, state_in, delta_of, knows_all, is_sound, Rests, Takes, RefusesFor, IsSent, SendRefuses, RetireDoes}
-use Rattle.geo_site.specs.Schedule.{Known, Sending, never_sent, settles, still_held, carried, sender, addressee, told_retired, holds_retired, happens, Lawful, TakeRefusedFor, SendRefusedFor, RetireRefusedFor}
-use Rattle.geo_site.specs.Agreement.{UpTo, Spans, StateOf}
+use Rattle.geo_world.specs.Schedule.{Known, Sending, never_sent, settles, still_held, carried, sender, addressee, told_retired, holds_retired, happens, Lawful, TakeRefusedFor, SendRefusedFor, RetireRefusedFor}
+use Rattle.geo_world.specs.Holding.{UpTo, Spans, StateOf}
 use Rattle.geo_versions.proofs.InOrder.{each_listed}
-use Rattle.geo_site.proofs.Sound.{here, there, held_here, grows}
-use Rattle.geo_site.proofs.Steps.{state_takes, state_same, state_later}
-use Rattle.geo_site.proofs.Records.{holds_more}
+use Rattle.geo_world.proofs.Sound.{here, there, held_here, grows}
+use Rattle.geo_world.proofs.Stepping.{state_takes, state_same, state_later}
+use Rattle.geo_world.proofs.Records.{holds_more}
 use Rattle.geo_world.specs.Agreement.{SiteKnown, about, Stands, Reaches, Carries, Agrees}
 use Rattle.geo_site.proofs.Entries.{length_joined}
 use Rattle.geo_laws.proofs.Joins.{joined_same}

@@ -4,11 +4,11 @@ use Rattle.std.specs.Prelude.{Result, IfOk, IfErr}
 use Rattle.geo_records.specs.Operations.{latest}
 use Rattle.geo_grammar.specs.declared.request.Request.{Request}
 use Rattle.geo_grammar.specs.declared.reply.Reply.{Reply}
-use Rattle.geo_site.specs.declared.event.Event.TheVariants.{Command, Reap}
-use Rattle.geo_site.specs.declared.event.Trace.TheVariants.{Replied, Reaped}
+use Rattle.geo_world.specs.declared.event.Event.TheVariants.{Command, Reap}
+use Rattle.geo_world.specs.declared.event.Trace.TheVariants.{Replied, Reaped}
 use Rattle.geo_site.specs.Entries.{is_stuck, lacks, is_done}
-use Rattle.geo_site.specs.Schedule as schedule
-use Rattle.geo_site.specs.Schedule.{carries_out, flushed, happens, issues_on, reaps_on, Lawful}
+use Rattle.geo_world.specs.Schedule as schedule
+use Rattle.geo_world.specs.Schedule.{carries_out, flushed, happens, issues_on, reaps_on, Lawful}
 use Rattle.geo_world.specs.declared.plain.known.Known.{Known}
 use Rattle.geo_world.specs.declared.plain.known.PlainError.{PlainError}
 use Rattle.geo_world.specs.declared.plain.known.PlainError.TheVariants.{NotThere, ClockEnded, Memory}

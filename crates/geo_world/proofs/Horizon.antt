@@ -11,7 +11,7 @@ use Rattle.geo_delta.specs.declared.parcel.Parcel.{Parcel}
 use Rattle.geo_laws.proofs.Joins.{joined_same}
 use Rattle.geo_site.proofs.Entries.{entry_stays, length_raised}
 use Rattle.geo_site.specs.Machine.{SiteState, clock_of, issue, issue_all}
-use Rattle.geo_site.specs.Schedule.{Sending, StableAt}
+use Rattle.geo_world.specs.Schedule.{Sending, StableAt}
 use Rattle.geo_world.specs.Reports.{Views, OneOf, Within, Below, Reported, Passed, HasPassed}
 use Rattle.geo_world.specs.Bounds.{IsAbove, Bounded}
 use Rattle.geo_world.proofs.Bounding.{above_entry, above_trans, above_raised}

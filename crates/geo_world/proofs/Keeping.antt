@@ -9,8 +9,8 @@ use Rattle.geo_grammar.specs.declared.request.Request.{Request}
 use Rattle.geo_grammar.specs.declared.reply.Reply.{Reply}
 use Rattle.geo_site.specs.declared.site.Site.{Site}
 use Rattle.geo_site.specs.declared.setup.Limits.{Limits}
-use Rattle.geo_site.specs.declared.event.Event.TheVariants.{Command, Tick, Reap, Retire}
-use Rattle.geo_site.specs.declared.event.Trace.TheVariants.{Replied, Ticked, Reaped, ReapRefused, Retired, RetireRefused}
+use Rattle.geo_world.specs.declared.event.Event.TheVariants.{Command, Tick, Reap, Retire}
+use Rattle.geo_world.specs.declared.event.Trace.TheVariants.{Replied, Ticked, Reaped, ReapRefused, Retired, RetireRefused}
 use Rattle.geo_site.specs.declared.refusal.RetireError.{RetireError}
 use Rattle.geo_site.specs.declared.refusal.RetireError.TheVariants as retire
 use Rattle.geo_site.specs.declared.refusal.ReapError.{ReapError}
@@ -21,7 +21,7 @@ use Rattle.geo_site.specs.Fills.{FillDoes, after_fill}
 use Rattle.geo_site.specs.Entries.{issued, accesses, due_acts, is_stuck, is_done}
 use Rattle.geo_site.specs.Machine.{SiteState, Same, fresh, issue, issue_all, accessed, take, removed, sifted_delta, visible_in, IsRecordCount}
 use Rattle.geo_site.specs.Sites.{state_in, heard_in, looked_in, horizon_in, delta_of, clock_in, waiting_in, HasIssued, HasIssuedAfter, FlushDoes, RequestDoes, RequestDoesBy, ActDoes, TickDoes, ReapDoes, ReapResult, RemoveDoes, EvictDoes, RetireDoes, IsSent}
-use Rattle.geo_site.specs.Schedule.{Known, issues_on, reaps_on, flushed}
+use Rattle.geo_world.specs.Schedule.{Known, issues_on, reaps_on, flushed}
 use Rattle.geo_stamp.specs.Acks.{Heard, heard, looked, retires, none_heard}
 use Rattle.geo_world.specs.Agreement.{Agrees}
 use Rattle.geo_world.specs.Tables.{Table, Tables, brings_nothing, empty_tables, issue_all_at, take_at, remove_at, retire_at, brought_at, horizon_at, keeps, issued_at, flushed_at, kept_after, table_in, brought_in, Keep, OwesOver, OwesBy, CountsDropped}

@@ -4,8 +4,8 @@ use Rattle.std.proofs.lemmas.List.{map-append}
 use Rattle.geo_records.specs.Operations as spec
 use Rattle.geo_stamp.specs.Stamps.{Moment}
 use Rattle.geo_site.specs.Entries.{Held, named_by, entry_in}
-use Rattle.geo_site.specs.Machine.{act_held, without}
-use Rattle.geo_site.specs.Schedule.{still_held, held_with}
+use Rattle.geo_site.specs.Machine.{act_held, without, held_with}
+use Rattle.geo_world.specs.Schedule.{still_held}
 use Rattle.geo_world.specs.declared.plain.operation.Operation.{Operation}
 use Rattle.geo_world.specs.declared.plain.operation.Written.{Written}
 use Rattle.geo_world.specs.declared.plain.operation.Act.{Act}

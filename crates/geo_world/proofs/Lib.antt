@@ -1,3 +1,8 @@
+mod Registers
+mod Records
+mod Stepping
+pub mod Sound
+pub mod Serving
 pub mod Worlds
 pub mod Reports
 pub mod Bounding

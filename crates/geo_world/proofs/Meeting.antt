@@ -11,10 +11,10 @@ use Rattle.geo_grammar.specs.declared.reply.Reply.{Reply}
 use Rattle.geo_grammar.specs.declared.reply.Reply.TheVariants.{MapFull, ClockEnded}
 use Rattle.geo_site.specs.declared.setup.Limits.{Limits}
 use Rattle.geo_site.specs.Entries.{Held, Counts, none_counted, evicted_on, replied, is_crowded, lacks, is_done, flushes_due}
-use Rattle.geo_site.specs.Machine.{act_held, without}
-use Rattle.geo_site.specs.Schedule as schedule
-use Rattle.geo_site.specs.Schedule.{Known, never_sent, nothing_known, settles, still_held, new_operation, issues, issues_on, counts_keys, lets_go, evicts, held_with, fills, waits, flushed, visible, basis, RepliesTo, RepliesBy, learns, carried, told_retired, holds_retired}
-use Rattle.geo_site.proofs.Sound.{here, held_here}
+use Rattle.geo_site.specs.Machine.{act_held, without, held_with}
+use Rattle.geo_world.specs.Schedule as schedule
+use Rattle.geo_world.specs.Schedule.{Known, never_sent, nothing_known, settles, still_held, new_operation, issues, issues_on, counts_keys, lets_go, evicts, fills, waits, flushed, visible, basis, RepliesTo, RepliesBy, learns, carried, told_retired, holds_retired}
+use Rattle.geo_world.proofs.Sound.{here, held_here}
 use Rattle.geo_world.specs.declared.plain.operation.Operation.{Operation}
 use Rattle.geo_world.specs.declared.plain.knowledge.Knowledge.{Knowledge}
 use Rattle.geo_world.specs.declared.plain.known.Sending.{Sending}

@@ -8,7 +8,7 @@ use Rattle.geo_records.specs.Operations.{Operation, Among, latest}
 use Rattle.geo_delta.specs.declared.parcel.Parcel.{Parcel}
 use Rattle.geo_site.proofs.Entries.{entry_joined, entry_stays}
 use Rattle.geo_site.specs.declared.site.Site.{Site}
-use Rattle.geo_site.specs.Schedule.{Known, Sending, StableAt}
+use Rattle.geo_world.specs.Schedule.{Known, Sending, StableAt}
 use Rattle.geo_site.specs.Sites.{heard_in, retired_in}
 use Rattle.geo_world.specs.Agreement.{about, Stands, Reaches, Agrees}
 use Rattle.geo_world.specs.Bounds.{vectors, sets, rows, tolds, reached, views, IsAbove}

@@ -11,9 +11,9 @@ use Rattle.geo_site.specs.declared.site.Site.{Site}
 use Rattle.geo_site.specs.Entries.{none_counted}
 use Rattle.geo_site.specs.Machine.{Same, fresh}
 use Rattle.geo_site.specs.Sites.{state_in, counts_in, waiting_in, limits_of, heard_in}
-use Rattle.geo_site.specs.Schedule.{nothing_known}
-use Rattle.geo_site.proofs.Entries.{entry_at_most}
-use Rattle.geo_site.proofs.Steps.{state_fresh, state_same, zeros_length}
+use Rattle.geo_world.specs.Schedule.{nothing_known}
+use Rattle.geo_site.proofs.Entries.{entry_at_most, zeros_length}
+use Rattle.geo_world.proofs.Stepping.{state_fresh, state_same}
 use Rattle.geo_delta.specs.declared.parcel.Parcel.{Parcel}
 use Rattle.geo_world.specs.Agreement.{Stands, Agrees, nothing_about}
 use Rattle.geo_world.specs.Bounds.{Bounded, vectors, sets, rows, tolds, reached, views, IsAbove}

@@ -10,10 +10,10 @@ use Rattle.geo_values.specs.Stock.{Stock, Same as SameStock, first_stock, droppe
 use Rattle.geo_lru.specs.Rules.{victim_of}
 use Rattle.geo_site.specs.declared.site.Site.{Site}
 use Rattle.geo_site.specs.declared.setup.Setup.{Setup}
-use Rattle.geo_site.specs.declared.event.Event.{Event}
-use Rattle.geo_site.specs.declared.event.Event.TheVariants.{Command, Evict, Send, Take, Remove, Tick, Reap, Fill, Retire}
-use Rattle.geo_site.specs.declared.event.Trace.{Trace}
-use Rattle.geo_site.specs.declared.event.Trace.TheVariants.{Replied, Evicted, Taken, TakeRefused, Removed, Ticked, Reaped, ReapRefused, Filled as FilledAs, FillRefused, Retired, RetireRefused}
+use Rattle.geo_world.specs.declared.event.Event.{Event}
+use Rattle.geo_world.specs.declared.event.Event.TheVariants.{Command, Evict, Send, Take, Remove, Tick, Reap, Fill, Retire}
+use Rattle.geo_world.specs.declared.event.Trace.{Trace}
+use Rattle.geo_world.specs.declared.event.Trace.TheVariants.{Replied, Evicted, Taken, TakeRefused, Removed, Ticked, Reaped, ReapRefused, Filled as FilledAs, FillRefused, Retired, RetireRefused}
 use Rattle.geo_site.specs.declared.refusal.ReapError.{ReapError}
 use Rattle.geo_site.specs.declared.refusal.ReapError.TheVariants.{ClockEnded, Memory}
 use Rattle.geo_site.specs.declared.refusal.RetireError.TheVariants as retire

@@ -10,8 +10,8 @@ use Rattle.geo_memcache.specs.declared.ask.Ask.TheVariants.{Store, Fetch, FetchT
 use Rattle.geo_site.specs.Changes.{is_change, bytes_in}
 use Rattle.geo_site.specs.Entries.{Counts, Visible, acts_of, issued, counted, evicted_on, waits_after, lacks}
 use Rattle.geo_site.specs.Machine.{act_held}
-use Rattle.geo_site.specs.Schedule as schedule
-use Rattle.geo_site.specs.Schedule.{settles, new_operation, issues, issues_on, counts_keys, lets_go, carries_out, visible, waits}
+use Rattle.geo_world.specs.Schedule as schedule
+use Rattle.geo_world.specs.Schedule.{settles, new_operation, issues, issues_on, counts_keys, lets_go, carries_out, visible, waits}
 use Rattle.geo_world.specs.declared.plain.known.Known.{Known}
 use Rattle.geo_world.specs.declared.plain.known.PlainError.{PlainError}
 use Rattle.geo_world.specs.declared.plain.known.PlainError.TheVariants.{NotThere, ClockEnded, Memory}

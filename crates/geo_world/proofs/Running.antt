@@ -5,15 +5,15 @@ use Rattle.std.specs.List.{list_all, list_any}
 use Rattle.std.proofs.lemmas.Option.{slice_get-get_or}
 use Rattle.geo_delta.specs.declared.parcel.Parcel.{Parcel}
 use Rattle.geo_site.specs.declared.site.Site.{Site}
-use Rattle.geo_site.specs.declared.event.Event.{Event}
-use Rattle.geo_site.specs.declared.event.Trace.{Trace}
-use Rattle.geo_site.specs.Schedule.{Known, happens, known, Lawful, EachLawful}
-use Rattle.geo_site.proofs.Served.{lawful_more, known_more}
+use Rattle.geo_world.specs.declared.event.Event.{Event}
+use Rattle.geo_world.specs.declared.event.Trace.{Trace}
+use Rattle.geo_world.specs.Schedule.{Known, happens, known, Lawful, EachLawful}
+use Rattle.geo_world.proofs.Serving.{lawful_more, known_more}
 use Rattle.geo_world.specs.There.{is_there, is_in_time, all_in_time, EachThere}
 use Rattle.geo_records.specs.Operations.{Operation, State, version_in, SameOperations}
 use Rattle.geo_versions.proofs.Meaning.{state_same}
 use Rattle.geo_site.specs.Sites.{state_in}
-use Rattle.geo_site.proofs.Steps.{state_version}
+use Rattle.geo_world.proofs.Stepping.{state_version}
 use Rattle.geo_world.specs.Tables.{Tables, kept_after, kept, Keep, Tallies, EachTallies, Tabled}
 use Rattle.geo_world.specs.Running.{HasAllRun, wants_memory, Lacks}
 use Rattle.geo_world.specs.Agreement.{SiteKnown, Stands, Agrees, ShowsVersions, SameVersions}

@@ -8,13 +8,13 @@ use Rattle.geo_records.specs.Operations.{Operation, Act, latest}
 use Rattle.geo_grammar.specs.declared.request.Request.{Request}
 use Rattle.geo_grammar.specs.declared.reply.Reply.{Reply}
 use Rattle.geo_site.specs.declared.setup.Limits.{Limits}
-use Rattle.geo_site.specs.declared.event.Event.{Event}
-use Rattle.geo_site.specs.declared.event.Event.TheVariants.{Command, Evict, Send, Take, Remove, Tick, Reap, Fill, Retire}
-use Rattle.geo_site.specs.declared.event.Trace.{Trace}
-use Rattle.geo_site.specs.declared.event.Trace.TheVariants.{Replied, Evicted, Sent, SendRefused, Taken, TakeRefused, Removed, Ticked, Reaped, ReapRefused, Filled, FillRefused, Retired, RetireRefused}
+use Rattle.geo_world.specs.declared.event.Event.{Event}
+use Rattle.geo_world.specs.declared.event.Event.TheVariants.{Command, Evict, Send, Take, Remove, Tick, Reap, Fill, Retire}
+use Rattle.geo_world.specs.declared.event.Trace.{Trace}
+use Rattle.geo_world.specs.declared.event.Trace.TheVariants.{Replied, Evicted, Sent, SendRefused, Taken, TakeRefused, Removed, Ticked, Reaped, ReapRefused, Filled, FillRefused, Retired, RetireRefused}
 use Rattle.geo_site.specs.Entries.{is_done, due_acts}
 use Rattle.geo_site.specs.Fills.{is_filled}
-use Rattle.geo_site.specs.Schedule.{Known, Sending, never_sent, nothing_known, StableAt, settles, issues, learns, carried, told_retired, lets_go, issues_on, carries_out, evicts, fills, flushed, reaps_on, happens, Lawful, EachLawful}
+use Rattle.geo_world.specs.Schedule.{Known, Sending, never_sent, nothing_known, StableAt, settles, issues, learns, carried, told_retired, lets_go, issues_on, carries_out, evicts, fills, flushed, reaps_on, happens, Lawful, EachLawful}
 use Rattle.geo_world.specs.Surviving.{named, IsStable, EachStable}
 use Rattle.geo_world.proofs.Changing.{issues_sets, issues_sent, put_here, put_there}
 use Rattle.geo_world.proofs.Moving.{in_joined, with_grows}

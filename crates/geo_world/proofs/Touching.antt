@@ -8,9 +8,9 @@ use Rattle.geo_records.specs.Operations.Act.{Touch}
 use Rattle.geo_versions.proofs.Meaning.{latest_append}
 use Rattle.geo_site.specs.Entries.{Visible, found_after, touched_after, touches_of, lacks}
 use Rattle.geo_site.specs.Machine.{act_held}
-use Rattle.geo_site.specs.Schedule as schedule
-use Rattle.geo_site.specs.Schedule.{issues, new_operation}
-use Rattle.geo_site.proofs.Sound.{here}
+use Rattle.geo_world.specs.Schedule as schedule
+use Rattle.geo_world.specs.Schedule.{issues, new_operation}
+use Rattle.geo_world.proofs.Sound.{here}
 use Rattle.geo_world.specs.declared.plain.operation.Act.{Act as Plain}
 use Rattle.geo_world.specs.declared.plain.operation.Act.TheVariants as plain
 use Rattle.geo_world.specs.declared.plain.known.Known.{Known}

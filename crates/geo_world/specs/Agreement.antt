@@ -8,13 +8,13 @@ use Rattle.geo_site.specs.declared.site.Site.{Site}
 use Rattle.geo_site.specs.Entries.{Held, Counts, none_counted}
 use Rattle.geo_site.specs.Machine.{knows_floor}
 use Rattle.geo_site.specs.Sites.{state_in, counts_in, waiting_in, limits_of, heard_in, retired_in, delta_of, knows_all}
-use Rattle.geo_site.specs.Schedule.{Known, Sending, never_sent, happens, Lawful}
+use Rattle.geo_world.specs.Schedule.{Known, Sending, never_sent, happens, Lawful}
 use Rattle.geo_site.specs.declared.setup.Setup.{Setup}
 use Rattle.geo_site.specs.declared.setup.Limits.{Limits}
-use Rattle.geo_site.specs.declared.event.Event.{Event}
-use Rattle.geo_site.specs.declared.event.Event.TheVariants.{Command, Evict, Send, Take, Remove, Tick, Reap, Fill, Retire}
-use Rattle.geo_site.specs.declared.event.Trace.{Trace}
-use Rattle.geo_site.specs.Agreement.{StateOf, DeltaOf}
+use Rattle.geo_world.specs.declared.event.Event.{Event}
+use Rattle.geo_world.specs.declared.event.Event.TheVariants.{Command, Evict, Send, Take, Remove, Tick, Reap, Fill, Retire}
+use Rattle.geo_world.specs.declared.event.Trace.{Trace}
+use Rattle.geo_world.specs.Holding.{StateOf, DeltaOf}
 use Rattle.geo_world.specs.declared.outcome.WorldError.{WorldError}
 use Rattle.geo_world.specs.declared.outcome.WorldError.TheVariants.{Setups, BadEvent, Memory}
 use Rattle.geo_world.specs.declared.world.World.{World}

@@ -7,7 +7,7 @@ use Rattle.geo_stamp.specs.Vectors.{entry_of, vector_joined, Knows}
 use Rattle.geo_records.specs.Operations.{Operation, Among, latest}
 use Rattle.geo_delta.specs.declared.parcel.Parcel.{Parcel}
 use Rattle.geo_site.specs.declared.site.Site.{Site}
-use Rattle.geo_site.specs.Schedule.{Sending, never_sent}
+use Rattle.geo_world.specs.Schedule.{Sending, never_sent}
 use Rattle.geo_site.specs.Sites.{heard_in, retired_in}
 use Rattle.geo_world.specs.Reports.{Views}
 

@@ -12,10 +12,10 @@ use Rattle.geo_site.specs.declared.site.Site.{Site}
 use Rattle.geo_site.specs.declared.setup.Setup.{Setup}
 use Rattle.geo_site.specs.declared.exchange.Taken.{Taken as TakenOf}
 use Rattle.geo_site.specs.declared.exchange.Refused.{Refused as RefusedOf}
-use Rattle.geo_site.specs.declared.event.Event.{Event}
-use Rattle.geo_site.specs.declared.event.Event.TheVariants.{Command, Evict, Send, Take, Remove, Tick, Reap, Fill, Retire}
-use Rattle.geo_site.specs.declared.event.Trace.{Trace}
-use Rattle.geo_site.specs.declared.event.Trace.TheVariants.{Replied, Evicted, Taken, TakeRefused, Removed, Ticked, Reaped, ReapRefused, Filled, FillRefused, Retired, RetireRefused}
+use Rattle.geo_world.specs.declared.event.Event.{Event}
+use Rattle.geo_world.specs.declared.event.Event.TheVariants.{Command, Evict, Send, Take, Remove, Tick, Reap, Fill, Retire}
+use Rattle.geo_world.specs.declared.event.Trace.{Trace}
+use Rattle.geo_world.specs.declared.event.Trace.TheVariants.{Replied, Evicted, Taken, TakeRefused, Removed, Ticked, Reaped, ReapRefused, Filled, FillRefused, Retired, RetireRefused}
 use Rattle.geo_site.specs.Entries.{is_done}
 use Rattle.geo_site.specs.Fills.{FillDoes}
 use Rattle.geo_site.specs.Machine.{class_for}

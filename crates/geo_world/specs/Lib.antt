@@ -1,3 +1,6 @@
+pub mod Holding
+pub mod Schedule
+pub mod Served
 pub mod Reports
 pub mod Setups
 pub mod There

@@ -4,13 +4,13 @@ use Rattle.std.specs.Borrow.{Bor}
 use Rattle.geo_stamp.specs.Stamps.{Moment}
 use Rattle.geo_records.specs.Keys.{same_key}
 use Rattle.geo_site.specs.Entries.{Held, Visible, Counts, named_by, entry_in, lacks}
-use Rattle.geo_site.specs.Schedule as spec_known
-use Rattle.geo_site.specs.Schedule.{issues}
+use Rattle.geo_world.specs.Schedule as spec_known
+use Rattle.geo_world.specs.Schedule.{issues}
 use Rattle.geo_world.specs.declared.plain.known.Known.{Known}
 use Rattle.geo_world.specs.declared.plain.known.Sending.{Sending}
 use Rattle.geo_world.specs.declared.plain.known.PlainError.{PlainError}
 use Rattle.geo_world.specs.declared.plain.known.PlainError.TheVariants.{NotThere, ClockEnded, Memory}
-use Rattle.geo_site.specs.declared.event.Event.{Event}
+use Rattle.geo_world.specs.declared.event.Event.{Event}
 use Rattle.geo_world.specs.There.{is_there, is_in_time}
 use Rattle.geo_records.specs.Operations as spec
 use Rattle.geo_world.specs.declared.plain.operation.Act.{Act}

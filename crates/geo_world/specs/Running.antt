@@ -6,10 +6,10 @@ use Rattle.geo_site.specs.declared.refusal.SendError.TheVariants as send
 use Rattle.geo_site.specs.declared.refusal.TakeError.TheVariants as taking
 use Rattle.geo_site.specs.declared.setup.Setup.{Setup}
 use Rattle.geo_site.specs.declared.site.Site.{Site}
-use Rattle.geo_site.specs.declared.event.Event.{Event}
-use Rattle.geo_site.specs.declared.event.Trace.{Trace}
-use Rattle.geo_site.specs.declared.event.Trace.TheVariants.{SendRefused, TakeRefused}
-use Rattle.geo_site.specs.Schedule.{Known, known, EachLawful}
+use Rattle.geo_world.specs.declared.event.Event.{Event}
+use Rattle.geo_world.specs.declared.event.Trace.{Trace}
+use Rattle.geo_world.specs.declared.event.Trace.TheVariants.{SendRefused, TakeRefused}
+use Rattle.geo_world.specs.Schedule.{Known, known, EachLawful}
 use Rattle.geo_world.specs.declared.outcome.WorldError.{WorldError}
 use Rattle.geo_world.specs.declared.outcome.WorldError.TheVariants.{Setups, BadEvent, Memory}
 use Rattle.geo_world.specs.Setups.{are_setups, start}

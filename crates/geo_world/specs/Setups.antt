@@ -1,6 +1,6 @@
 -- Setups of a cluster: those of sites 1 to n in order, each of which a site can be made of.
 use Rattle.std.specs.Prelude.{ℕ, zero, suc, ◌+◌, ◌-◌, Bool, true, ◌==◌, ◌&&◌, nat_le, List, [], ◌∷◌, length}
-use Rattle.geo_site.specs.Schedule.{Known, nothing_known}
+use Rattle.geo_world.specs.Schedule.{Known, nothing_known}
 use Rattle.geo_site.specs.declared.setup.Setup.{Setup}
 use Rattle.geo_site.specs.declared.setup.Limits.{Limits}
 

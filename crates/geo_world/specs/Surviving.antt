@@ -1,11 +1,11 @@
 -- The sites that no retirement of a schedule names, and what removals promise among them.
 use Rattle.std.specs.Prelude.{ℕ, cond, ◌==◌, Bool, List, [], ◌∷◌}
 use Rattle.geo_stamp.specs.Retired.{no_sites, with_site}
-use Rattle.geo_site.specs.declared.event.Event.{Event}
-use Rattle.geo_site.specs.declared.event.Event.TheVariants.{Remove, Retire}
-use Rattle.geo_site.specs.declared.event.Trace.{Trace}
-use Rattle.geo_site.specs.declared.event.Trace.TheVariants.{Removed}
-use Rattle.geo_site.specs.Schedule.{Known, StableAt, happens}
+use Rattle.geo_world.specs.declared.event.Event.{Event}
+use Rattle.geo_world.specs.declared.event.Event.TheVariants.{Remove, Retire}
+use Rattle.geo_world.specs.declared.event.Trace.{Trace}
+use Rattle.geo_world.specs.declared.event.Trace.TheVariants.{Removed}
+use Rattle.geo_world.specs.Schedule.{Known, StableAt, happens}
 
 -- the sites that a retirement names, at whichever site but their own
 abbrev pub named : List Event → List Bool

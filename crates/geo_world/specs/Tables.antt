@@ -12,16 +12,16 @@ use Rattle.geo_grammar.specs.declared.request.Request.{Request}
 use Rattle.geo_grammar.specs.declared.reply.Reply.{Reply}
 use Rattle.geo_grammar.specs.declared.reply.Reply.TheVariants.{ClockEnded}
 use Rattle.geo_site.specs.declared.site.Site.{Site}
-use Rattle.geo_site.specs.declared.event.Event.{Event}
-use Rattle.geo_site.specs.declared.event.Event.TheVariants.{Command, Send, Take, Remove, Tick, Reap, Retire}
-use Rattle.geo_site.specs.declared.event.Trace.{Trace}
-use Rattle.geo_site.specs.declared.event.Trace.TheVariants.{Replied, Sent, Taken, Removed, Ticked, Reaped, ReapRefused, Retired}
+use Rattle.geo_world.specs.declared.event.Event.{Event}
+use Rattle.geo_world.specs.declared.event.Event.TheVariants.{Command, Send, Take, Remove, Tick, Reap, Retire}
+use Rattle.geo_world.specs.declared.event.Trace.{Trace}
+use Rattle.geo_world.specs.declared.event.Trace.TheVariants.{Replied, Sent, Taken, Removed, Ticked, Reaped, ReapRefused, Retired}
 use Rattle.geo_site.specs.Entries.{Answers, due_acts, is_stuck, is_done}
 use Rattle.geo_site.specs.Machine.{Delta, next_operation, IsRecordCount, IsHeldCount}
 use Rattle.geo_site.specs.Sites.{heard_in, delta_of}
 use Rattle.geo_world.specs.declared.world.World.{World}
 use Rattle.geo_world.specs.Agreement.{Agrees}
-use Rattle.geo_site.specs.Schedule.{Known, basis, happens, flushed, issues_on, reaps_on}
+use Rattle.geo_world.specs.Schedule.{Known, basis, happens, flushed, issues_on, reaps_on}
 
 -- what a site keeps
 pub record Table : Type 0 where

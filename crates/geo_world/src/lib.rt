@@ -5,6 +5,7 @@
 //! stands on the public contracts of sites and parcels alone.
 #![tactic(auto)]
 
+pub mod event;
 mod open;
 mod outcome;
 pub mod plain;
@@ -13,6 +14,7 @@ mod step;
 mod there;
 mod world;
 
+pub use event::{Event, Trace};
 pub use open::are_good;
 pub use outcome::{Outcome, WorldError};
 pub use run::{are_in_time, run_schedule};

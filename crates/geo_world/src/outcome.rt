@@ -1,6 +1,7 @@
 //! What a schedule leaves.
+use crate::event::Trace;
 use geo_delta::Parcel;
-use geo_site::{Site, Trace};
+use geo_site::Site;
 use thiserror::Error;
 
 /// What a schedule leaves: the sites in order of their numbers, the parcels in order of the sends that succeeded, and what came

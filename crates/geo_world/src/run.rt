@@ -2,8 +2,8 @@
 ghost use Rattle.std.specs.Prelude.{◌≡◌, ℕ, ◌+◌, length, IfOk, IfErr, slice_get, Some, true};
 ghost use Rattle.geo_records.specs.Operations.{SameOperations};
 ghost use Rattle.geo_site.specs.declared.site.Site.{Site};
-ghost use Rattle.geo_site.specs.Schedule.{Known, known, EachLawful};
-ghost use Rattle.geo_site.specs.Served.{NoCollision, AllServe};
+ghost use Rattle.geo_world.specs.Schedule.{Known, known, EachLawful};
+ghost use Rattle.geo_world.specs.Served.{NoCollision, AllServe};
 ghost use Rattle.geo_world.specs.Setups.{are_setups, start};
 ghost use Rattle.geo_world.specs.There.{is_in_time, all_in_time, EachThere};
 ghost use Rattle.geo_world.specs.Tables.{empty_tables, kept, Keep, EachTallies};
@@ -12,11 +12,12 @@ ghost use Rattle.geo_world.specs.Running.{wants_memory, RunRefuses};
 ghost use Rattle.geo_world.specs.Surviving.{named, EachStable};
 ghost use Rattle.geo_world.specs.Doing.{RunsAlone, HavePages};
 
+use crate::event::{Event, Trace};
 use crate::open::are_good;
 use crate::outcome::{Outcome, WorldError};
 use crate::there::first_missing;
 use crate::world::World;
-use geo_site::{Event, LAST_MOMENT, SendError, Setup, TakeError, Trace};
+use geo_site::{LAST_MOMENT, SendError, Setup, TakeError};
 use std::alloc::Global;
 
 /// Whether the moment of an event, if it has one, is one of a schedule.

@@ -5,12 +5,12 @@ ghost use Rattle.geo_world.specs.Agreement.{HasLawfulTrace, LeadsOn, SameWorld, 
 ghost use Rattle.geo_world.specs.Doing.{DoesAlone};
 ghost use Rattle.geo_world.specs.Tables.{TabledIn};
 
+use crate::event::{Event, Trace};
 use crate::outcome::WorldError;
 use crate::there::is_at_hand;
 use crate::world::World;
 use geo_grammar::{Reply, Request, ValueBytes};
 use geo_lattice::Twin;
-use geo_site::{Event, Trace};
 use geo_values::Blob;
 use geo_versions::Key;
 use std::alloc::{AllocError, Global};

@@ -2,7 +2,7 @@
 ghost use Rattle.std.specs.Prelude.{◌≡◌, ◌<◌, ◌^◌};
 ghost use Rattle.geo_world.specs.There.{is_site, is_there, made_by, FirstMissing};
 
-use geo_site::Event;
+use crate::event::Event;
 
 /// Whether a site of this number is among so many.
 pub(crate) fn has_site(sites: usize, number: u8) -> bool

@@ -10,7 +10,7 @@ ghost use Rattle.geo_cluster.specs.Wants.{WantsFor};
 use crate::script::cluster::Cluster;
 use crate::script::texts::answer_line;
 use geo_grammar::{Item, Reply, Request, fault_text, push_answer};
-use geo_site::{Event, Trace};
+use geo_world::{Event, Trace};
 use std::alloc::{AllocError, Global};
 
 /// Appends the answer to a request. Want of memory is an error, and never an answer.

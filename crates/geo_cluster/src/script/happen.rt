@@ -6,8 +6,7 @@ ghost use Rattle.geo_cluster.specs.Wants.{ComesFor};
 
 use crate::script::cluster::Cluster;
 use crate::script::texts::trace_line;
-use geo_site::{Event, Trace};
-use geo_world::WorldError;
+use geo_world::{Event, Trace, WorldError};
 use std::alloc::{AllocError, Global};
 
 impl Cluster {

@@ -3,7 +3,8 @@ ghost use Rattle.std.specs.Prelude.{◌≡◌, Some, IfOk};
 ghost use Rattle.geo_cluster.specs.Prints.{client_text, number_text, done_text, filled_text, refused_text, unsent_text, trace_text};
 
 use crate::script::escape::push_all_escaped;
-use geo_site::{Filled, ReapError, SendError, TakeError, Trace};
+use geo_site::{Filled, ReapError, SendError, TakeError};
+use geo_world::Trace;
 use itoa::Buffer;
 use std::alloc::{AllocError, Global};
 

@@ -5,7 +5,7 @@ use super::dice::{Dice, EVENTS};
 use super::key;
 use geo_grammar::{Request, ValueBytes, Verb};
 use geo_lattice::{Items, Twin};
-use geo_site::Event;
+use geo_world::Event;
 use geo_versions::Key;
 use std::alloc::Global;
 use std::test::Fail;

@@ -2,8 +2,8 @@
 use super::lines::{add_event, push, push_fault, push_outcome};
 use super::table::{MOMENTS, PAGES, SCHEDULES};
 use super::{Plan, setups};
-use geo_site::{Event, Setup};
-use geo_world::{are_good, are_in_time, run_schedule};
+use geo_site::Setup;
+use geo_world::{Event, are_good, are_in_time, run_schedule};
 use std::alloc::{AllocError, Global};
 use std::hash::RandomState;
 use std::process::Abort;

@@ -5,7 +5,7 @@ use super::seeded::{Worth, add_schedule, names};
 use super::{Plan, key};
 use geo_grammar::{Request, ValueBytes, Verb};
 use geo_lattice::Items;
-use geo_site::Event;
+use geo_world::Event;
 use geo_versions::Key;
 use std::alloc::Global;
 use std::hash::RandomState;

@@ -1,8 +1,8 @@
 //! Events as lines: a site's number, a word, and what the word wants. What comes of them is shown as text.
 use geo_grammar::{Item, Reader, Request, push_reply};
-use geo_site::{Event, RetireError, SendError, Site, TakeError, Trace};
+use geo_site::{RetireError, SendError, Site, TakeError};
 use geo_versions::Key;
-use geo_world::{Outcome, WorldError};
+use geo_world::{Event, Outcome, Trace, WorldError};
 use std::alloc::{AllocError, Global};
 
 /// The first word of a text, and what stands behind the space after it.

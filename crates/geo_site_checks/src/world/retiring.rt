@@ -6,7 +6,7 @@ use super::seeded::{Worth, add_schedule, names};
 use super::{Plan, key};
 use geo_grammar::Request;
 use geo_lattice::Lattice;
-use geo_site::Event;
+use geo_world::Event;
 use geo_stamp::Retired;
 use geo_versions::Key;
 use std::alloc::Global;

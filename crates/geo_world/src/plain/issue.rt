@@ -3,7 +3,7 @@ ghost use Rattle.std.specs.Prelude.{[], ◌∷◌, ◌≡◌, ◌≤◌, ◌<◌
 ghost use Rattle.geo_stamp.specs.Stamps.{last_time};
 ghost use Rattle.geo_records.specs.Operations.{latest as latest_of};
 ghost use Rattle.geo_site.specs.Entries.{lacks};
-ghost use Rattle.geo_site.specs.Schedule.{Known as Knowing, evicts, waits, flushed, reaps_on};
+ghost use Rattle.geo_world.specs.Schedule.{Known as Knowing, evicts, waits, flushed, reaps_on};
 ghost use Rattle.geo_world.specs.declared.plain.known.PlainError.TheVariants.{Memory};
 ghost use Rattle.geo_world.specs.There.{is_site};
 ghost use Rattle.geo_world.specs.Plain.{act_of, acts_of, Meets, ChangeAdds};

@@ -8,8 +8,8 @@ ghost use Rattle.geo_records.specs.Keys.{same_key};
 ghost use Rattle.geo_records.specs.Operations.{Operation as Issued, Act as ActOf, latest as latest_of, floor_of, version_of as version_named};
 ghost use Rattle.geo_records.specs.Operations.Act.{Touch};
 ghost use Rattle.geo_site.specs.Entries.{Held, found_of, found_after, touched_after, touches_of, evicted_on, is_due, flushes_due, is_reapable};
-ghost use Rattle.geo_site.specs.Machine.{act_held, without};
-ghost use Rattle.geo_site.specs.Schedule.{still_held, held_with};
+ghost use Rattle.geo_site.specs.Machine.{act_held, without, held_with};
+ghost use Rattle.geo_world.specs.Schedule.{still_held};
 ghost use Rattle.geo_world.specs.Plain.{act_of, acts_of, operations_of, stamped, Knows, KeepsCounts, counts_of, held_after, lent, shown};
 
 use crate::plain::meaning::{floor, is_named, latest, version_of};

@@ -1,19 +1,20 @@
 //! What all sites know along a schedule with its trace.
 ghost use Rattle.std.specs.Prelude.{[], ◌≡◌, ◌≤◌, ◌<◌, length, IfOk, IfErr, true, false};
-ghost use Rattle.geo_site.specs.Schedule.{Known as Knowing, happens, known, fills, holds_retired, Lawful, EachLawful};
+ghost use Rattle.geo_world.specs.Schedule.{Known as Knowing, happens, known, fills, holds_retired, Lawful, EachLawful};
 ghost use Rattle.geo_stamp.specs.Retired.{with_site};
 ghost use Rattle.geo_site.specs.Entries.{is_done as is_done_by};
 ghost use Rattle.geo_world.specs.Setups.{start};
 ghost use Rattle.geo_world.specs.There.{is_site, all_in_time, EachThere};
 ghost use Rattle.geo_world.specs.Plain.{Meets, can_follow};
 
+use crate::event::{Event, Trace};
 use crate::plain::knowledge::{Knowledge, copies};
 use crate::plain::operation::Operation;
 use crate::run::is_in_time_event;
 use crate::there::{has_site, is_at_hand};
 use geo_grammar::{Reply, ValueBytes};
 use geo_lattice::{Items, Lattice};
-use geo_site::{Event, Setup, Trace};
+use geo_site::Setup;
 use geo_stamp::Retired;
 use geo_versions::Key;
 use std::alloc::{AllocError, Global};

@@ -6,7 +6,7 @@ ghost use Rattle.geo_memcache.specs.Decisions.{decided};
 ghost use Rattle.geo_records.specs.Operations.{latest as latest_of};
 ghost use Rattle.geo_site.specs.Entries.{acts_of as acts_by, issued as issued_by, counted, evicted_on, lacks, touched_of, touches_of, flush_acts as flushes_by, flushes_now as is_at_once, waits_after};
 ghost use Rattle.geo_site.specs.Changes.{is_change, bytes_in, IsShort};
-ghost use Rattle.geo_site.specs.Schedule.{Known as Knowing, issues_on, counts_keys, lets_go, carries_out, visible};
+ghost use Rattle.geo_world.specs.Schedule.{Known as Knowing, issues_on, counts_keys, lets_go, carries_out, visible};
 ghost use Rattle.geo_world.specs.There.{is_site};
 ghost use Rattle.geo_world.specs.Plain.{acts_of, counts_of, shown, Meets};
 

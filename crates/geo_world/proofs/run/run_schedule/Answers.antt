@@ -1,6 +1,6 @@
 use Rattle.std.proofs.Common.{◌≡◌, ◌+◌, take, cond, not, ◌||◌, [], ◌∷◌, ◌++◌, length, refl, sym, ap, ◌∙◌, subst, arith}
-use Rattle.geo_site.proofs.Served.{all_serve}
-use Rattle.geo_site.proofs.Sound.{sound_nothing}
+use Rattle.geo_world.proofs.Serving.{all_serve}
+use Rattle.geo_world.proofs.Sound.{sound_nothing}
 use Rattle.geo_world.specs.Setups.{limits_of, start}
 use Rattle.geo_world.specs.Tables.{empty_tables}
 use Rattle.geo_world.specs.There.{all_there}

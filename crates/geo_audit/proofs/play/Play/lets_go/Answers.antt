@@ -1,6 +1,6 @@
 use Rattle.std.proofs.Common.{Option, List, ℕ, Some, sym, ap, subst, ◌∙◌}
 use Rattle.std.specs.Prelude.{MatchBool}
-use Rattle.geo_site.specs.declared.event.Event.TheVariants as at
+use Rattle.geo_world.specs.declared.event.Event.TheVariants as at
 use Rattle.geo_audit.specs.Runs.{lets_go, gone}
 use Rattle.geo_audit.specs.Misses.{Unheld}
 use Rattle.geo_audit.specs.Playing.{Always, Leads, Happens, ComesOf}

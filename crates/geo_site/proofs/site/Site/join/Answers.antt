@@ -10,7 +10,7 @@ use Rattle.geo_site.proofs.Entries.{Within, length_joined, length_raised}
 use Rattle.std.specs.List.{All}
 use Rattle.geo_site.specs.Sites.{EndFrom}
 use Rattle.geo_site.proofs.Ending.{ends_joined, listed_ends}
-use Rattle.geo_site.proofs.Sound.{named_some}
+use Rattle.geo_site.proofs.Named.{named_some}
 use Rattle.geo_site.proofs.Writing.{knows_joined, knows_floors, knows_more, knows_floor_more}
 use Rattle.geo_site.proofs.Taking.{left_rises, right_rises, all_listed}
 use Rattle.geo_site.proofs.Noting.{traced_joined}

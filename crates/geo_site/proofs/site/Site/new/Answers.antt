@@ -3,8 +3,8 @@ use Rattle.geo_delta.proofs.Tracing.{traced_first}
 use Rattle.geo_versions.specs.Maps.{record_in}
 use Rattle.std.proofs.Common.{arith, subst, ap, sym, ◌∙◌, length}
 use Rattle.geo_site.specs.Machine.{knows_floor, knows_record}
-use Rattle.geo_site.proofs.Steps.{zeros_length}
-use Rattle.geo_site.proofs.Sound.{some_none}
+use Rattle.geo_site.proofs.Entries.{zeros_length}
+use Rattle.geo_site.proofs.Named.{some_none}
 use Rattle.geo_records.specs.Operations.{Record}
 use Rattle.geo_site.proofs.Verdicts.{none_some}
 use Rattle.geo_site.proofs.Rows.{rows_none}

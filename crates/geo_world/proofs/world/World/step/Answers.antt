@@ -1,5 +1,5 @@
 use Rattle.std.proofs.Common.{sym, subst}
-use Rattle.geo_site.specs.declared.event.Event.{Event}
+use Rattle.geo_world.specs.declared.event.Event.{Event}
 use Rattle.geo_world.specs.Tables.{Tabled}
 use Rattle.geo_world.proofs.world.World.step.Goals as goal
 

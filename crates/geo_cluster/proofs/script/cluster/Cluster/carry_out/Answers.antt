@@ -1,5 +1,5 @@
 use Rattle.std.proofs.Common.{ℕ, List, IfOk, refl, sym, ap, subst}
-use Rattle.geo_site.specs.declared.event.Event.TheVariants.{Send, Take, Remove, Tick, Reap, Evict, Fill, Retire}
+use Rattle.geo_world.specs.declared.event.Event.TheVariants.{Send, Take, Remove, Tick, Reap, Evict, Fill, Retire}
 use Rattle.geo_cluster.specs.Reads.{said_by}
 use Rattle.geo_cluster.specs.Standing.{EventDoes}
 use Rattle.geo_cluster.specs.Sayings.{SaysSend, SaysTake, SaysTick, SaysRemove, SaysReap, SaysEvict, SaysFill, SaysRetire}

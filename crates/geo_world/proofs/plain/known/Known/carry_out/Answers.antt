@@ -3,7 +3,7 @@ use Rattle.std.proofs.lemmas.Result.{err_from_is_err_and}
 use Rattle.std.specs.Option.{option_copied}
 use Rattle.geo_records.specs.Operations.{Act as ActOf, latest}
 use Rattle.geo_site.specs.Entries.{Visible, counted, issued, lacks, waits_after}
-use Rattle.geo_site.specs.Schedule.{Known, issues_on, visible}
+use Rattle.geo_world.specs.Schedule.{Known, issues_on, visible}
 use Rattle.geo_world.specs.declared.plain.known.PlainError.{PlainError}
 use Rattle.geo_world.specs.declared.plain.known.PlainError.TheVariants.{ClockEnded}
 use Rattle.geo_world.specs.Plain.{acts_of, Meets, ChangeAdds}

@@ -1,6 +1,6 @@
 use Rattle.std.proofs.Common.{◌-◌, length, arith, ◌∙◌}
 use Rattle.geo_site.specs.Entries.{counted}
-use Rattle.geo_site.specs.Schedule.{visible}
+use Rattle.geo_world.specs.Schedule.{visible}
 use Rattle.geo_world.proofs.Worlds.{there_is, read_is}
 use Rattle.geo_world.proofs.Meeting.{meets_counted, shows_visible}
 use Rattle.geo_world.proofs.plain.known.Known.count.Goals as goal

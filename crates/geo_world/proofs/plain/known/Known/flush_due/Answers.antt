@@ -1,7 +1,7 @@
 use Rattle.std.proofs.Common.{◌-◌, [], ◌∷◌, length, true, false, refl, sym, ◌∙◌, arith}
 use Rattle.geo_records.specs.Operations.Act.{Flush}
 use Rattle.geo_site.specs.Entries.{flushes_due}
-use Rattle.geo_site.specs.Schedule.{issues}
+use Rattle.geo_world.specs.Schedule.{issues}
 use Rattle.geo_world.proofs.Worlds.{there_is, read_is}
 use Rattle.geo_world.proofs.Meeting.{latest_is, still_waits, flushed_kept}
 use Rattle.geo_world.proofs.plain.known.Known.flush_due.Goals as goal

@@ -1,8 +1,8 @@
 use Rattle.std.proofs.Common.{◌≡◌, ℕ, Bool, cond, Option, List, sym, subst, subst₂}
 use Rattle.std.specs.Prelude.{IfOk, IfErr}
-use Rattle.geo_site.specs.declared.event.Event.{Event}
-use Rattle.geo_site.specs.declared.event.Trace.{Trace}
-use Rattle.geo_site.specs.Schedule.{Known, carries_out, evicts, flushed, happens, fills, Lawful}
+use Rattle.geo_world.specs.declared.event.Event.{Event}
+use Rattle.geo_world.specs.declared.event.Trace.{Trace}
+use Rattle.geo_world.specs.Schedule.{Known, carries_out, evicts, flushed, happens, fills, Lawful}
 use Rattle.geo_world.specs.declared.plain.known.PlainError.TheVariants.{ClockEnded}
 use Rattle.geo_world.specs.Plain.{Meets}
 use Rattle.geo_world.proofs.Happening.{carried_kept, carried_ended, reaped_kept, reaped_ended}

@@ -2,7 +2,7 @@ use Rattle.std.proofs.Common.{ℕ, Option, List, sym, ap, subst}
 use Rattle.std.specs.Prelude.{IfOk}
 use Rattle.std.specs.Option.{option_copied}
 use Rattle.geo_site.specs.Entries.{evicted_on}
-use Rattle.geo_site.specs.Schedule.{Known, counts_keys, lets_go}
+use Rattle.geo_world.specs.Schedule.{Known, counts_keys, lets_go}
 use Rattle.geo_world.specs.Plain.{Meets}
 use Rattle.geo_world.proofs.Meeting.{still_there}
 use Rattle.geo_world.proofs.plain.known.Known.let_go.Goals as goal

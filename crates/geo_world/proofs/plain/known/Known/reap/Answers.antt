@@ -2,7 +2,7 @@ use Rattle.std.proofs.Common.{◌≡◌, ◌-◌, Bool, true, false, cond, ℕ, 
 use Rattle.geo_records.specs.Operations.{Act, version_of}
 use Rattle.geo_records.specs.Operations.Act.{Delete}
 use Rattle.geo_site.specs.Entries.{is_reapable}
-use Rattle.geo_site.specs.Schedule.{issues, reaps_on}
+use Rattle.geo_world.specs.Schedule.{issues, reaps_on}
 use Rattle.geo_world.specs.Plain.{Meets}
 use Rattle.geo_world.proofs.Worlds.{there_is, read_is}
 use Rattle.geo_world.proofs.Requesting.{adds_same}

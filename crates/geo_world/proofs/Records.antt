@@ -19,8 +19,9 @@ use Rattle.geo_versions.proofs.Meaning.{newest_append, absorbed}
 use Rattle.geo_records.proofs.Above.{above_lower, below_too, lt_gt}
 use Rattle.geo_records.specs.declared.body.Body.{Body}
 use Rattle.geo_records.specs.declared.body.Body.TheVariants.{Gone, Value}
-use Rattle.geo_site.specs.Agreement.{has_value, Old, Kept, Holds}
-use Rattle.geo_site.proofs.Registers.{Later, Incoming, join_later, join_whole, join_kept, missing_absorbed, found, earlier}
+use Rattle.geo_world.specs.Holding.{has_value, Old, Kept, Holds}
+use Rattle.geo_site.proofs.Times.{earlier, time_of}
+use Rattle.geo_world.proofs.Registers.{Later, Incoming, join_later, join_whole, join_kept, missing_absorbed, found}
 
 abbrev pub B : List ℕ → List Operation → Register Body
 B key = newest (by_both stamp_cmp body_cmp) (body_of key)
@@ -99,9 +100,6 @@ not_below q y = by (by_both stamp_cmp nat_cmp q y) refl
     by Less e h = lt_gt y.0 q.0 ∙ less (stamp_cmp q.0 y.0) (nat_cmp q.1 y.1) e
     by Equal e h = same h
     by Greater e h = same h
-
-pub time_of : (y z : Moment) → is_lt (stamp_cmp y z) ≡ false → z.time ≤ y.time
-time_of y z h = elim (cases_lt y.time z.time) [ inr le ↦ le | inl lt ↦ absurd (true≢false (sym (ap is_lt (earlier y z lt)) ∙ h)) ]
 
 -- an operation that leaves a body leaves an expiry
 both_of : (key : List ℕ) (op : Operation) (z : Moment × Body) → body_of key op ≡ Some z → (e : ℕ) × (expiry_of key op ≡ Some (z.0, e))

@@ -22,17 +22,18 @@ use Rattle.geo_grammar.specs.declared.reply.Found.{Found}
 use Rattle.geo_grammar.specs.declared.stats.Stats.{Stats}
 use Rattle.geo_memcache.specs.Entries.{Entry, is_live, expiry_at}
 use Rattle.geo_memcache.specs.Decisions.{stores, deletes, touches, counts}
-use Rattle.geo_site.specs.declared.event.Event.{Event}
-use Rattle.geo_site.specs.declared.event.Event.TheVariants.{Command}
-use Rattle.geo_site.specs.declared.event.Trace.{Trace}
-use Rattle.geo_site.specs.declared.event.Trace.TheVariants.{Replied}
-use Rattle.geo_site.specs.Entries.{names, entry_in, renewed, found_at, found_of, found_after, touched_after, is_stuck, unique_if, cas_of, Basis, replied, issued, is_crowded, lacks, owed}
-use Rattle.geo_site.specs.Schedule.{Known, visible, basis, flushed, RepliesTo, RepliesBy, happens, known, Lawful, EachLawful}
-use Rattle.geo_site.specs.Served.{Written, Offered, Apart, NoCollision, ServedBy, EachServed, values_in, ReplyServes, TraceServes, AllServe}
-use Rattle.geo_site.proofs.Registers.{found}
-use Rattle.geo_site.proofs.Records.{B, above_is}
+use Rattle.geo_world.specs.declared.event.Event.{Event}
+use Rattle.geo_world.specs.declared.event.Event.TheVariants.{Command}
+use Rattle.geo_world.specs.declared.event.Trace.{Trace}
+use Rattle.geo_world.specs.declared.event.Trace.TheVariants.{Replied}
+use Rattle.geo_site.specs.Entries.{values_in, names, entry_in, renewed, found_at, found_of, found_after, touched_after, is_stuck, unique_if, cas_of, Basis, replied, issued, is_crowded, lacks, owed}
+use Rattle.geo_world.specs.Schedule.{Known, visible, basis, flushed, RepliesTo, RepliesBy, happens, known, Lawful, EachLawful}
+use Rattle.geo_world.specs.Served.{Written, Offered, Apart, NoCollision, ServedBy, EachServed, ReplyServes, TraceServes, AllServe}
+use Rattle.geo_site.proofs.Named.{some_same, some_none}
+use Rattle.geo_world.proofs.Registers.{found}
+use Rattle.geo_world.proofs.Records.{B, above_is}
 use Rattle.geo_site.proofs.Verdicts.{stores_plain, deletes_plain, touches_plain, counts_plain}
-use Rattle.geo_site.proofs.Sound.{Sound, some_same, some_none, sound_happens, sound_flushed, grown, grown_replied}
+use Rattle.geo_world.proofs.Sound.{Sound, sound_happens, sound_flushed, grown, grown_replied}
 
 both_true : (a b : Bool) → a && b ≡ true → (a ≡ true) × (b ≡ true)
 both_true true b h = (refl, h)

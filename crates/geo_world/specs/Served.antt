@@ -5,13 +5,13 @@ use Rattle.geo_records.specs.Operations.{Operation, Among, version_of}
 use Rattle.geo_records.specs.Operations.Act.{Write}
 use Rattle.geo_records.specs.declared.version.Version.{Version}
 use Rattle.geo_grammar.specs.declared.reply.Reply.{Reply}
-use Rattle.geo_grammar.specs.declared.reply.Reply.TheVariants.{Values}
 use Rattle.geo_grammar.specs.declared.reply.Found.{Found}
-use Rattle.geo_site.specs.declared.event.Event.{Event}
-use Rattle.geo_site.specs.declared.event.Event.TheVariants.{Command, Fill}
-use Rattle.geo_site.specs.declared.event.Trace.{Trace}
-use Rattle.geo_site.specs.declared.event.Trace.TheVariants.{Replied}
-use Rattle.geo_site.specs.Schedule.{Known, flushed, happens}
+use Rattle.geo_site.specs.Entries.{values_in}
+use Rattle.geo_world.specs.declared.event.Event.{Event}
+use Rattle.geo_world.specs.declared.event.Event.TheVariants.{Command, Fill}
+use Rattle.geo_world.specs.declared.event.Trace.{Trace}
+use Rattle.geo_world.specs.declared.event.Trace.TheVariants.{Replied}
+use Rattle.geo_world.specs.Schedule.{Known, flushed, happens}
 
 -- somebody knows a write of the bytes
 pub record Writing (ops : List Operation) (bytes : List ℕ) : Type 0 where
@@ -56,11 +56,6 @@ pub record ServedBy (w : Known) (ops : List Operation) (entry : Found) : Type 0 
 abbrev pub EachServed : Known → List Operation → List Found → Type 0
 EachServed w ops [] = Unit {0}
 EachServed w ops (entry ∷ found) = ServedBy w ops entry × EachServed w ops found
-
--- the values in a reply
-abbrev pub values_in : Reply → List Found
-values_in (Values found) = found
-values_in reply = []
 
 -- each value in a reply is what the named operation wrote, by what is known after a due flush
 abbrev pub ReplyServes : Known → ℕ → Reply → Type 0

@@ -1,11 +1,7 @@
-//! What can happen at a site, and what came of it.
-use crate::fill::Filled;
-use crate::refusal::{ReapError, RetireError, SendError, TakeError};
+//! What can happen in a schedule, and what came of it.
 use geo_grammar::{Reply, Request, ValueBytes};
+use geo_site::{Filled, ReapError, RetireError, SendError, TakeError};
 use geo_versions::Key;
-
-/// The greatest moment, in seconds.
-pub const LAST_MOMENT: u64 = 1 << 40;
 
 /// What happens next: one atomic step of one site. Sites are numbered from 1, parcels from 0 by the sends that succeeded.
 #[derive(Drop)]

@@ -8,10 +8,10 @@ use Rattle.geo_records.specs.Keys.{same_key}
 use Rattle.geo_records.specs.Operations.{Operation, Act, Among, version_of, latest}
 use Rattle.geo_records.specs.Operations.Act.{Write, Delete, Touch, Flush}
 use Rattle.geo_records.specs.declared.version.Version.{Version}
-use Rattle.geo_site.specs.declared.event.Event.{Event}
-use Rattle.geo_site.specs.declared.event.Event.TheVariants.{Command, Evict, Send, Take, Tick, Reap, Fill, Retire}
-use Rattle.geo_site.specs.declared.event.Trace.{Trace}
-use Rattle.geo_site.specs.declared.event.Trace.TheVariants.{Replied, Evicted, Sent, Taken, Ticked, Reaped, ReapRefused, Filled, Retired}
+use Rattle.geo_world.specs.declared.event.Event.{Event}
+use Rattle.geo_world.specs.declared.event.Event.TheVariants.{Command, Evict, Send, Take, Tick, Reap, Fill, Retire}
+use Rattle.geo_world.specs.declared.event.Trace.{Trace}
+use Rattle.geo_world.specs.declared.event.Trace.TheVariants.{Replied, Evicted, Sent, Taken, Ticked, Reaped, ReapRefused, Filled, Retired}
 use Rattle.geo_site.specs.declared.fill.Filled.{Filled as FilledAs}
 use Rattle.geo_site.specs.declared.fill.Filled.TheVariants.{NotNamed, Full, Done}
 use Rattle.geo_site.specs.declared.fill.Filled.TheVariants as filled
@@ -19,12 +19,13 @@ use Rattle.geo_site.specs.declared.setup.Limits.{Limits}
 use Rattle.geo_grammar.specs.declared.request.Request.{Request}
 use Rattle.geo_grammar.specs.declared.reply.Reply.{Reply}
 use Rattle.geo_site.specs.Entries.{Held, Counts, counted, evicted_on, names, named_by, waits_after, due_acts, waits_on, is_done}
-use Rattle.geo_site.specs.Machine.{act_held, is_victim, without}
-use Rattle.geo_site.specs.Schedule.{Sending, Known, never_sent, nothing_known, still_held, settles, new_operation, issues, learns, carried, told_retired, holds_retired, issues_on, counts_keys, lets_go, evicts, carries_out, happens, waits, flushed, visible, reaps_on, held_with, fills, FilledIn, Lawful}
+use Rattle.geo_site.specs.Machine.{act_held, held_with, is_victim, without}
+use Rattle.geo_world.specs.Schedule.{Sending, Known, never_sent, nothing_known, still_held, settles, new_operation, issues, learns, carried, told_retired, holds_retired, issues_on, counts_keys, lets_go, evicts, carries_out, happens, waits, flushed, visible, reaps_on, fills, FilledIn, Lawful}
 use Rattle.geo_site.specs.Fills.{is_filled}
-use Rattle.geo_site.specs.Served.{Writing, Offers}
+use Rattle.geo_world.specs.Served.{Writing, Offers}
 use Rattle.geo_values.proofs.Linked.{same_keys}
-use Rattle.geo_site.proofs.Steps.{among_append, at_most_latest}
+use Rattle.geo_site.proofs.Named.{some_same, some_none, named_some}
+use Rattle.geo_world.proofs.Stepping.{among_append, at_most_latest}
 
 -- `offered` are bytes that some site was offered
 pub record Sound (offered : List ℕ → Type 0) (w : Known) : Type 0 where
@@ -36,12 +37,6 @@ pub record Sound (offered : List ℕ → Type 0) (w : Known) : Type 0 where
   -- what is held was written or offered, and is named
   pub written : (t : ℕ) (q bytes : List ℕ) → w.held t q ≡ Some bytes → Writing (w.at t) bytes ⊎ offered bytes
   pub named : (t : ℕ) (q bytes : List ℕ) → w.held t q ≡ Some bytes → names (version_of (w.at t) q) bytes ≡ true
-
-pub some_same : {A : Type 0} {x y : A} → Some x ≡ Some y → x ≡ y
-some_same h = cc
-
-pub some_none : {V : Type 0} {x : V} → Some x ≡ None → ⊥
-some_none h = cc
 
 pub among_left : (ks ls : List Operation) (op : Operation) → Among ks op → Among (ks ++ ls) op
 among_left [] ls op h = absurd h
@@ -61,15 +56,6 @@ writing_right ks ls bytes h = record { op = h.op; among = among_right ks ls h.op
 told_left : (P : List ℕ → Type 0) (ks ls : List Operation) (bytes : List ℕ) → Writing ks bytes ⊎ P bytes → Writing (ks ++ ls) bytes ⊎ P bytes
 told_left P ks ls bytes (inl h) = inl (writing_left ks ls bytes h)
 told_left P ks ls bytes (inr h) = inr h
-
--- what still is held is named, and was held
-pub named_some : (v : Option Version) (o : Option (List ℕ)) (bytes : List ℕ) → named_by v o ≡ Some bytes → (o ≡ Some bytes) × (names v bytes ≡ true)
-named_some v None bytes h = absurd (some_none (sym h))
-named_some v (Some b) bytes h = by (names v b) refl h
-  where
-    by : (t : Bool) → names v b ≡ t → cond t (Some b) None ≡ Some bytes → (Some b ≡ Some bytes) × (names v bytes ≡ true)
-    by true e h = (h, subst (λ b. names v b ≡ true) (some_same h) e)
-    by false e h = absurd (some_none (sym h))
 
 -- a site that learns, and the others
 pub here : (w : Known) (s : ℕ) (ops : List Operation) (h : Held) → (settles w s ops h).at s ≡ ops

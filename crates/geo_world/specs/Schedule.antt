@@ -7,10 +7,10 @@ use Rattle.geo_records.specs.Operations.{Operation, Act, Among, Record, latest, 
 use Rattle.geo_grammar.specs.declared.request.Request.{Request}
 use Rattle.geo_grammar.specs.declared.reply.Reply.{Reply}
 use Rattle.geo_grammar.specs.declared.reply.Reply.TheVariants.{ClockEnded}
-use Rattle.geo_site.specs.declared.event.Event.{Event}
-use Rattle.geo_site.specs.declared.event.Event.TheVariants.{Command, Evict, Send, Take, Remove, Tick, Reap, Fill, Retire}
-use Rattle.geo_site.specs.declared.event.Trace.{Trace}
-use Rattle.geo_site.specs.declared.event.Trace.TheVariants.{Replied, Evicted, Sent, SendRefused, Taken, TakeRefused, Removed, Ticked, Reaped, ReapRefused, Filled, FillRefused, Retired, RetireRefused}
+use Rattle.geo_world.specs.declared.event.Event.{Event}
+use Rattle.geo_world.specs.declared.event.Event.TheVariants.{Command, Evict, Send, Take, Remove, Tick, Reap, Fill, Retire}
+use Rattle.geo_world.specs.declared.event.Trace.{Trace}
+use Rattle.geo_world.specs.declared.event.Trace.TheVariants.{Replied, Evicted, Sent, SendRefused, Taken, TakeRefused, Removed, Ticked, Reaped, ReapRefused, Filled, FillRefused, Retired, RetireRefused}
 use Rattle.geo_site.specs.declared.fill.Filled.{Filled as FilledAs}
 use Rattle.geo_site.specs.declared.fill.Filled.TheVariants.{Done}
 use Rattle.geo_site.specs.declared.setup.Limits.{Limits}
@@ -25,9 +25,9 @@ use Rattle.geo_site.specs.declared.refusal.TakeError.TheVariants as take
 use Rattle.geo_site.specs.Entries.{Held, Visible, Basis, Counts, none_counted, counted, evicted_on, entry_in, names, named_by, issued, waits_after, flushes_due, is_stuck, due_acts, waits_on, is_reapable, reap_acts, lacks, Answers, is_done}
 use Rattle.geo_records.specs.Keys.{same_key}
 use Rattle.geo_records.specs.Operations.Act.{Write, Delete, Touch, Flush}
-use Rattle.geo_site.specs.Agreement.{Holds}
+use Rattle.geo_world.specs.Holding.{Holds}
 use Rattle.geo_site.specs.Fills.{is_filled, FillsAs}
-use Rattle.geo_site.specs.Machine.{act_held, without, class_for, next_operation, IsRecordCount, IsHeldCount}
+use Rattle.geo_site.specs.Machine.{act_held, held_with, without, next_operation, VictimOf, IsRecordCount, IsHeldCount}
 
 -- what was known at a site, and which it held for retired, when it sent a parcel, and to whom
 pub record Sending : Type 0 where
@@ -169,10 +169,6 @@ lets_go w site victim = record {
 abbrev pub evicts : Known → ℕ → List ℕ → Known
 evicts w site key = counts_keys (lets_go w site (Some key)) site (evicted_on (Some key) (w.counts site))
 
--- of what is held, these bytes are held of the key
-abbrev pub held_with : List ℕ → List ℕ → Held → Held
-held_with key bytes held q = cond (same_key q key) (Some bytes) (held q)
-
 -- a site holds bytes that were offered
 abbrev pub fills : Known → ℕ → List ℕ → List ℕ → Known
 fills w site key bytes = record {
@@ -185,20 +181,6 @@ fills w site key bytes = record {
   sites = w.sites;
   sent = w.sent;
 }
-
--- a victim is another key than the one that is written, and a value of the same class is held of it
-abbrev pub IsVictim : Held → Act → List ℕ → Type 0
-IsVictim held (Write key bytes flags expiry) victim = (same_key victim key ≡ false) × (old : List ℕ) × (held victim ≡ Some old)
-    × (class_for (length old) ≡ class_for (length bytes))
-IsVictim held (Delete key) victim = ⊥
-IsVictim held (Touch key expiry) victim = ⊥
-IsVictim held Flush victim = ⊥
-
--- there is no victim, or it is one of the first of these acts; no request issues two writes
-abbrev pub VictimOf : Held → List Act → Option (List ℕ) → Type 0
-VictimOf held acts None = Unit {0}
-VictimOf held [] (Some victim) = ⊥
-VictimOf held (act ∷ acts) (Some victim) = IsVictim held act victim
 
 -- a flush waits at a site for its moment, or none does
 abbrev pub waits : Known → ℕ → Option ℕ → Known

@@ -23,11 +23,11 @@ use Rattle.geo_versions.proofs.Meaning.{newest_append, absorbed, latest_append}
 use Rattle.geo_site.specs.Entries.{Held, named_by}
 use Rattle.geo_site.proofs.Stocking.{settled_held, act_held_is}
 use Rattle.geo_site.specs.Machine.{act_stock, is_victim, without, victim_by, SiteState, Delta, fresh, clock_of, next_operation, map_after, issue, act_held, map_with, take, sifted_delta, removed, Same}
-use Rattle.geo_site.specs.Schedule.{still_held}
-use Rattle.geo_site.specs.Agreement.{Kept, Old, Holds, UpTo, Spans, StateOf, DeltaOf, has_value}
-use Rattle.geo_site.proofs.Entries.{Within, entry_joined, length_joined, greatest_joined, entry_at_most, greatest_raised, length_raised, entry_raised, entry_rises}
-use Rattle.geo_site.proofs.Registers.{Incoming, Missing, found}
-use Rattle.geo_site.proofs.Records.{B, X, Comes, holds_take, holds_more, holds_version, above_is}
+use Rattle.geo_world.specs.Schedule.{still_held}
+use Rattle.geo_world.specs.Holding.{Kept, Old, Holds, UpTo, Spans, StateOf, DeltaOf, has_value}
+use Rattle.geo_site.proofs.Entries.{zeros_length, Within, entry_joined, length_joined, greatest_joined, entry_at_most, greatest_raised, length_raised, entry_raised, entry_rises}
+use Rattle.geo_world.proofs.Registers.{Incoming, Missing, found}
+use Rattle.geo_world.proofs.Records.{B, X, Comes, holds_take, holds_more, holds_version, above_is}
 
 some_none : {V : Type 0} {x : V} → Some x ≡ None → ⊥
 some_none h = cc
@@ -290,10 +290,6 @@ module _ (n s h sender : ℕ) (P : ℕ → Type 0) (base : List ℕ) (st : SiteS
 pub zeros_greatest : (n : ℕ) → greatest_of (zeros n) ≡ 0
 zeros_greatest zero = refl
 zeros_greatest (suc n) = let h = zeros_greatest n in omega (arith, h)
-
-pub zeros_length : (n : ℕ) → length (zeros n) ≡ n
-zeros_length zero = refl
-zeros_length (suc n) = let h = zeros_length n in omega (arith, h)
 
 pub state_fresh : (n s pages : ℕ) → StateOf n s 0 (fresh n pages) [] (λ _. None)
 state_fresh n s pages = record {

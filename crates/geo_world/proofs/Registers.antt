@@ -12,7 +12,8 @@ use Rattle.geo_stamp.specs.Stamps.{Moment, stamp_cmp}
 use Rattle.geo_stamp.proofs.Stamps.{stamps_total, exact_stamps}
 use Rattle.geo_records.specs.Operations.{Operation, Register, newest, above, is_above, floor_joined, Among}
 use Rattle.geo_records.proofs.Above.{above_newer, above_lower, not_above}
-use Rattle.geo_site.specs.Agreement.{Old, Kept}
+use Rattle.geo_site.proofs.Times.{earlier}
+use Rattle.geo_world.specs.Holding.{Old, Kept}
 
 abbrev pub Later : {A : Type 0} → ℕ → Register A → Type 0
 Later h None = ⊥
@@ -29,9 +30,6 @@ old_kept P f (Some y) h = by (is_above f y.0)
     by : (t : Bool) → Kept P None (cond t (Some y) None)
     by true = inr (refl, h)
     by false = inl refl
-
-pub earlier : (a b : Moment) → a.time < b.time → stamp_cmp a b ≡ Less
-earlier a b lt = let h : nat_lt a.time b.time ≡ true = grind (arith, nat_tests) in ap (λ t. ordering_then (cond t Less (cond (Rattle.std.proofs.Common.nat_eq a.time b.time) Equal Greater)) (nat_cmp a.site b.site)) h
 
 module _ {A : Type 0} (C : A → A → Ordering) (total : IsTotalOrder C) (exact : CmpEqualImpliesEq C) where
   -- what is dropped below each floor is dropped below the greater one
