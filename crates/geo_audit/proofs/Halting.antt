@@ -6,9 +6,9 @@ use Rattle.std.specs.List.{All}
 use Rattle.geo_delta.specs.declared.parcel.Parcel.{Parcel}
 use Rattle.geo_world.specs.declared.event.Event.{Event as Happening}
 use Rattle.geo_history.specs.declared.history.History.{History}
-use Rattle.geo_history.specs.declared.step.Event.TheVariants.{Take}
-use Rattle.geo_history.specs.declared.step.Answer.{Answer}
-use Rattle.geo_history.specs.declared.step.Answer.TheVariants.{Replied, Evicted, Sent, SendRefused, Taken as Took, TakeRefused, Removed, Ticked, Reaped, ReapRefused, Filled as FilledAs, Retired, RetireRefused}
+use Rattle.geo_site.specs.declared.event.Event.TheVariants.{Take}
+use Rattle.geo_site.specs.declared.event.Answer.{Answer}
+use Rattle.geo_site.specs.declared.event.Answer.TheVariants.{Replied, Evicted, Sent, SendRefused, Taken as Took, TakeRefused, Removed, Ticked, Reaped, ReapRefused, Filled as FilledAs, Retired, RetireRefused}
 use Rattle.geo_history.specs.declared.step.Step.{Step}
 use Rattle.geo_audit.specs.Runs.{Turn, steps_at, parcel_in, listed, sent_in, TakesNumbered, EachTakesNumbered, IsOneOf, Interleaves}
 use Rattle.geo_audit.specs.Verdicts.{HasMore, Waits}

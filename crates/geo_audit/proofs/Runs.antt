@@ -11,8 +11,8 @@ use Rattle.geo_world.specs.declared.event.Trace.{Trace}
 use Rattle.geo_world.specs.Schedule.{Known, known}
 use Rattle.geo_world.specs.Tables.{Tables, kept}
 use Rattle.geo_history.specs.declared.history.History.{History}
-use Rattle.geo_history.specs.declared.step.Event.{Event}
-use Rattle.geo_history.specs.declared.step.Event.TheVariants.{Command, Evict, Send, Take, Remove, Tick, Reap, Fill, Retire}
+use Rattle.geo_site.specs.declared.event.Event.{Event}
+use Rattle.geo_site.specs.declared.event.Event.TheVariants.{Command, Evict, Send, Take, Remove, Tick, Reap, Fill, Retire}
 use Rattle.geo_history.specs.declared.step.Step.{Step}
 use Rattle.geo_audit.specs.declared.sent.Place.{Place}
 use Rattle.geo_audit.specs.Runs.{Turn, turn_of, steps_at, parcel_in, listed, sent_in, event_of, lets_go, gone, events_of, traces_of, events_in, traces_in, TakesNumbered, EachTakesNumbered, IsTold, Fits, EachFits, IsRun, first_of, none_of, IsOneOf, Takes}

@@ -9,8 +9,8 @@ use Rattle.geo_world.specs.declared.event.Trace.{Trace}
 use Rattle.geo_world.specs.declared.event.Trace.TheVariants as came
 use Rattle.geo_site.specs.Entries.{flushes_due}
 use Rattle.geo_world.specs.Schedule.{Known, happens, known, waits, issues, Lawful, EachLawful}
-use Rattle.geo_history.specs.declared.step.Event.{Event}
-use Rattle.geo_history.specs.declared.step.Event.TheVariants.{Command, Evict, Send, Take, Remove, Tick, Reap, Fill, Retire}
+use Rattle.geo_site.specs.declared.event.Event.{Event}
+use Rattle.geo_site.specs.declared.event.Event.TheVariants.{Command, Evict, Send, Take, Remove, Tick, Reap, Fill, Retire}
 use Rattle.geo_world.specs.There.{is_in_time, EachThere}
 use Rattle.geo_world.specs.Agreement.{Agrees, StepDoes}
 use Rattle.geo_world.specs.Tables.{Tables, kept, kept_after, keeps, issue_all_at, Keep, Tabled}

@@ -6,8 +6,8 @@ use Rattle.geo_delta.specs.declared.parcel.Parcel.{Parcel}
 use Rattle.geo_world.specs.declared.event.Event.{Event as Happening}
 use Rattle.geo_site.specs.declared.site.Site.{Site}
 use Rattle.geo_history.specs.declared.history.History.{History}
-use Rattle.geo_history.specs.declared.step.Event.{Event}
-use Rattle.geo_history.specs.declared.step.Event.TheVariants.{Take}
+use Rattle.geo_site.specs.declared.event.Event.{Event}
+use Rattle.geo_site.specs.declared.event.Event.TheVariants.{Take}
 use Rattle.geo_history.specs.declared.step.Step.{Step}
 use Rattle.geo_audit.specs.declared.merge.Merge.{Merge}
 use Rattle.geo_audit.specs.declared.sent.Mark.{Mark}

@@ -13,10 +13,10 @@ use Rattle.geo_site.specs.declared.fill.Filled.TheVariants.{Full, Done}
 use Rattle.geo_site.specs.Entries.{Held}
 use Rattle.geo_site.specs.Machine.{IsHeldCount}
 use Rattle.geo_world.specs.Schedule.{Known, happens, known, Lawful}
-use Rattle.geo_history.specs.declared.step.Event.{Event}
-use Rattle.geo_history.specs.declared.step.Event.TheVariants.{Command, Send, Take}
-use Rattle.geo_history.specs.declared.step.Answer.{Answer}
-use Rattle.geo_history.specs.declared.step.Answer.TheVariants.{Replied, Sent, Taken as Took, Filled as FilledAs}
+use Rattle.geo_site.specs.declared.event.Event.{Event}
+use Rattle.geo_site.specs.declared.event.Event.TheVariants.{Command, Send, Take}
+use Rattle.geo_site.specs.declared.event.Answer.{Answer}
+use Rattle.geo_site.specs.declared.event.Answer.TheVariants.{Replied, Sent, Taken as Took, Filled as FilledAs}
 use Rattle.geo_history.specs.declared.step.Step.{Step}
 use Rattle.geo_world.specs.There.{is_there}
 use Rattle.geo_world.specs.Tables.{Tables, kept, Tallies}

@@ -6,8 +6,8 @@ use Rattle.geo_site.specs.declared.site.Site.{Site}
 use Rattle.geo_world.specs.declared.event.Event.{Event as Happening}
 use Rattle.geo_world.specs.Schedule.{known}
 use Rattle.geo_history.specs.declared.history.History.{History}
-use Rattle.geo_history.specs.declared.step.Event.TheVariants.{Take}
-use Rattle.geo_history.specs.declared.step.Answer.TheVariants.{Sent}
+use Rattle.geo_site.specs.declared.event.Event.TheVariants.{Take}
+use Rattle.geo_site.specs.declared.event.Answer.TheVariants.{Sent}
 use Rattle.geo_history.specs.declared.step.Step.{Step}
 use Rattle.geo_audit.specs.declared.verdict.Verdict.{Verdict}
 use Rattle.geo_audit.specs.declared.verdict.Verdict.TheVariants.{Sound, Stuck, Wrong, LaterEra}

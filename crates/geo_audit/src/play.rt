@@ -7,9 +7,9 @@ ghost use Rattle.geo_audit.specs.Playing.{Always, Leads, Opens, Happens, StaysAt
 
 use crate::replay::{is_plain, is_said, is_told, seen_at, tells};
 use geo_equal::Equal;
-use geo_history::{Answer, Event, History, Step};
+use geo_history::{History, Step};
 use geo_lattice::Twin;
-use geo_site::Setup;
+use geo_site::{Answer, Event, Setup};
 use geo_versions::Key;
 use geo_world::{Event as Happening, Trace, World, WorldError};
 use std::alloc::{AllocError, Global};

@@ -10,12 +10,12 @@ ghost use Rattle.geo_audit.specs.Playing.{Rises, Sees, versions_at};
 
 use geo_equal::Equal;
 use geo_grammar::{Reply, Request, Verb};
-use geo_history::{Answer, Event, Step};
+use geo_history::Step;
 use geo_lattice::Lattice;
-use geo_site::{LAST_MOMENT, ReapError, RetireError, SendError, Site, TakeError};
-use geo_world::Trace;
+use geo_site::{Answer, Event, LAST_MOMENT, ReapError, RetireError, SendError, Site, TakeError};
 use geo_slabs::class_of;
 use geo_versions::{Digest, Key, Version};
+use geo_world::Trace;
 
 /// Whether the moment of an event, if it has one, is one at which a site can be asked.
 fn is_timely(event: &Event) -> bool

@@ -6,7 +6,8 @@ ghost use Rattle.geo_audit.specs.Merging.{same_mark, mark_of, made_in, made_by, 
 
 use geo_delta::Parcel;
 use geo_equal::Equal;
-use geo_history::{Answer, Event, History};
+use geo_history::History;
+use geo_site::{Answer, Event};
 use std::alloc::{AllocError, Global};
 use std::collections::HashMap;
 

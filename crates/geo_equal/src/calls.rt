@@ -1,6 +1,6 @@
 //! What is asked of a site, and what it answers.
 use crate::Equal;
-use geo_history::{Answer, Event};
+use geo_site::{Answer, Event};
 
 impl Equal for Event {
     fn equals(&self, other: &Self) -> bool {

@@ -24,11 +24,11 @@ use Rattle.geo_site.specs.Machine.{SiteState, Same, visible_in}
 use Rattle.geo_site.specs.Sites.{state_in, heard_in, waiting_in, counts_in, clock_in, limits_of, issued_in, victim_in, twice, Rests, Stays, Remains, FlushDoes, RequestDoesBy, ActDoes, ActTells, ActFullDoes, ReapDoes, SendDoes, TakeDoes}
 use Rattle.geo_site.proofs.Stocking.{state_path, unchanged}
 use Rattle.std.proofs.lemmas.List.{append-nil}
-use Rattle.geo_history.specs.declared.step.Event.TheVariants.{Command, Evict, Send, Take, Remove, Reap, Fill, Retire}
-use Rattle.geo_history.specs.declared.step.Event.{Event}
+use Rattle.geo_site.specs.declared.event.Event.TheVariants.{Command, Evict, Send, Take, Remove, Reap, Fill, Retire}
+use Rattle.geo_site.specs.declared.event.Event.{Event}
 use Rattle.geo_history.specs.declared.step.Step.{Step}
-use Rattle.geo_history.specs.declared.step.Answer.{Answer}
-use Rattle.geo_history.specs.declared.step.Answer.TheVariants.{Replied, Evicted, Sent, SendRefused, Taken as Took, TakeRefused, Removed, Reaped, ReapRefused, Filled as FilledAs, Retired, RetireRefused}
+use Rattle.geo_site.specs.declared.event.Answer.{Answer}
+use Rattle.geo_site.specs.declared.event.Answer.TheVariants.{Replied, Evicted, Sent, SendRefused, Taken as Took, TakeRefused, Removed, Reaped, ReapRefused, Filled as FilledAs, Retired, RetireRefused}
 use Rattle.geo_history.specs.Standings.{who_in, standing_in}
 use Rattle.geo_history.specs.Keeping.{Story, most_steps, made_by, step_with, step_of, is_flush_due, flush_count, flush_steps, number_after, IsKept, GoesOn, ReapsFor, DoesNothing, LeavesAll, ActsFor, ActForDoes, SendForDoes, TakesFor, RefusedFor, TakeForDoes, RemoveForDoes, EvictForDoes, FillForDoes, RetireForDoes, TickForDoes, ReapForDoes, JuggleForDoes}
 use Rattle.geo_history.proofs.Issuing.{stands_same, flush_again, stuck_same}

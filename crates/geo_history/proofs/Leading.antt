@@ -27,8 +27,8 @@ use Rattle.geo_site.specs.Machine as machine
 use Rattle.geo_site.specs.Machine.{VictimOf, SiteState, Same, class_for, accessed, visible_in, removed, without, is_victim, IsRecordCount, IsHeldCount}
 use Rattle.geo_site.specs.Sites.{state_in, heard_in, waiting_in, counts_in, clock_in, basis_in, record_count, held_count, issued_in, victim_in, horizon_in, HasIssued, HasIssuedAfter, FirstVictimFits, Rests, Stays, Remains, FlushDoes, RequestDoes, RequestDoesBy, ActDoes, ReapDoes, TakeDoes, RemoveDoes, RetireDoes, EvictDoes, SendDoes, IsSent as SiteSends}
 use Rattle.geo_site.proofs.Victims.{one_quiet, request_goes, victim_fits}
-use Rattle.geo_history.specs.declared.step.Event.TheVariants.{Command, Evict, Send, Take, Remove, Tick, Reap, Fill, Retire}
-use Rattle.geo_history.specs.declared.step.Answer.TheVariants.{Replied, Evicted, Sent, SendRefused, Taken as Took, TakeRefused, Removed, Ticked, Reaped, ReapRefused, Filled as FilledAs, Retired, RetireRefused}
+use Rattle.geo_site.specs.declared.event.Event.TheVariants.{Command, Evict, Send, Take, Remove, Tick, Reap, Fill, Retire}
+use Rattle.geo_site.specs.declared.event.Answer.TheVariants.{Replied, Evicted, Sent, SendRefused, Taken as Took, TakeRefused, Removed, Ticked, Reaped, ReapRefused, Filled as FilledAs, Retired, RetireRefused}
 use Rattle.geo_stamp.specs.Acks.{retires as holds_retired, looked}
 use Rattle.geo_history.specs.Standings.{who_in, Standing, standing_in, looked_at, issue_all, lets_go, carries_out, evicts, admits}
 use Rattle.geo_history.specs.Replays.{Requested, Commanded, RefusesFor, IsSent, StepsTo}

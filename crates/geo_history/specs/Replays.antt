@@ -23,10 +23,10 @@ use Rattle.geo_site.specs.Entries.{names, flushes_due, is_stuck, is_done, is_rea
 use Rattle.geo_site.specs.Machine.{VictimOf, IsRecordCount, IsHeldCount}
 use Rattle.geo_site.specs.Sites.{is_sound}
 use Rattle.geo_records.specs.Operations.{version_in}
-use Rattle.geo_history.specs.declared.step.Event.{Event}
-use Rattle.geo_history.specs.declared.step.Event.TheVariants.{Command, Evict, Send, Take, Remove, Tick, Reap, Fill, Retire}
-use Rattle.geo_history.specs.declared.step.Answer.{Answer}
-use Rattle.geo_history.specs.declared.step.Answer.TheVariants.{Replied, Evicted, Sent, SendRefused, Taken as Took, TakeRefused, Removed, Ticked, Reaped, ReapRefused, Filled as FilledAs, Retired, RetireRefused}
+use Rattle.geo_site.specs.declared.event.Event.{Event}
+use Rattle.geo_site.specs.declared.event.Event.TheVariants.{Command, Evict, Send, Take, Remove, Tick, Reap, Fill, Retire}
+use Rattle.geo_site.specs.declared.event.Answer.{Answer}
+use Rattle.geo_site.specs.declared.event.Answer.TheVariants.{Replied, Evicted, Sent, SendRefused, Taken as Took, TakeRefused, Removed, Ticked, Reaped, ReapRefused, Filled as FilledAs, Retired, RetireRefused}
 use Rattle.geo_history.specs.declared.step.Step.{Step}
 use Rattle.geo_history.specs.Standings.{Who, Standing, clock_at, visible_at, basis_at, issued_at, issue_all, flushed, carries_out, takes as taken, removes, evicts, admits, retires, reaped_at}
 

@@ -6,10 +6,10 @@ use Rattle.geo_grammar.specs.declared.reply.Reply.{Reply}
 use Rattle.geo_grammar.specs.declared.reply.Reply.TheVariants.{Values}
 use Rattle.geo_grammar.specs.declared.request.Request.{Request}
 use Rattle.geo_grammar.specs.declared.request.Request.TheVariants.{Store, Fetch, FetchTouch, Delete, Touch, Arith}
-use Rattle.geo_history.specs.declared.step.Event.{Event}
-use Rattle.geo_history.specs.declared.step.Event.TheVariants.{Command, Evict, Send, Take, Remove, Tick, Reap, Fill, Retire}
-use Rattle.geo_history.specs.declared.step.Answer.{Answer}
-use Rattle.geo_history.specs.declared.step.Answer.TheVariants.{Replied, Sent}
+use Rattle.geo_site.specs.declared.event.Event.{Event}
+use Rattle.geo_site.specs.declared.event.Event.TheVariants.{Command, Evict, Send, Take, Remove, Tick, Reap, Fill, Retire}
+use Rattle.geo_site.specs.declared.event.Answer.{Answer}
+use Rattle.geo_site.specs.declared.event.Answer.TheVariants.{Replied, Sent}
 use Rattle.geo_history.specs.declared.step.Step.{Step}
 
 -- what stands for a step, for a list of keys and a key in it, for a value that is shown, and for a parcel and a record in it

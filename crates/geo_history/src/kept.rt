@@ -3,7 +3,6 @@ ghost use Rattle.std.specs.Prelude.{◌≡◌, IfOk, replicate};
 ghost use Rattle.geo_history.specs.Standings.{who_in, who_of};
 ghost use Rattle.geo_history.specs.Keeping.{story_of, IsKept, IsCounted};
 
-use crate::boxed::BoxedParcel;
 use crate::history::{History, Opening};
 use crate::log::Log;
 use crate::parts::Parts;
@@ -12,8 +11,8 @@ use geo_chunks::Chunks;
 use geo_delta::Parcel;
 use geo_grammar::{Reply, Request, ValueBytes};
 use geo_site::{
-    Filled, ReapError, Refused, RetireError, SendError, Setup, SetupError, Site, SiteState,
-    TakeError, Taken,
+    BoxedParcel, Filled, ReapError, Refused, RetireError, SendError, Setup, SetupError, Site,
+    SiteState, TakeError, Taken,
 };
 use geo_versions::Key;
 use std::alloc::{AllocError, Global};

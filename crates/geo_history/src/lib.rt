@@ -6,7 +6,6 @@
 //! and knows nothing of threads, locks or other sites.
 #![tactic(auto)]
 
-pub mod boxed;
 pub mod history;
 pub mod kept;
 pub mod log;
@@ -14,7 +13,7 @@ pub mod parts;
 pub mod sizes;
 pub mod step;
 
-pub use boxed::BoxedParcel;
 pub use history::{History, Opening};
 pub use kept::{Kept, MOST_STEPS};
-pub use step::{Answer, Event, Step};
+pub use sizes::{answer_bytes, event_bytes};
+pub use step::Step;

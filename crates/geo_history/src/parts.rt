@@ -5,15 +5,15 @@ ghost use Rattle.geo_site.specs.Fills.{FillDoes};
 ghost use Rattle.geo_site.specs.Sites.{FlushDoes, Rests, Stays};
 ghost use Rattle.geo_history.specs.Keeping.{most_steps, most_seats, made_in, IsCounted, step_with, step_of, is_flush_due, flush_count, flush_steps, story_of, ActForDoes, SendForDoes, TakeForDoes, RemoveForDoes, EvictForDoes, FillForDoes, RetireForDoes, TickForDoes, ReapForDoes, JuggleForDoes};
 
-use crate::boxed::BoxedParcel;
 use crate::history::{History, Opening};
 use crate::log::Log;
-use crate::step::{Answer, Event, Step};
+use crate::step::Step;
 use geo_delta::Parcel;
 use geo_grammar::{Reply, Request, ValueBytes};
 use geo_lattice::Twin;
 use geo_site::{
-    Acted, Filled, ReapError, Refused, RetireError, SendError, Setup, Site, TakeError, Taken,
+    Acted, Answer, BoxedParcel, Event, Filled, ReapError, Refused, RetireError, SendError, Setup,
+    Site, TakeError, Taken,
 };
 use geo_values::Blob;
 use geo_versions::{Digest, Key};

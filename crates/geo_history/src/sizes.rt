@@ -3,9 +3,10 @@
 ghost use Rattle.std.specs.Prelude.{◌≡◌, ◌+◌, length, sum_by};
 ghost use Rattle.geo_history.specs.Sizes.{answer_bytes, capped, event_bytes, found_bytes, keys_bytes, parcel_bytes, parcel_size, record_bytes, reply_bytes, request_bytes, step_bytes, victim_bytes};
 
-use crate::step::{Answer, Event, Step};
+use crate::step::Step;
 use geo_delta::Parcel;
 use geo_grammar::{Found, Reply, Request};
+use geo_site::{Answer, Event};
 use geo_versions::{Key, Rec};
 
 /// What stands for a step, with keys of up to 24 bytes.
@@ -111,31 +112,27 @@ fn reply_bytes(reply: &Reply) -> u64
     }
 }
 
-impl Event {
-    /// How many bytes it keeps, but for its place in a step.
-    pub fn bytes(&self) -> u64
-        ensures { result ≡ capped (event_bytes self.now) }
-    {
-        match self {
-            Event::Command { request, .. } => request_bytes(request),
-            Event::Take { parcel } => parcel_bytes(parcel.parcel()),
-            Event::Evict { key } | Event::Reap { key, .. } => lone_bytes(key),
-            Event::Fill { key, bytes } => grown(bytes.len() as u64, 0, key.bytes().len()),
-            Event::Send { .. } | Event::Remove | Event::Tick { .. } | Event::Retire { .. } => 0,
-        }
+/// How many bytes an event keeps, but for its place in a step.
+pub fn event_bytes(event: &Event) -> u64
+    ensures { result ≡ capped (event_bytes event.now) }
+{
+    match event {
+        Event::Command { request, .. } => request_bytes(request),
+        Event::Take { parcel } => parcel_bytes(parcel.parcel()),
+        Event::Evict { key } | Event::Reap { key, .. } => lone_bytes(key),
+        Event::Fill { key, bytes } => grown(bytes.len() as u64, 0, key.bytes().len()),
+        Event::Send { .. } | Event::Remove | Event::Tick { .. } | Event::Retire { .. } => 0,
     }
 }
 
-impl Answer {
-    /// How many bytes it keeps, but for its place in a step.
-    pub fn bytes(&self) -> u64
-        ensures { result ≡ capped (answer_bytes self.now) }
-    {
-        match self {
-            Answer::Replied(reply) => reply_bytes(reply),
-            Answer::Sent(parcel) => parcel_bytes(parcel.parcel()),
-            _ => 0,
-        }
+/// How many bytes an answer keeps, but for its place in a step.
+pub fn answer_bytes(answer: &Answer) -> u64
+    ensures { result ≡ capped (answer_bytes answer.now) }
+{
+    match answer {
+        Answer::Replied(reply) => reply_bytes(reply),
+        Answer::Sent(parcel) => parcel_bytes(parcel.parcel()),
+        _ => 0,
     }
 }
 
@@ -154,8 +151,8 @@ impl Step {
     pub fn bytes(&self) -> u64
         ensures { result ≡ capped (step_bytes self.now) }
     {
-        let event = self.event.bytes();
-        let answer = self.answer.bytes();
+        let event = event_bytes(&self.event);
+        let answer = answer_bytes(&self.answer);
         let victim = victim_bytes(&self.victim);
         STEP_SIZE
             .saturating_add(event)

@@ -4,14 +4,14 @@ use geo_equal::Equal;
 use geo_fixtures::opened;
 use geo_frame::{EncodeFault, FrameFault, Message, decode, encode, fits};
 use geo_grammar::{Request, ValueBytes, Verb, push_reply};
-use geo_history::{BoxedParcel, Kept};
+use geo_history::Kept;
 use geo_lattice::Twin;
 use geo_scenes::shown::{
     name_of_take, push_number, push_parcel, push_state, push_steps, push_versions,
 };
 use geo_scenes::texts::{key, request, word};
 use geo_scenes::{Scene, Stop};
-use geo_site::{LAST_MOMENT, ReapError, SendError, TakeError};
+use geo_site::{BoxedParcel, LAST_MOMENT, ReapError, SendError, TakeError};
 use geo_slabs::CLASSES;
 use geo_versions::Digest;
 use std::alloc::{AllocError, Global};

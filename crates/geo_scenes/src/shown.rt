@@ -2,9 +2,9 @@
 use geo_chunks::Chunks;
 use geo_delta::Parcel;
 use geo_grammar::push_reply;
-use geo_history::{Answer, Event, Step};
+use geo_history::Step;
 use geo_lattice::Lww;
-use geo_site::{Filled, ReapError, RetireError, SendError, SiteState, TakeError};
+use geo_site::{Answer, Event, Filled, ReapError, RetireError, SendError, SiteState, TakeError};
 use geo_stamp::{Acks, Retired, Stamp, Vector};
 use geo_versions::{Body, Digest, Key, Rec, Version};
 use std::alloc::AllocError;

@@ -8,7 +8,9 @@
 
 pub mod act;
 pub mod acted;
+pub mod boxed;
 pub mod change;
+pub mod event;
 pub mod evict;
 pub mod exchange;
 pub mod fetch;
@@ -29,6 +31,8 @@ pub mod state;
 pub mod touch;
 
 pub use acted::Acted;
+pub use boxed::BoxedParcel;
+pub use event::{Answer, Event};
 pub use exchange::{Refused, Taken};
 pub use fill::Filled;
 pub use refusal::{ReapError, RetireError, SendError, SetupError, TakeError, WriteError};

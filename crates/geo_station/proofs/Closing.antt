@@ -10,8 +10,8 @@ use Rattle.geo_history.specs.Sizes.{fills}
 use Rattle.geo_grammar.specs.declared.request.Request.{Request}
 use Rattle.geo_grammar.specs.declared.reply.Reply.{Reply}
 use Rattle.geo_grammar.specs.declared.reply.Reply.TheVariants.{OutOfMemory}
-use Rattle.geo_history.specs.declared.step.Event.TheVariants.{Command}
-use Rattle.geo_history.specs.declared.step.Answer.TheVariants.{Replied}
+use Rattle.geo_site.specs.declared.event.Event.TheVariants.{Command}
+use Rattle.geo_site.specs.declared.event.Answer.TheVariants.{Replied}
 use Rattle.geo_history.specs.declared.step.Step.{Step}
 use Rattle.geo_history.specs.Stories.{IsHistoryOf, NewEraDoes, StaysTold, is_full, is_logged, last_era, most_bytes_in, logged_steps, setup_in, story_in}
 use Rattle.geo_station.specs.Seats.{Seated, IsLawful, call_of, kept_with}

@@ -13,10 +13,10 @@ use Rattle.geo_site.specs.declared.refusal.TakeError.{TakeError}
 use Rattle.geo_site.specs.declared.refusal.TakeError.TheVariants as takes
 use Rattle.geo_site.specs.declared.refusal.RetireError.{RetireError}
 use Rattle.geo_site.specs.declared.refusal.RetireError.TheVariants as retire
-use Rattle.geo_history.specs.declared.step.Event.{Event}
-use Rattle.geo_history.specs.declared.step.Event.TheVariants.{Command, Send, Take}
-use Rattle.geo_history.specs.declared.step.Answer.{Answer}
-use Rattle.geo_history.specs.declared.step.Answer.TheVariants.{Replied, Sent, SendRefused, Taken as Took, TakeRefused}
+use Rattle.geo_site.specs.declared.event.Event.{Event}
+use Rattle.geo_site.specs.declared.event.Event.TheVariants.{Command, Send, Take}
+use Rattle.geo_site.specs.declared.event.Answer.{Answer}
+use Rattle.geo_site.specs.declared.event.Answer.TheVariants.{Replied, Sent, SendRefused, Taken as Took, TakeRefused}
 use Rattle.geo_station.specs.declared.maintain.Maintained.{Maintained}
 use Rattle.geo_station.specs.declared.refusal.CallError.{CallError}
 use Rattle.geo_station.specs.declared.refusal.CallError.TheVariants.{SeatSpent, Site}

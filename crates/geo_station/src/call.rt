@@ -1,5 +1,5 @@
 //! A call of a seat.
-use geo_history::{Answer, Event};
+use geo_site::{Answer, Event};
 
 /// What a seat asked of its station, and the answer that it was handed: a client's request, a send or a take.
 #[derive(Drop)]

@@ -4,8 +4,9 @@ ghost use Rattle.geo_station.specs.Seats.{call_of, calls_bytes, is_long, kept_wi
 
 use crate::call::Call;
 use geo_grammar::Request;
-use geo_history::{Answer, Event};
+use geo_history::{answer_bytes, event_bytes};
 use geo_lattice::Twin;
+use geo_site::{Answer, Event};
 use std::alloc::{AllocError, Global};
 
 /// So many calls are let go of when a seat is trimmed.
@@ -76,8 +77,8 @@ impl Calls {
             return;
         }
         let sized = self.bytes.saturating_add(CALL_SIZE);
-        let asked = sized.saturating_add(event.bytes());
-        let all = asked.saturating_add(answer.bytes());
+        let asked = sized.saturating_add(event_bytes(&event));
+        let all = asked.saturating_add(answer_bytes(&answer));
         self.bytes = all;
         self.list.push_reserved(Call { event, answer });
     }

@@ -6,7 +6,8 @@ ghost use Rattle.geo_station.specs.Endings.{EndsSo};
 use crate::call::Call;
 use geo_chunks::Chunks;
 use geo_equal::Equal;
-use geo_history::{Event, Step};
+use geo_history::Step;
+use geo_site::Event;
 
 /// Whether a step is one that its seat keeps, and of this seat.
 fn is_call_of(step: &Step, seat: u8) -> bool

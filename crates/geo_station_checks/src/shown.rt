@@ -1,7 +1,8 @@
 //! Steps and answers as text, a line each.
 use geo_chunks::Chunks;
 use geo_grammar::push_reply;
-use geo_history::{Answer, Event, Step};
+use geo_history::Step;
+use geo_site::{Answer, Event};
 use std::alloc::{AllocError, Global};
 
 /// A word and a number.

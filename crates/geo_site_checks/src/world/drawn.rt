@@ -5,8 +5,8 @@ use super::dice::{Dice, EVENTS};
 use super::key;
 use geo_grammar::{Request, ValueBytes, Verb};
 use geo_lattice::{Items, Twin};
-use geo_world::Event;
 use geo_versions::Key;
+use geo_world::Event;
 use std::alloc::Global;
 use std::test::Fail;
 

@@ -2,8 +2,8 @@ use Rattle.std.proofs.Common.{◌≡◌, ◌+◌, ◌≤◌, ◌++◌, ◌∷◌
 use Rattle.geo_site.specs.declared.refusal.ReapError.{ReapError}
 use Rattle.geo_site.specs.declared.refusal.ReapError.TheVariants.{ClockEnded}
 use Rattle.geo_site.specs.Sites.{ReapDoes}
-use Rattle.geo_history.specs.declared.step.Event.TheVariants.{Reap}
-use Rattle.geo_history.specs.declared.step.Answer.TheVariants.{Reaped, ReapRefused}
+use Rattle.geo_site.specs.declared.event.Event.TheVariants.{Reap}
+use Rattle.geo_site.specs.declared.event.Answer.TheVariants.{Reaped, ReapRefused}
 use Rattle.geo_history.specs.Keeping.{Story, step_of, story_of, made_by, flush_count, most_steps, ReapsFor}
 use Rattle.geo_history.proofs.Calls.{reaps_for, made_after, few_flushes}
 use Rattle.geo_history.proofs.parts.Parts.reap_for.Goals as goal
