@@ -29,10 +29,10 @@ use Rattle.geo_site.specs.declared.event.Event.{Event}
 use Rattle.geo_history.specs.declared.step.Step.{Step}
 use Rattle.geo_site.specs.declared.event.Answer.{Answer}
 use Rattle.geo_site.specs.declared.event.Answer.TheVariants.{Replied, Evicted, Sent, SendRefused, Taken as Took, TakeRefused, Removed, Reaped, ReapRefused, Filled as FilledAs, Retired, RetireRefused}
-use Rattle.geo_history.specs.Standings.{who_in, standing_in}
+use Rattle.geo_site.specs.Standings.{who_in, standing_in}
 use Rattle.geo_history.specs.Keeping.{Story, most_steps, made_by, step_with, step_of, is_flush_due, flush_count, flush_steps, number_after, IsKept, GoesOn, ReapsFor, DoesNothing, LeavesAll, ActsFor, ActForDoes, SendForDoes, TakesFor, RefusedFor, TakeForDoes, RemoveForDoes, EvictForDoes, FillForDoes, RetireForDoes, TickForDoes, ReapForDoes, JuggleForDoes}
-use Rattle.geo_history.proofs.Issuing.{stands_same, flush_again, stuck_same}
-use Rattle.geo_history.proofs.Leading.{command_leads, send_leads, unsent_leads, retired_leads, retire_leads, unretired_leads, take_leads, untaken_leads, remove_leads, evict_leads, fill_leads, reap_leads, unreaped_leads}
+use Rattle.geo_site.proofs.Issuing.{stands_same, flush_again, stuck_same}
+use Rattle.geo_site.proofs.Leading.{command_leads, send_leads, unsent_leads, retired_leads, retire_leads, unretired_leads, take_leads, untaken_leads, remove_leads, evict_leads, fill_leads, reap_leads, unreaped_leads}
 use Rattle.geo_history.proofs.Keeps.{made_flushed, kept_more, kept_still, kept_after, flush_kept}
 
 -- it is the same site, and its history is still one
@@ -82,17 +82,17 @@ site_stays old new same = ap who_in same
 pub send_goes : (old new : Story) (seat to : ℕ) (result : Result (Parcel × Parcel) SendError) → SendForDoes old new seat to result → Goes old new
 send_goes old new seat to (Ok parcels) d = record {
   kept = λ kept. kept_more old new seat (Send to) (Sent parcels.0) None None kept (ap (λ (s : Site). s.number) d.2) (ap limits_of d.2)
-      (subst (λ (s : Site). Rattle.geo_history.specs.Replays.StepsTo (who_in old.site) (standing_in old.site) (Send to) (Sent parcels.0) None None (standing_in s)) (sym d.2) (send_leads old.site to parcels.0 d.0)) d.3;
+      (subst (λ (s : Site). Rattle.geo_site.specs.Steps.StepsTo (who_in old.site) (standing_in old.site) (Send to) (Sent parcels.0) None None (standing_in s)) (sym d.2) (send_leads old.site to parcels.0 d.0)) d.3;
   who = site_stays old new d.2;
 }
 send_goes old new seat to (Err sends.NoSuchSite) d = record {
   kept = λ kept. kept_more old new seat (Send to) (SendRefused sends.NoSuchSite) None None kept (ap (λ (s : Site). s.number) d.1) (ap limits_of d.1)
-      (subst (λ (s : Site). Rattle.geo_history.specs.Replays.StepsTo (who_in old.site) (standing_in old.site) (Send to) (SendRefused sends.NoSuchSite) None None (standing_in s)) (sym d.1) (unsent_leads old.site to d.0)) d.2;
+      (subst (λ (s : Site). Rattle.geo_site.specs.Steps.StepsTo (who_in old.site) (standing_in old.site) (Send to) (SendRefused sends.NoSuchSite) None None (standing_in s)) (sym d.1) (unsent_leads old.site to d.0)) d.2;
   who = site_stays old new d.1;
 }
 send_goes old new seat to (Err sends.Retired) d = record {
   kept = λ kept. kept_more old new seat (Send to) (SendRefused sends.Retired) None None kept (ap (λ (s : Site). s.number) d.1) (ap limits_of d.1)
-      (subst (λ (s : Site). Rattle.geo_history.specs.Replays.StepsTo (who_in old.site) (standing_in old.site) (Send to) (SendRefused sends.Retired) None None (standing_in s)) (sym d.1) (retired_leads old.site to d.0)) d.2;
+      (subst (λ (s : Site). Rattle.geo_site.specs.Steps.StepsTo (who_in old.site) (standing_in old.site) (Send to) (SendRefused sends.Retired) None None (standing_in s)) (sym d.1) (retired_leads old.site to d.0)) d.2;
   who = site_stays old new d.1;
 }
 send_goes old new seat to (Err sends.Memory) d = goes_same old new d
@@ -107,7 +107,7 @@ take_goes old new seat parcel (Err refused) d = by refused.why refl d
     untaken : (why : TakeError) → refused.why ≡ why → why ≢ takes.Memory → TakesFor old new seat parcel (Err refused) (TakeRefused why) → Goes old new
     untaken why is other d = record {
       kept = λ kept. kept_more old new seat (Take parcel) (TakeRefused why) None None kept d.remains.0 d.remains.1
-          (subst (λ w. Rattle.geo_history.specs.Replays.StepsTo (who_in old.site) (standing_in old.site) (Take parcel) (TakeRefused w) None None (standing_in new.site)) is (untaken_leads old.site new.site parcel refused (λ e. other (sym is ∙ e)) d.does d.rests)) d.goes_on;
+          (subst (λ w. Rattle.geo_site.specs.Steps.StepsTo (who_in old.site) (standing_in old.site) (Take parcel) (TakeRefused w) None None (standing_in new.site)) is (untaken_leads old.site new.site parcel refused (λ e. other (sym is ∙ e)) d.does d.rests)) d.goes_on;
       who = who_by old.site new.site d.remains.0 d.remains.1;
     }
 

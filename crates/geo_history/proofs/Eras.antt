@@ -7,7 +7,7 @@ use Rattle.geo_site.specs.declared.state.SiteState.{SiteState}
 use Rattle.geo_site.specs.States.{IsStateOf}
 use Rattle.geo_history.specs.declared.history.History.{History}
 use Rattle.geo_history.specs.declared.step.Step.{Step}
-use Rattle.geo_history.specs.Standings.{who_in, standing_in, Describes}
+use Rattle.geo_site.specs.Standings.{who_in, standing_in, Describes}
 use Rattle.geo_history.specs.Replays.{steps_of}
 use Rattle.geo_history.specs.Keeping.{Story, most_seats, most_steps, made_in, made_by, IsCounted, Keeps, IsKept}
 use Rattle.geo_history.specs.Stories.{Renews, NewEraDoes}

@@ -17,11 +17,12 @@ use Rattle.geo_site.specs.declared.event.Event.TheVariants.{Tick}
 use Rattle.geo_site.specs.declared.event.Answer.{Answer}
 use Rattle.geo_site.specs.declared.event.Answer.TheVariants.{Ticked}
 use Rattle.geo_history.specs.declared.step.Step.{Step}
-use Rattle.geo_history.specs.Standings.{Who, who_in, Standing, standing_in, nothing_yet, Describes}
-use Rattle.geo_history.specs.Replays.{StepsTo, Replays, steps_of, is_numbered}
+use Rattle.geo_site.specs.Standings.{Who, who_in, Standing, standing_in, nothing_yet, Describes}
+use Rattle.geo_site.specs.Steps.{StepsTo}
+use Rattle.geo_history.specs.Replays.{Replays, steps_of, is_numbered}
 use Rattle.geo_history.specs.Keeping.{Story, most_steps, most_seats, opened_with, made_in, made_by, IsCounted, Keeps, IsKept, step_with, step_of, GoesOn, is_flush_due, flush_count, flush_steps, number_after, FlushesAlone, DoesNothing}
-use Rattle.geo_history.proofs.Issuing.{stands_same, undue_stands}
-use Rattle.geo_history.proofs.Leading.{flush_leads}
+use Rattle.geo_site.proofs.Issuing.{stands_same, undue_stands}
+use Rattle.geo_site.proofs.Leading.{flush_leads}
 
 -- an element that is there, whatever stands for one that is not
 pub get_or_any : (xs : List ℕ) (i d e : ℕ) → i < length xs → slice_index_or xs i d ≡ slice_index_or xs i e

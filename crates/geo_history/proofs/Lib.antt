@@ -1,5 +1,3 @@
-pub mod Issuing
-pub mod Leading
 pub mod Keeps
 pub mod Calls
 pub mod Eras

@@ -1,4 +1,3 @@
-pub mod Standings
 pub mod Replays
 pub mod Keeping
 pub mod Stories

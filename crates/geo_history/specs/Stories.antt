@@ -10,7 +10,7 @@ use Rattle.geo_history.specs.declared.kept.Kept.{Kept}
 use Rattle.geo_history.specs.declared.step.Step.{Step}
 use Rattle.geo_history.specs.Logging.{logged_in}
 use Rattle.geo_history.specs.Sizes.{fills}
-use Rattle.geo_history.specs.Standings.{who_in, who_of}
+use Rattle.geo_site.specs.Standings.{who_in, who_of}
 use Rattle.geo_history.specs.Keeping.{Story, story_of, most_seats, opened_with, opened_total, made_by, made_in_all, IsKept, OpensEmpty}
 
 abbrev pub story_in : Kept → Story

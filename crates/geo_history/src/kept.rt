@@ -1,6 +1,6 @@
 //! A site that keeps its history.
 ghost use Rattle.std.specs.Prelude.{◌≡◌, IfOk, replicate};
-ghost use Rattle.geo_history.specs.Standings.{who_in, who_of};
+ghost use Rattle.geo_site.specs.Standings.{who_in, who_of};
 ghost use Rattle.geo_history.specs.Keeping.{story_of, IsKept, IsCounted};
 
 use crate::history::{History, Opening};

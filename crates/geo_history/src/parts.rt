@@ -364,7 +364,7 @@ impl Parts {
 
 impl Parts {
     ghost use Rattle.geo_history.specs.Keeping.{IsKept};
-    ghost use Rattle.geo_history.specs.Standings.{who_in, who_of};
+    ghost use Rattle.geo_site.specs.Standings.{who_in, who_of};
     ghost use Rattle.geo_history.specs.Stories.{NewEraDoes};
 
     /// Begins a new era, and hands out the history that ends.

@@ -28,3 +28,5 @@ pub mod Passing
 pub mod Repeating
 pub mod Filling
 pub mod Missing
+pub mod Issuing
+pub mod Leading

@@ -7,3 +7,5 @@ pub mod Noting
 pub mod Passing
 pub mod Repeats
 pub mod States
+pub mod Standings
+pub mod Steps

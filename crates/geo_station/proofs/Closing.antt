@@ -3,7 +3,7 @@ use Rattle.std.proofs.Common.{◌≡◌, ◌≢◌, ◌⊎◌, ◌≤◌, ◌+�
 use Rattle.std.specs.declared.alloc.AllocError.{AllocError}
 use Rattle.std.proofs.Math.Logic.{∥∥₁_map}
 use Rattle.geo_history.specs.declared.history.History.{History}
-use Rattle.geo_history.specs.Standings.{who_of, standing_in}
+use Rattle.geo_site.specs.Standings.{who_of, standing_in}
 use Rattle.geo_history.specs.Keeping.{Keeps, Story}
 use Rattle.geo_history.specs.declared.kept.Kept.{Kept}
 use Rattle.geo_history.specs.Sizes.{fills}

@@ -7,7 +7,7 @@ use Rattle.geo_site.specs.declared.event.Event.{Event}
 use Rattle.geo_site.specs.declared.event.Event.TheVariants.{Command, Evict, Send, Take, Remove, Tick, Reap, Fill, Retire}
 use Rattle.geo_site.specs.declared.event.Answer.{Answer}
 use Rattle.geo_history.specs.declared.step.Step.{Step}
-use Rattle.geo_history.specs.Standings.{Standing, who_of}
+use Rattle.geo_site.specs.Standings.{Standing, who_of}
 use Rattle.geo_history.specs.Replays.{steps_of}
 use Rattle.geo_history.specs.Keeping.{opened_with, Keeps, Story}
 use Rattle.geo_history.specs.Sizes.{answer_bytes, capped, event_bytes, step_size}

@@ -1,7 +1,7 @@
 use Rattle.std.proofs.Common.{sym, ◌∙◌, ap}
 use Rattle.std.proofs.Math.Logic.{∥∥₁_map}
 use Rattle.geo_history.specs.Keeping.{story_of}
-use Rattle.geo_history.specs.Standings.{who_of}
+use Rattle.geo_site.specs.Standings.{who_of}
 use Rattle.geo_history.proofs.Calls.{act_goes}
 use Rattle.geo_history.proofs.kept.Kept.act_for.Goals as goal
 

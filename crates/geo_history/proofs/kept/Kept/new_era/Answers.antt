@@ -1,5 +1,5 @@
 use Rattle.std.proofs.Common.{◌∙◌, ap, sym, subst}
-use Rattle.geo_history.specs.Standings.{who_of}
+use Rattle.geo_site.specs.Standings.{who_of}
 use Rattle.geo_history.specs.Keeping.{story_of, IsCounted}
 use Rattle.geo_history.proofs.Eras.{renewed_kept, renewed_counted, renewed_who}
 use Rattle.geo_history.proofs.kept.Kept.new_era.Goals as goal

@@ -1,7 +1,7 @@
 use Rattle.std.proofs.Common.{◌≡◌, ◌∙◌, sym, ap, subst}
 use Rattle.geo_site.specs.Machine.{Numbered}
 use Rattle.geo_site.specs.Sites.{state_in}
-use Rattle.geo_history.specs.Standings.{Who}
+use Rattle.geo_site.specs.Standings.{Who}
 use Rattle.geo_history.proofs.kept.Kept.number.Goals as goal
 
 pub returns-clause-number : goal.returns-clause-number

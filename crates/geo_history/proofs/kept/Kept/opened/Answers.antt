@@ -2,7 +2,7 @@ use Rattle.std.proofs.Common.{◌≡◌, refl, sym, ap, ◌∙◌, subst}
 use Rattle.std.proofs.lemmas.Grind.{merely}
 use Rattle.geo_site.specs.declared.setup.Setup.{Setup}
 use Rattle.geo_history.specs.declared.history.Opening.{Opening}
-use Rattle.geo_history.specs.Standings.{Describes, nothing_yet, who_of}
+use Rattle.geo_site.specs.Standings.{Describes, nothing_yet, who_of}
 use Rattle.geo_history.proofs.Keeps.{describes_none, counted_none, keeps_none}
 use Rattle.geo_history.proofs.kept.Kept.opened.Goals as goal
 

@@ -12,7 +12,7 @@ use Rattle.geo_site.specs.Machine.{SiteState, Delta, Same, act_held, without, vi
 use Rattle.geo_site.specs.Sites.{state_in, heard_in, waiting_in, counts_in, clock_in, delta_of, FlushDoes}
 use Rattle.geo_site.proofs.Stocking.{state_path, settled_held, act_held_is}
 use Rattle.geo_site.proofs.Victims.{AreQuiet, GoesFor, one_quiet, hit_held}
-use Rattle.geo_history.specs.Standings.{Who, who_in, Standing, standing_in, horizon_at, held_by, issue, issue_all, lets_go, waits, counts_as, flushed, takes, looked_at}
+use Rattle.geo_site.specs.Standings.{Who, who_in, Standing, standing_in, horizon_at, held_by, issue, issue_all, lets_go, waits, counts_as, flushed, takes, looked_at}
 
 -- a state of the machine with what stands beside it
 abbrev pub standing_at : SiteState → Heard → Option ℕ → Counts → Standing

@@ -30,9 +30,9 @@ use Rattle.geo_site.proofs.Victims.{one_quiet, request_goes, victim_fits}
 use Rattle.geo_site.specs.declared.event.Event.TheVariants.{Command, Evict, Send, Take, Remove, Tick, Reap, Fill, Retire}
 use Rattle.geo_site.specs.declared.event.Answer.TheVariants.{Replied, Evicted, Sent, SendRefused, Taken as Took, TakeRefused, Removed, Ticked, Reaped, ReapRefused, Filled as FilledAs, Retired, RetireRefused}
 use Rattle.geo_stamp.specs.Acks.{retires as holds_retired, looked}
-use Rattle.geo_history.specs.Standings.{who_in, Standing, standing_in, looked_at, issue_all, lets_go, carries_out, evicts, admits}
-use Rattle.geo_history.specs.Replays.{Requested, Commanded, RefusesFor, IsSent, StepsTo}
-use Rattle.geo_history.proofs.Issuing.{standing_at, stands_same, quiet_stands, goes_stands, accessed_stands, beside, flush_stands, none_due, stuck_same, take_stands}
+use Rattle.geo_site.specs.Standings.{who_in, Standing, standing_in, looked_at, issue_all, lets_go, carries_out, evicts, admits}
+use Rattle.geo_site.specs.Steps.{Requested, Commanded, RefusesFor, IsSent, StepsTo}
+use Rattle.geo_site.proofs.Issuing.{standing_at, stands_same, quiet_stands, goes_stands, accessed_stands, beside, flush_stands, none_due, stuck_same, take_stands}
 
 -- ---- a flush that is due
 pub flush_leads : (old new : Site) (now : ℕ) → FlushDoes old new now → flushes_due (waiting_in old) (clock_in old) now ≡ true → StepsTo (who_in old) (standing_in old) (Tick now) (Ticked true) None None (standing_in new)
