@@ -30,3 +30,4 @@ pub mod Filling
 pub mod Missing
 pub mod Issuing
 pub mod Leading
+pub mod Calls

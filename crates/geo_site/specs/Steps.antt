@@ -1,6 +1,7 @@
 -- What a site may answer to an event where it stands, and where that leads.
-use Rattle.std.specs.Prelude.{IsTrue, ◌↔◌, ◌≡◌, ◌≢◌, ℕ, ◌+◌, ◌≤◌, ◌==◌, ◌&&◌, Bool, true, false, not, cond, if◌then◌else◌, List, [], ◌∷◌, length, Option, None, is_some}
+use Rattle.std.specs.Prelude.{IsTrue, ◌↔◌, ◌≡◌, ◌≢◌, ℕ, ◌+◌, ◌≤◌, Bool, true, false, not, cond, List, [], length, Option, None, is_some, Result, Ok, Err}
 use Rattle.std.specs.List.{All}
+use Rattle.std.specs.declared.alloc.AllocError.{AllocError}
 use Rattle.geo_stamp.specs.Acks.{row_of}
 use Rattle.geo_stamp.specs.Retired.{is_in}
 use Rattle.geo_stamp.specs.Vectors.{vector_joined}
@@ -9,7 +10,11 @@ use Rattle.geo_delta.specs.declared.parcel.Parcel.{Parcel}
 use Rattle.geo_grammar.specs.declared.request.Request.{Request}
 use Rattle.geo_grammar.specs.declared.reply.Reply.{Reply}
 use Rattle.geo_grammar.specs.declared.reply.Reply.TheVariants.{ClockEnded}
+use Rattle.geo_site.specs.declared.site.Site.{Site}
+use Rattle.geo_site.specs.declared.acted.Acted.{Acted}
+use Rattle.geo_site.specs.declared.fill.Filled.{Filled}
 use Rattle.geo_site.specs.declared.exchange.Taken.{Taken}
+use Rattle.geo_site.specs.declared.exchange.Refused.{Refused}
 use Rattle.geo_site.specs.declared.refusal.SendError.{SendError}
 use Rattle.geo_site.specs.declared.refusal.SendError.TheVariants as sends
 use Rattle.geo_site.specs.declared.refusal.TakeError.{TakeError}
@@ -27,7 +32,7 @@ use Rattle.geo_site.specs.declared.event.Event.{Event}
 use Rattle.geo_site.specs.declared.event.Event.TheVariants.{Command, Evict, Send, Take, Remove, Tick, Reap, Fill, Retire}
 use Rattle.geo_site.specs.declared.event.Answer.{Answer}
 use Rattle.geo_site.specs.declared.event.Answer.TheVariants.{Replied, Evicted, Sent, SendRefused, Taken as Took, TakeRefused, Removed, Ticked, Reaped, ReapRefused, Filled as FilledAs, Retired, RetireRefused}
-use Rattle.geo_site.specs.Standings.{Who, Standing, clock_at, visible_at, basis_at, issued_at, issue_all, flushed, carries_out, takes as taken, removes, evicts, admits, retires, reaped_at}
+use Rattle.geo_site.specs.Standings.{Who, who_in, Standing, standing_in, clock_at, visible_at, basis_at, issued_at, issue_all, flushed, carries_out, takes as taken, removes, evicts, admits, retires, reaped_at}
 
 -- a request where no flush is due: the reply is the one that is owed, and never want of memory
 pub record Requested (who : Who) (old new : Standing) (now : ℕ) (request : Request) (reply : Reply) (victim : Option (List ℕ))
@@ -144,3 +149,60 @@ StepsTo who old (Command now request) (Replied reply) victim made new = Undue ol
     × Commanded (is_stuck old.waiting (clock_at old) now) who old new now request reply victim made
 StepsTo who old (Command now request) answer victim made new = ⊥
 StepsTo who old event answer victim made new = (victim ≡ None) × (made ≡ None) × Leads who old event answer new
+
+-- a call at a site is this step, for which nobody's bytes go
+abbrev pub IsStep : Site → Site → Event → Answer → Type 0
+IsStep old new event answer = StepsTo (who_in old) (standing_in old) event answer None None (standing_in new)
+
+-- a call that is no step leaves a site where it stood
+abbrev pub StandsAsBefore : Site → Site → Type 0
+StandsAsBefore old new = standing_in new ≡ standing_in old
+
+-- where a site stands once a flush that is due is carried out, which is a step of its own
+abbrev pub flushed_in : Site → ℕ → Standing
+flushed_in site now = flushed (who_in site) now (standing_in site)
+
+-- a call is this step behind a due flush
+abbrev pub IsStepBehind : Site → Site → ℕ → Event → Answer → Option (List ℕ) → Option (List ℕ × ℕ) → Type 0
+IsStepBehind old new now event answer victim made = StepsTo (who_in old) (flushed_in old now) event answer victim made (standing_in new)
+
+-- what each call is, by its result: where memory was wanted it is no step
+abbrev pub ActSteps : Site → Site → ℕ → Request → Result Acted AllocError → Type 0
+ActSteps old new now request (Ok acted) = IsStepBehind old new now (Command now request) (Replied acted.reply) acted.victim acted.made
+ActSteps old new now request (Err refused) = standing_in new ≡ flushed_in old now
+
+abbrev pub SendSteps : Site → ℕ → Result Parcel SendError → Type 0
+SendSteps site to (Ok parcel) = IsStep site site (Send to) (Sent parcel)
+SendSteps site to (Err sends.NoSuchSite) = IsStep site site (Send to) (SendRefused sends.NoSuchSite)
+SendSteps site to (Err sends.Retired) = IsStep site site (Send to) (SendRefused sends.Retired)
+SendSteps site to (Err sends.Memory) = Unit {0}
+
+abbrev pub UntakenSteps : Site → Site → Parcel → TakeError → Type 0
+UntakenSteps old new parcel takes.NotForMe = IsStep old new (Take parcel) (TakeRefused takes.NotForMe)
+UntakenSteps old new parcel takes.UnknownSite = IsStep old new (Take parcel) (TakeRefused takes.UnknownSite)
+UntakenSteps old new parcel takes.Retired = IsStep old new (Take parcel) (TakeRefused takes.Retired)
+UntakenSteps old new parcel takes.Gap = IsStep old new (Take parcel) (TakeRefused takes.Gap)
+UntakenSteps old new parcel takes.Memory = StandsAsBefore old new
+
+abbrev pub TakeSteps : Site → Site → Parcel → Result Taken Refused → Type 0
+TakeSteps old new parcel (Ok taken) = IsStep old new (Take parcel) (Took taken)
+TakeSteps old new parcel (Err refused) = UntakenSteps old new parcel refused.why
+
+-- a tick where no flush is due for which there is a stamp is no step
+abbrev pub TickSteps : Site → Site → ℕ → Bool → Type 0
+TickSteps old new now true = IsStep old new (Tick now) (Ticked true)
+TickSteps old new now false = Undue (standing_in old) now × StandsAsBefore old new
+
+abbrev pub ReapSteps : Site → Site → ℕ → List ℕ → Result Bool ReapError → Type 0
+ReapSteps old new now key (Ok done) = IsStepBehind old new now (Reap now key) (Reaped done) None None
+ReapSteps old new now key (Err reaps.ClockEnded) = IsStepBehind old new now (Reap now key) (ReapRefused reaps.ClockEnded) None None
+ReapSteps old new now key (Err reaps.Memory) = ⊥
+
+abbrev pub FillSteps : Site → Site → List ℕ → List ℕ → Result Filled AllocError → Type 0
+FillSteps old new key bytes (Ok filled) = IsStep old new (Fill key bytes) (FilledAs filled)
+FillSteps old new key bytes (Err refused) = StandsAsBefore old new
+
+abbrev pub RetireSteps : Site → Site → ℕ → Result Bool RetireError → Type 0
+RetireSteps old new other (Ok fresh) = IsStep old new (Retire other) (Retired fresh)
+RetireSteps old new other (Err retire.NoSuchSite) = IsStep old new (Retire other) (RetireRefused retire.NoSuchSite)
+RetireSteps old new other (Err retire.Memory) = ⊥

@@ -6,6 +6,7 @@ ghost use Rattle.geo_memcache.specs.Decisions.{decided, is_made};
 ghost use Rattle.geo_site.specs.Entries.{Answers, accesses, evicted_on, counted, waits_after, is_done, made_on};
 ghost use Rattle.geo_site.specs.Machine.{Same, visible_in};
 ghost use Rattle.geo_site.specs.Sites.{state_in, basis_in, issued_in, counts_in, waiting_in, stats_in, victim_in, FirstVictimFits, HasIssuedAfter, Rests, Stays, ActDoes, ActFullDoes, TellsBeside, TellsPlain, reply_in};
+ghost use Rattle.geo_site.specs.Steps.{ActSteps};
 ghost use Rattle.geo_site.specs.Changes.{is_change, bytes_in, refusal_reply, ChangeDoes, TellsChange};
 
 use crate::acted::Acted;
@@ -66,8 +67,23 @@ impl Site {
     ) -> Result<Acted, AllocError>
         requires moment { now ≤ 2 ^ 40 }
         ensures does { ActFullDoes self.old self.new now request.now with_copies result }
+        ensures step { ActSteps self.old self.new now request.now result }
     {
-        self.tick(now);
+        self.act_by(alloc, now, request, with_copies)
+    }
+
+    /// The same, by what becomes of what is held, too.
+    fn act_by(
+        &mut self,
+        alloc: Global,
+        now: u64,
+        request: &Request,
+        with_copies: bool,
+    ) -> Result<Acted, AllocError>
+        requires moment { now ≤ 2 ^ 40 }
+        ensures does { ActFullDoes self.old self.new now request.now with_copies result }
+    {
+        self.flush_due(now);
         // What the contract of a reply counts, though most replies don't show it.
         let _records = self.records();
         let _items = self.items();

@@ -10,6 +10,7 @@ ghost use Rattle.geo_site.specs.Machine.{Same, Settled, settled, stays_by, take,
 ghost use Rattle.geo_stamp.specs.Acks.{row_of};
 ghost use Rattle.geo_stamp.specs.Vectors.{vector_joined};
 ghost use Rattle.geo_site.specs.Sites.{state_in, heard_in, held_count, IsOther, IsSent, Rests, Stays, is_sound, knows_all, Takes, RefusesFor, Remains, SendDoes, TakeDoes};
+ghost use Rattle.geo_site.specs.Steps.{SendSteps, TakeSteps};
 
 use crate::notes::note_each;
 use crate::reap::earliest_in;
@@ -172,6 +173,14 @@ impl Site {
     /// Makes a parcel for another site: what it knows of all keys and has not heard that the other knows. NoSuchSite exactly for
     /// its own number and for one that is not configured, Retired then for one that it holds for gone.
     pub fn send(&self, alloc: Global, to: u8) -> Result<Parcel, SendError>
+        ensures does { SendDoes self.now to result }
+        ensures step { SendSteps self.now to result }
+    {
+        self.parcel_for(alloc, to)
+    }
+
+    /// The same, with what a frame wants of the parcel.
+    fn parcel_for(&self, alloc: Global, to: u8) -> Result<Parcel, SendError>
         ensures { SendDoes self.now to result }
     {
         let sites = self.vector.sites();
@@ -298,6 +307,20 @@ impl Site {
     /// Joins what a parcel tells. A refusal hands the parcel back whole and changes nothing. Memory is wanted only where the parcel brings
     /// a record of a key that has none.
     pub fn take(&mut self, alloc: Global, parcel: Parcel) -> Result<Taken, Refused>
+        ensures does { TakeDoes self.old self.new parcel result }
+        ensures rests { Rests self.old self.new }
+        ensures remains { Remains self.old self.new }
+        ensures step { TakeSteps self.old self.new parcel result }
+    {
+        // The step tells of what is held before and after, which is counted as it comes and goes.
+        let _before = self.items();
+        let result = self.take_in(alloc, parcel);
+        let _after = self.items();
+        result
+    }
+
+    /// The same, by what becomes of the order in which bytes go, too.
+    fn take_in(&mut self, alloc: Global, parcel: Parcel) -> Result<Taken, Refused>
         ensures does { TakeDoes self.old self.new parcel result }
         ensures rests { Rests self.old self.new }
         ensures remains { Remains self.old self.new }

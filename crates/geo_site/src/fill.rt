@@ -8,6 +8,7 @@ ghost use Rattle.geo_versions.specs.Maps.{rec_means, keys_in};
 ghost use Rattle.geo_site.specs.Entries.{names};
 ghost use Rattle.geo_site.specs.Machine.{class_for};
 ghost use Rattle.geo_site.specs.Sites.{state_in};
+ghost use Rattle.geo_site.specs.Steps.{FillSteps};
 ghost use Rattle.geo_site.specs.Fills.{FillDoes, FillShows, IsFirstMissing, AreFirstMissing, Rises, noted_at, is_filled, expiry_shown, lacks_by, is_after, is_sought, precedes, earlier};
 
 use crate::gather::{is_beyond, place};
@@ -112,6 +113,15 @@ impl Site {
     /// for them. No version changes, nothing is evicted, and nothing is counted. Err only where it would be done and a growth was
     /// refused: then nothing has changed.
     pub fn fill(&mut self, alloc: Global, key: &Key, blob: &Blob<'_>) -> Result<Filled, AllocError>
+        ensures does { FillDoes self.old self.new key.now blob.now result }
+        ensures shows { IfOk result (FillShows self.new key.now blob.now) }
+        ensures step { FillSteps self.old self.new key.now blob.now result }
+    {
+        self.admit(alloc, key, blob)
+    }
+
+    /// The same, by what becomes of the order in which bytes go, too.
+    fn admit(&mut self, alloc: Global, key: &Key, blob: &Blob<'_>) -> Result<Filled, AllocError>
         ensures does { FillDoes self.old self.new key.now blob.now result }
         ensures shows { IfOk result (FillShows self.new key.now blob.now) }
     {

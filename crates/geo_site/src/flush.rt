@@ -7,6 +7,7 @@ ghost use Rattle.geo_records.specs.Operations.Act.{Flush};
 ghost use Rattle.geo_site.specs.Entries.{is_due, is_done, flushes_now, flush_acts};
 ghost use Rattle.geo_site.specs.Machine.{clock_of};
 ghost use Rattle.geo_site.specs.Sites.{state_in, waiting_in, counts_in, HasIssued, Rests, Stays, IssuesAs, TickDoes};
+ghost use Rattle.geo_site.specs.Steps.{TickSteps};
 ghost use Rattle.geo_site.specs.Changes.{next_stamp_of};
 
 use crate::exchange::keep_named;
@@ -49,6 +50,14 @@ impl Site {
     /// Carries out a flush that waits, where its moment, in seconds, has come and a stamp is left for it, and tells whether there
     /// was one. It takes no memory but what notes measures, the want of which fails nothing.
     pub fn tick(&mut self, now: u64) -> bool
+        ensures does { TickDoes self.old self.new now result }
+        ensures step { TickSteps self.old self.new now result }
+    {
+        self.flush_due(now)
+    }
+
+    /// The same, by what becomes of what is held, too.
+    pub(crate) fn flush_due(&mut self, now: u64) -> bool
         ensures { TickDoes self.old self.new now result }
     {
         if !self.has_due_flush(now) {

@@ -3,6 +3,7 @@ ghost use Rattle.std.specs.Prelude.{◌≡◌, ◌≤◌, ℕ, List, true, false
 ghost use Rattle.std.specs.List.{All};
 ghost use Rattle.geo_site.specs.Machine.{earlier_of};
 ghost use Rattle.geo_site.specs.Sites.{EndFrom, to_reap, ReapDoes};
+ghost use Rattle.geo_site.specs.Steps.{ReapSteps};
 
 use crate::refusal::ReapError;
 use crate::site::Site;
@@ -68,9 +69,17 @@ impl Site {
     /// and tells whether it did. A flush that is due is carried out first. ClockEnded exactly where the delete has no stamp; that
     /// changes nothing. Memory never comes, since the key has a record.
     pub fn reap(&mut self, alloc: Global, now: u64, key: &Key) -> Result<bool, ReapError>
+        ensures does { ReapDoes self.old self.new now key.now result }
+        ensures step { ReapSteps self.old self.new now key.now result }
+    {
+        self.delete_ended(alloc, now, key)
+    }
+
+    /// The same, by what becomes of what is held, too.
+    fn delete_ended(&mut self, alloc: Global, now: u64, key: &Key) -> Result<bool, ReapError>
         ensures { ReapDoes self.old self.new now key.now result }
     {
-        self.tick(now);
+        self.flush_due(now);
         if !self.is_to_reap(now, key) {
             return Ok(false);
         }

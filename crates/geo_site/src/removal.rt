@@ -1,7 +1,10 @@
 //! What every site knows, and this one need not keep.
 ghost use Rattle.std.specs.Prelude.{◌≡◌};
 ghost use Rattle.geo_versions.specs.Maps.{Rec, sifted};
+ghost use Rattle.geo_site.specs.declared.event.Event.TheVariants.{Remove};
+ghost use Rattle.geo_site.specs.declared.event.Answer.TheVariants.{Removed};
 ghost use Rattle.geo_site.specs.Sites.{horizon_in, RemoveDoes};
+ghost use Rattle.geo_site.specs.Steps.{IsStep};
 
 use crate::site::Site;
 use geo_lattice::Items;
@@ -22,6 +25,18 @@ impl Site {
     /// them as [`geo_versions::Versions::remove_below`] does. It takes no memory but what notes measures and order, the want of which
     /// fails nothing.
     pub fn remove(&mut self) -> usize
+        ensures does { RemoveDoes self.old self.new result }
+        ensures step { IsStep self.old self.new Remove (Removed result) }
+    {
+        // The step tells of the records before and after, which are counted as they come and go.
+        let _before = self.records();
+        let count = self.drop_known();
+        let _after = self.records();
+        count
+    }
+
+    /// The same, by what becomes of what is kept.
+    fn drop_known(&mut self) -> usize
         ensures { RemoveDoes self.old self.new result }
     {
         let horizon = self.horizon();

@@ -1,5 +1,6 @@
 //! That another site is gone for good.
 ghost use Rattle.geo_site.specs.Sites.{Remains, Rests, RetireDoes};
+ghost use Rattle.geo_site.specs.Steps.{RetireSteps};
 
 use crate::refusal::RetireError;
 use crate::site::Site;
@@ -10,6 +11,16 @@ impl Site {
     /// sites that hold it for gone go on without it, whatever it does. NoSuchSite exactly for its own number and for one that is not
     /// configured. It takes no memory.
     pub fn retire(&mut self, other: u8) -> Result<bool, RetireError>
+        ensures does { RetireDoes self.old self.new other result }
+        ensures rests { Rests self.old self.new }
+        ensures remains { Remains self.old self.new }
+        ensures step { RetireSteps self.old self.new other result }
+    {
+        self.hold_for_gone(other)
+    }
+
+    /// The same, by what becomes of what was heard.
+    fn hold_for_gone(&mut self, other: u8) -> Result<bool, RetireError>
         ensures does { RetireDoes self.old self.new other result }
         ensures rests { Rests self.old self.new }
         ensures remains { Remains self.old self.new }

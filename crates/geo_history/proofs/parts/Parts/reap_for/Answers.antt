@@ -35,7 +35,7 @@ returns-in-Ok-clause-does c =
     subst (λ (s : Story). ReapsFor s last c.args.seat c.args.now c.args.key.now (Ok c.in-Ok.done) (Reaped c.in-Ok.done)) same
     (subst (λ (s : Story). ReapsFor first s c.args.seat c.args.now c.args.key.now (Ok c.in-Ok.done) (Reaped c.in-Ok.done)) there
     (reaps_for first (story_of c.flush_due.new.self) whole c.args.seat c.args.now c.flush_due.ensures.flush (record { opening = c.flush_due.ensures.opening; more = c.flush_due.ensures.steps })
-    c.args.key.now (Ok c.in-Ok.done) (Reaped c.in-Ok.done) c.in-Ok.ensures (record { opening = c.append.ensures.opening; more = subst (λ (k : List ℕ). c.append.new.self.steps.items ≡ c.flush_due.new.self.steps.items ++ step_of c.args.seat (made_by (story_of c.flush_due.new.self) c.args.seat + 1) (Reap c.args.now k) (Reaped c.in-Ok.done) ∷ []) (c.in-Ok-Ok.ensures') c.append.ensures.steps })))
+    c.args.key.now (Ok c.in-Ok.done) (Reaped c.in-Ok.done) c.in-Ok.ensures.does (record { opening = c.append.ensures.opening; more = subst (λ (k : List ℕ). c.append.new.self.steps.items ≡ c.flush_due.new.self.steps.items ++ step_of c.args.seat (made_by (story_of c.flush_due.new.self) c.args.seat + 1) (Reap c.args.now k) (Reaped c.in-Ok.done) ∷ []) (c.in-Ok-Ok.ensures') c.append.ensures.steps })))
 
 pub returns-in-Err-ClockEnded-clause-does : goal.returns-in-Err-ClockEnded-clause-does
 returns-in-Err-ClockEnded-clause-does c =
@@ -48,7 +48,7 @@ returns-in-Err-ClockEnded-clause-does c =
     subst (λ (s : Story). ReapsFor s last c.args.seat c.args.now c.args.key.now (Err ClockEnded) (ReapRefused ClockEnded)) same
     (subst (λ (s : Story). ReapsFor first s c.args.seat c.args.now c.args.key.now (Err ClockEnded) (ReapRefused ClockEnded)) there
     (reaps_for first (story_of c.flush_due.new.self) whole c.args.seat c.args.now c.flush_due.ensures.flush (record { opening = c.flush_due.ensures.opening; more = c.flush_due.ensures.steps })
-    c.args.key.now (Err ClockEnded) (ReapRefused ClockEnded) (subst (λ (why : ReapError). ReapDoes c.flush_due.new.self.site c.reap.new.self c.args.now c.args.key.now (Err why)) c.in-Err-ClockEnded.field-0-is c.in-Err-ClockEnded.ensures) (record { opening = c.append-in-Err-ClockEnded.ensures.opening; more = subst (λ (k : List ℕ). c.append-in-Err-ClockEnded.new.self.steps.items ≡ c.flush_due.new.self.steps.items ++ step_of c.args.seat (made_by (story_of c.flush_due.new.self) c.args.seat + 1) (Reap c.args.now k) (ReapRefused ClockEnded) ∷ []) (c.in-Ok-Ok.ensures') c.append-in-Err-ClockEnded.ensures.steps })))
+    c.args.key.now (Err ClockEnded) (ReapRefused ClockEnded) (subst (λ (why : ReapError). ReapDoes c.flush_due.new.self.site c.reap.new.self c.args.now c.args.key.now (Err why)) c.in-Err-ClockEnded.field-0-is c.in-Err-ClockEnded.ensures.does) (record { opening = c.append-in-Err-ClockEnded.ensures.opening; more = subst (λ (k : List ℕ). c.append-in-Err-ClockEnded.new.self.steps.items ≡ c.flush_due.new.self.steps.items ++ step_of c.args.seat (made_by (story_of c.flush_due.new.self) c.args.seat + 1) (Reap c.args.now k) (ReapRefused ClockEnded) ∷ []) (c.in-Ok-Ok.ensures') c.append-in-Err-ClockEnded.ensures.steps })))
 
 pub append-requires-clause-room : goal.append-requires-clause-room
 append-requires-clause-room c =

@@ -12,7 +12,7 @@ returns-clause-lawful c = λ w agrees.
     let lo = there.first in
     let hi = there.last in
     let got = read_is c.args.self.now.sites.items (c.args.site - 1) c.index_mut-at.result.now (omega arith) c.index_mut-at.ensures.value in
-    evict_lawful _ _ w agrees (c.args.site - 1) c.args.site (omega arith) hi c.index_mut-at.result.now c.evict.new.self got c.args.key.now c.evict.result c.evict.ensures
+    evict_lawful _ _ w agrees (c.args.site - 1) c.args.site (omega arith) hi c.index_mut-at.result.now c.evict.new.self got c.args.key.now c.evict.result c.evict.ensures.does
 
 pub returns-clause-kept : goal.returns-clause-kept
 returns-clause-kept c = λ w agrees.
@@ -21,7 +21,7 @@ returns-clause-kept c = λ w agrees.
     let lo = there.first in
     let hi = there.last in
     let got = read_is c.args.self.now.sites.items (c.args.site - 1) c.index_mut-at.result.now (omega arith) c.index_mut-at.ensures.value in
-    evict_agrees _ _ w agrees (c.args.site - 1) c.args.site (omega arith) hi c.index_mut-at.result.now c.evict.new.self got c.args.key.now c.evict.result c.evict.ensures
+    evict_agrees _ _ w agrees (c.args.site - 1) c.args.site (omega arith) hi c.index_mut-at.result.now c.evict.new.self got c.args.key.now c.evict.result c.evict.ensures.does
 
 pub returns-clause-alone : goal.returns-clause-alone
 returns-clause-alone c =
@@ -30,7 +30,7 @@ returns-clause-alone c =
     let lo = there.first in
     let hi = there.last in
     let got = read_is c.args.self.now.sites.items (c.args.site - 1) c.index_mut-at.result.now (omega arith) c.index_mut-at.ensures.value in
-    does_alone c.args.self.now.sites.items c.args.site c.index_mut-at.result.now lo got _ _ refl c.evict.new.self c.evict.ensures
+    does_alone c.args.self.now.sites.items c.args.site c.index_mut-at.result.now lo got _ _ refl c.evict.new.self c.evict.ensures.does
 
 pub returns-clause-tables : goal.returns-clause-tables
 returns-clause-tables c = λ w all agrees keep.
@@ -39,4 +39,4 @@ returns-clause-tables c = λ w all agrees keep.
     let lo = there.first in
     let hi = there.last in
     let got = read_is c.args.self.now.sites.items (c.args.site - 1) c.index_mut-at.result.now (omega arith) c.index_mut-at.ensures.value in
-    (tt, keep_evict _ _ all keep (c.args.site - 1) c.args.site (omega arith) c.index_mut-at.result.now c.evict.new.self got c.args.key.now c.evict.result c.evict.ensures)
+    (tt, keep_evict _ _ all keep (c.args.site - 1) c.args.site (omega arith) c.index_mut-at.result.now c.evict.new.self got c.args.key.now c.evict.result c.evict.ensures.does)

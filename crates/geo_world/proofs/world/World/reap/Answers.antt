@@ -12,7 +12,7 @@ returns-in-Ok-clause-lawful c = λ w agrees.
     let lo = there.first in
     let hi = there.last in
     let got = read_is c.args.self.now.sites.items (c.args.site - 1) c.index_mut-at.result.now (omega arith) c.index_mut-at.ensures.value in
-    reap_lawful _ _ w agrees (c.args.site - 1) c.args.site c.args.now (omega arith) hi c.index_mut-at.result.now c.reap.new.self got c.args.key.now c.in-Ok.done c.in-Ok.ensures
+    reap_lawful _ _ w agrees (c.args.site - 1) c.args.site c.args.now (omega arith) hi c.index_mut-at.result.now c.reap.new.self got c.args.key.now c.in-Ok.done c.in-Ok.ensures.does
 
 pub returns-in-Ok-clause-kept : goal.returns-in-Ok-clause-kept
 returns-in-Ok-clause-kept c = λ w agrees.
@@ -21,7 +21,7 @@ returns-in-Ok-clause-kept c = λ w agrees.
     let lo = there.first in
     let hi = there.last in
     let got = read_is c.args.self.now.sites.items (c.args.site - 1) c.index_mut-at.result.now (omega arith) c.index_mut-at.ensures.value in
-    reap_agrees _ _ w agrees (c.args.site - 1) c.args.site c.args.now (omega arith) hi c.index_mut-at.result.now c.reap.new.self got c.args.key.now c.in-Ok.done c.in-Ok.ensures
+    reap_agrees _ _ w agrees (c.args.site - 1) c.args.site c.args.now (omega arith) hi c.index_mut-at.result.now c.reap.new.self got c.args.key.now c.in-Ok.done c.in-Ok.ensures.does
 
 pub returns-in-Err-clause-lawful : goal.returns-in-Err-clause-lawful
 returns-in-Err-clause-lawful c = λ w agrees.
@@ -30,7 +30,7 @@ returns-in-Err-clause-lawful c = λ w agrees.
     let lo = there.first in
     let hi = there.last in
     let got = read_is c.args.self.now.sites.items (c.args.site - 1) c.index_mut-at.result.now (omega arith) c.index_mut-at.ensures.value in
-    reap_refused_lawful _ _ w agrees (c.args.site - 1) c.args.site c.args.now (omega arith) hi c.index_mut-at.result.now c.reap.new.self got c.args.key.now c.in-Err.why c.in-Err.ensures
+    reap_refused_lawful _ _ w agrees (c.args.site - 1) c.args.site c.args.now (omega arith) hi c.index_mut-at.result.now c.reap.new.self got c.args.key.now c.in-Err.why c.in-Err.ensures.does
 
 pub returns-in-Err-clause-kept : goal.returns-in-Err-clause-kept
 returns-in-Err-clause-kept c = λ w agrees.
@@ -39,7 +39,7 @@ returns-in-Err-clause-kept c = λ w agrees.
     let lo = there.first in
     let hi = there.last in
     let got = read_is c.args.self.now.sites.items (c.args.site - 1) c.index_mut-at.result.now (omega arith) c.index_mut-at.ensures.value in
-    reap_refused_agrees _ _ w agrees (c.args.site - 1) c.args.site c.args.now (omega arith) hi c.index_mut-at.result.now c.reap.new.self got c.args.key.now c.in-Err.why c.in-Err.ensures
+    reap_refused_agrees _ _ w agrees (c.args.site - 1) c.args.site c.args.now (omega arith) hi c.index_mut-at.result.now c.reap.new.self got c.args.key.now c.in-Err.why c.in-Err.ensures.does
 
 pub returns-in-Ok-clause-alone : goal.returns-in-Ok-clause-alone
 returns-in-Ok-clause-alone c =
@@ -48,7 +48,7 @@ returns-in-Ok-clause-alone c =
     let lo = there.first in
     let hi = there.last in
     let got = read_is c.args.self.now.sites.items (c.args.site - 1) c.index_mut-at.result.now (omega arith) c.index_mut-at.ensures.value in
-    does_alone c.args.self.now.sites.items c.args.site c.index_mut-at.result.now lo got _ _ refl c.reap.new.self c.in-Ok.ensures
+    does_alone c.args.self.now.sites.items c.args.site c.index_mut-at.result.now lo got _ _ refl c.reap.new.self c.in-Ok.ensures.does
 
 pub returns-in-Err-clause-alone : goal.returns-in-Err-clause-alone
 returns-in-Err-clause-alone c =
@@ -57,7 +57,7 @@ returns-in-Err-clause-alone c =
     let lo = there.first in
     let hi = there.last in
     let got = read_is c.args.self.now.sites.items (c.args.site - 1) c.index_mut-at.result.now (omega arith) c.index_mut-at.ensures.value in
-    does_alone c.args.self.now.sites.items c.args.site c.index_mut-at.result.now lo got _ _ refl c.reap.new.self c.in-Err.ensures
+    does_alone c.args.self.now.sites.items c.args.site c.index_mut-at.result.now lo got _ _ refl c.reap.new.self c.in-Err.ensures.does
 
 pub returns-in-Ok-clause-tables : goal.returns-in-Ok-clause-tables
 returns-in-Ok-clause-tables c = λ w all agrees keep.
@@ -66,7 +66,7 @@ returns-in-Ok-clause-tables c = λ w all agrees keep.
     let lo = there.first in
     let hi = there.last in
     let got = read_is c.args.self.now.sites.items (c.args.site - 1) c.index_mut-at.result.now (omega arith) c.index_mut-at.ensures.value in
-    (tt, keep_reaped _ _ w agrees all keep (c.args.site - 1) c.args.site c.args.now (omega arith) hi c.index_mut-at.result.now c.reap.new.self got c.args.key.now c.in-Ok.done c.in-Ok.ensures)
+    (tt, keep_reaped _ _ w agrees all keep (c.args.site - 1) c.args.site c.args.now (omega arith) hi c.index_mut-at.result.now c.reap.new.self got c.args.key.now c.in-Ok.done c.in-Ok.ensures.does)
 
 pub returns-in-Err-clause-tables : goal.returns-in-Err-clause-tables
 returns-in-Err-clause-tables c = λ w all agrees keep.
@@ -75,4 +75,4 @@ returns-in-Err-clause-tables c = λ w all agrees keep.
     let lo = there.first in
     let hi = there.last in
     let got = read_is c.args.self.now.sites.items (c.args.site - 1) c.index_mut-at.result.now (omega arith) c.index_mut-at.ensures.value in
-    (tt, keep_not_reaped _ _ w agrees all keep (c.args.site - 1) c.args.site c.args.now (omega arith) hi c.index_mut-at.result.now c.reap.new.self got c.args.key.now c.in-Err.why c.in-Err.ensures)
+    (tt, keep_not_reaped _ _ w agrees all keep (c.args.site - 1) c.args.site c.args.now (omega arith) hi c.index_mut-at.result.now c.reap.new.self got c.args.key.now c.in-Err.why c.in-Err.ensures.does)

@@ -21,7 +21,7 @@ returns-clause-kept c = λ w agrees.
     let lo = there.first in
     let hi = there.last in
     let got = read_is c.args.self.now.sites.items (c.args.site - 1) c.index_mut-at.result.now (omega arith) c.index_mut-at.ensures.value in
-    remove_agrees _ _ w agrees (c.args.site - 1) c.args.site (omega arith) hi c.index_mut-at.result.now c.remove-count.new.self got c.horizon-horizon.result c.remove-count.result c.remove-count.ensures
+    remove_agrees _ _ w agrees (c.args.site - 1) c.args.site (omega arith) hi c.index_mut-at.result.now c.remove-count.new.self got c.horizon-horizon.result c.remove-count.result c.remove-count.ensures.does
 
 pub returns-clause-alone : goal.returns-clause-alone
 returns-clause-alone c =
@@ -30,7 +30,7 @@ returns-clause-alone c =
     let lo = there.first in
     let hi = there.last in
     let got = read_is c.args.self.now.sites.items (c.args.site - 1) c.index_mut-at.result.now (omega arith) c.index_mut-at.ensures.value in
-    does_alone c.args.self.now.sites.items c.args.site c.index_mut-at.result.now lo got _ _ refl c.remove-count.new.self (c.horizon-horizon.ensures, c.remove-count.ensures)
+    does_alone c.args.self.now.sites.items c.args.site c.index_mut-at.result.now lo got _ _ refl c.remove-count.new.self (c.horizon-horizon.ensures, c.remove-count.ensures.does)
 
 pub returns-clause-tables : goal.returns-clause-tables
 returns-clause-tables c = λ w all agrees keep.
@@ -44,8 +44,8 @@ returns-clause-tables c = λ w all agrees keep.
     let own = (agrees.each (c.args.site - 1) c.args.site old (omega arith) got).own in (
       (
         horizon_kept _ _ all keep (c.args.site - 1) c.args.site (omega arith) old new got own c.horizon-horizon.result c.horizon-horizon.ensures,
-        drops_kept _ _ all keep (c.args.site - 1) c.args.site (omega arith) old new got own c.remove-count.result c.remove-count.ensures c.records-before.result c.records-after.result c.records-before.ensures.records c.records-after.ensures.records
-            (ap (λ m. m + c.remove-count.result) c.records-after.ensures.count ∙ c.remove-count.ensures.counted ∙ sym c.records-before.ensures.count),
+        drops_kept _ _ all keep (c.args.site - 1) c.args.site (omega arith) old new got own c.remove-count.result c.remove-count.ensures.does c.records-before.result c.records-after.result c.records-before.ensures.records c.records-after.ensures.records
+            (ap (λ m. m + c.remove-count.result) c.records-after.ensures.count ∙ c.remove-count.ensures.does.counted ∙ sym c.records-before.ensures.count),
       ),
-      keep_removed _ _ all keep (c.args.site - 1) c.args.site (omega arith) old new got own c.remove-count.result c.remove-count.ensures,
+      keep_removed _ _ all keep (c.args.site - 1) c.args.site (omega arith) old new got own c.remove-count.result c.remove-count.ensures.does,
     )

@@ -12,7 +12,7 @@ returns-clause-lawful c = λ w agrees.
     let lo = there.first in
     let hi = there.last in
     let got = read_is c.args.self.now.sites.items (c.args.site - 1) c.index_mut-at.result.now (omega arith) c.index_mut-at.ensures.value in
-    tick_lawful _ _ w agrees (c.args.site - 1) c.args.site c.args.now (omega arith) hi c.index_mut-at.result.now c.tick.new.self got c.tick.result c.tick.ensures
+    tick_lawful _ _ w agrees (c.args.site - 1) c.args.site c.args.now (omega arith) hi c.index_mut-at.result.now c.tick.new.self got c.tick.result c.tick.ensures.does
 
 pub returns-clause-kept : goal.returns-clause-kept
 returns-clause-kept c = λ w agrees.
@@ -21,7 +21,7 @@ returns-clause-kept c = λ w agrees.
     let lo = there.first in
     let hi = there.last in
     let got = read_is c.args.self.now.sites.items (c.args.site - 1) c.index_mut-at.result.now (omega arith) c.index_mut-at.ensures.value in
-    tick_agrees _ _ w agrees (c.args.site - 1) c.args.site c.args.now (omega arith) hi c.index_mut-at.result.now c.tick.new.self got c.tick.result c.tick.ensures
+    tick_agrees _ _ w agrees (c.args.site - 1) c.args.site c.args.now (omega arith) hi c.index_mut-at.result.now c.tick.new.self got c.tick.result c.tick.ensures.does
 
 pub returns-clause-alone : goal.returns-clause-alone
 returns-clause-alone c =
@@ -30,7 +30,7 @@ returns-clause-alone c =
     let lo = there.first in
     let hi = there.last in
     let got = read_is c.args.self.now.sites.items (c.args.site - 1) c.index_mut-at.result.now (omega arith) c.index_mut-at.ensures.value in
-    does_alone c.args.self.now.sites.items c.args.site c.index_mut-at.result.now lo got _ _ refl c.tick.new.self c.tick.ensures
+    does_alone c.args.self.now.sites.items c.args.site c.index_mut-at.result.now lo got _ _ refl c.tick.new.self c.tick.ensures.does
 
 pub returns-clause-tables : goal.returns-clause-tables
 returns-clause-tables c = λ w all agrees keep.
@@ -39,4 +39,4 @@ returns-clause-tables c = λ w all agrees keep.
     let lo = there.first in
     let hi = there.last in
     let got = read_is c.args.self.now.sites.items (c.args.site - 1) c.index_mut-at.result.now (omega arith) c.index_mut-at.ensures.value in
-    (tt, keep_tick _ _ w agrees all keep (c.args.site - 1) c.args.site c.args.now (omega arith) hi c.index_mut-at.result.now c.tick.new.self got c.tick.result c.tick.ensures)
+    (tt, keep_tick _ _ w agrees all keep (c.args.site - 1) c.args.site c.args.now (omega arith) hi c.index_mut-at.result.now c.tick.new.self got c.tick.result c.tick.ensures.does)
