@@ -26,7 +26,8 @@ use Rattle.geo_site.specs.Machine.{IsCount}
 use Rattle.geo_world.specs.Schedule.{Known, Lawful, FilledIn, basis, flushed, reaps_on, sender, addressee}
 use Rattle.geo_site.specs.declared.event.Answer.{Answer}
 use Rattle.geo_site.specs.declared.event.Answer.TheVariants.{Replied, Evicted, Sent, SendRefused, Taken as Took, TakeRefused, Removed, Ticked, Reaped, ReapRefused, Filled as FilledAs, Retired, RetireRefused}
-use Rattle.geo_world.specs.Tables.{Tables, flushed_at, horizon_at, remove_at, OwesBy, CountsDropped, Tallies}
+use Rattle.geo_site.specs.Tables.{horizon_at, remove_at}
+use Rattle.geo_world.specs.Tables.{Tables, flushed_at, OwesBy, CountsDropped, Tallies}
 use Rattle.geo_audit.specs.Runs.{IsSaid, IsToldBy}
 use Rattle.geo_audit.specs.Misses.{IsOwnVictim, IsOwnRoom, NoneTells}
 

@@ -13,7 +13,8 @@ use Rattle.geo_site.specs.declared.event.Event.{Event}
 use Rattle.geo_site.specs.declared.event.Event.TheVariants.{Command, Evict, Send, Take, Remove, Tick, Reap, Fill, Retire}
 use Rattle.geo_world.specs.There.{is_in_time, EachThere}
 use Rattle.geo_world.specs.Agreement.{Agrees, StepDoes}
-use Rattle.geo_world.specs.Tables.{Tables, kept, kept_after, keeps, issue_all_at, Keep, Tabled}
+use Rattle.geo_site.specs.Tables.{issue_all_at}
+use Rattle.geo_world.specs.Tables.{Tables, kept, kept_after, keeps, Keep, Tabled}
 use Rattle.geo_world.specs.declared.world.World.{World}
 use Rattle.geo_audit.specs.declared.play.Play.{Play}
 use Rattle.geo_audit.specs.Runs.{IsRun, IsUndue, event_of, is_timely, lets_go, gone}

@@ -19,7 +19,8 @@ use Rattle.geo_site.specs.declared.event.Answer.TheVariants.{Replied, Evicted, S
 use Rattle.geo_history.specs.declared.step.Step.{Step}
 use Rattle.geo_world.specs.There.{is_there}
 use Rattle.geo_world.specs.Agreement.{Carries as TellsOf, Agrees, about}
-use Rattle.geo_world.specs.Tables.{Tables, Table, kept, kept_after, brought_at, brings_nothing, Keep, Tallies, EachTallies}
+use Rattle.geo_site.specs.Tables.{Table, brought_at, brings_nothing}
+use Rattle.geo_world.specs.Tables.{Tables, kept, kept_after, Keep, Tallies, EachTallies}
 use Rattle.geo_world.proofs.Running.{shows}
 use Rattle.geo_audit.specs.declared.play.Play.{Play}
 use Rattle.geo_audit.specs.Runs.{event_of, events_of, traces_of, turn_of, lets_go, gone, IsMade, Brings, TellsBeside, Fits, IsToldBy, IsSaid, IsPlainStep}

@@ -35,7 +35,8 @@ use Rattle.geo_history.specs.declared.step.Step.{Step}
 use Rattle.geo_world.specs.Setups.{are_setups, start}
 use Rattle.geo_world.specs.There.{is_in_time, EachThere}
 use Rattle.geo_world.specs.Agreement.{Carries as TellsOf, Agrees, ShowsVersions}
-use Rattle.geo_world.specs.Tables.{Tables, empty_tables, kept, brought_at, brought_in, Keep, EachTallies}
+use Rattle.geo_site.specs.Tables.{brought_at, brought_in}
+use Rattle.geo_world.specs.Tables.{Tables, empty_tables, kept, Keep, EachTallies}
 
 -- a turn: a site takes a step. A parcel that is taken has this number among those that were made, and this came of the event
 pub record Turn : Type 0 where

@@ -12,7 +12,8 @@ use Rattle.geo_site.specs.Machine.{SiteState, Delta, Same, act_held, without, vi
 use Rattle.geo_site.specs.Sites.{state_in, heard_in, waiting_in, counts_in, clock_in, delta_of, FlushDoes}
 use Rattle.geo_site.proofs.Stocking.{state_path, settled_held, act_held_is}
 use Rattle.geo_site.proofs.Victims.{AreQuiet, GoesFor, one_quiet, hit_held}
-use Rattle.geo_site.specs.Standings.{Who, who_in, Standing, standing_in, horizon_at, held_by, issue, issue_all, lets_go, waits, counts_as, flushed, takes, looked_at}
+use Rattle.geo_site.specs.Standings.{Who, who_in, Standing, standing_in, horizon_at, held_by, issue, issue_all, lets_go, waits, counts_as, flushed, takes, table_of}
+use Rattle.geo_site.specs.Tables.{looked_at}
 
 -- a state of the machine with what stands beside it
 abbrev pub standing_at : SiteState → Heard → Option ℕ → Counts → Standing
@@ -124,11 +125,11 @@ flush_again old mid new now one two =
 
 -- ---- what a parcel brings, and what is dropped
 pub take_stands : (who : Who) (parcel : Parcel) (old new : Site) → Same (machine.take who.number (sifted_delta (horizon_at who (standing_in old)) (delta_of parcel)) (state_in old)) (state_in new)
-    → heard_in new ≡ looked (heard (looked_at who (standing_in old)) parcel.from parcel.upto parcel.retired) who.number new.vector → waiting_in new ≡ waiting_in old → counts_in new ≡ counts_in old
+    → heard_in new ≡ looked (heard (looked_at who.number (table_of (standing_in old))) parcel.from parcel.upto parcel.retired) who.number new.vector → waiting_in new ≡ waiting_in old → counts_in new ≡ counts_in old
     → standing_in new ≡ takes who parcel (standing_in old)
 take_stands who parcel old new same rows waiting counts =
     let d = sifted_delta (horizon_at who (standing_in old)) (delta_of parcel) in
     let after = machine.take who.number d (state_in old) in
-    let told = looked (heard (looked_at who (standing_in old)) parcel.from parcel.upto parcel.retired) who.number after.vector in
-    stands_same after new told (waiting_in old) (counts_in old) same (rows ∙ ap (looked (heard (looked_at who (standing_in old)) parcel.from parcel.upto parcel.retired) who.number) same.vector) waiting counts
+    let told = looked (heard (looked_at who.number (table_of (standing_in old))) parcel.from parcel.upto parcel.retired) who.number after.vector in
+    stands_same after new told (waiting_in old) (counts_in old) same (rows ∙ ap (looked (heard (looked_at who.number (table_of (standing_in old))) parcel.from parcel.upto parcel.retired) who.number) same.vector) waiting counts
     ∙ (λ i. record { vector = after.vector; rows = told; floor = after.floor; map = after.map; held = λ q. settled_held after.map (state_in old).stock q i; waiting = waiting_in old; counts = counts_in old })

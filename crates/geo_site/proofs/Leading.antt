@@ -30,7 +30,8 @@ use Rattle.geo_site.proofs.Victims.{one_quiet, request_goes, victim_fits}
 use Rattle.geo_site.specs.declared.event.Event.TheVariants.{Command, Evict, Send, Take, Remove, Tick, Reap, Fill, Retire}
 use Rattle.geo_site.specs.declared.event.Answer.TheVariants.{Replied, Evicted, Sent, SendRefused, Taken as Took, TakeRefused, Removed, Ticked, Reaped, ReapRefused, Filled as FilledAs, Retired, RetireRefused}
 use Rattle.geo_stamp.specs.Acks.{retires as holds_retired, looked}
-use Rattle.geo_site.specs.Standings.{who_in, Standing, standing_in, looked_at, issue_all, lets_go, carries_out, evicts, admits}
+use Rattle.geo_site.specs.Standings.{who_in, Standing, standing_in, table_of, issue_all, lets_go, carries_out, evicts, admits}
+use Rattle.geo_site.specs.Tables.{looked_at}
 use Rattle.geo_site.specs.Steps.{Requested, Commanded, RefusesFor, IsSent, StepsTo}
 use Rattle.geo_site.proofs.Issuing.{standing_at, stands_same, quiet_stands, goes_stands, accessed_stands, beside, flush_stands, none_due, stuck_same, take_stands}
 
@@ -211,7 +212,7 @@ retire_leads old new other fresh does rests = (
   (
     does.0,
     does.1,
-    stands_same (state_in old) new (looked (holds_retired (looked_at (who_in old) (standing_in old)) other) old.number old.vector) (waiting_in old) (counts_in old) does.2 does.3 rests.1 rests.0,
+    stands_same (state_in old) new (looked (holds_retired (looked_at old.number (table_of (standing_in old))) other) old.number old.vector) (waiting_in old) (counts_in old) does.2 does.3 rests.1 rests.0,
   ),
 )
 

@@ -7,5 +7,6 @@ pub mod Noting
 pub mod Passing
 pub mod Repeats
 pub mod States
+pub mod Tables
 pub mod Standings
 pub mod Steps

@@ -2,11 +2,11 @@
 -- step of it, given whose bytes went.
 use Rattle.std.specs.Prelude.{◌≡◌, ℕ, ◌+◌, nat_le, List, [], ◌∷◌, Option, None, Some, option_map}
 use Rattle.geo_stamp.specs.Stamps.{Moment}
-use Rattle.geo_stamp.specs.Vectors.{zeros, greatest_of, raised, vector_joined}
-use Rattle.geo_stamp.specs.Acks.{Heard, none_heard, heard, retires as holds_retired, looked, horizon_of}
+use Rattle.geo_stamp.specs.Vectors.{zeros, greatest_of}
+use Rattle.geo_stamp.specs.Acks.{Heard, none_heard}
 use Rattle.geo_values.specs.Held.{digest_of, digest_at}
-use Rattle.geo_versions.specs.Maps.{has_register, listed_at, remaining}
-use Rattle.geo_records.specs.Operations.{Act, Record, record_joined, floor_joined, above_both, body_of, expiry_of, flush_of, version_in}
+use Rattle.geo_versions.specs.Maps.{has_register, listed_at}
+use Rattle.geo_records.specs.Operations.{Act, Record, version_in}
 use Rattle.geo_delta.specs.declared.parcel.Parcel.{Parcel}
 use Rattle.geo_grammar.specs.declared.request.Request.{Request}
 use Rattle.geo_site.specs.declared.setup.Setup.{Setup}
@@ -14,8 +14,10 @@ use Rattle.geo_site.specs.declared.setup.Limits.{Limits}
 use Rattle.geo_site.specs.declared.site.Site.{Site}
 use Rattle.geo_site.specs.declared.state.SiteState.{SiteState}
 use Rattle.geo_site.specs.Entries.{Held, Visible, Basis, Counts, none_counted, counted, evicted_on, entry_in, named_by, issued, waits_after, due_acts, waits_on, reap_acts}
-use Rattle.geo_site.specs.Machine.{act_held, held_with, without, next_operation, sifted_delta}
-use Rattle.geo_site.specs.Sites.{state_in, heard_in, waiting_in, counts_in, limits_of, delta_of}
+use Rattle.geo_site.specs.Machine.{act_held, held_with, without}
+use Rattle.geo_site.specs.Sites.{state_in, heard_in, waiting_in, counts_in, limits_of}
+use Rattle.geo_site.specs.Tables as tables
+use Rattle.geo_site.specs.Tables.{Table, issue_at, take_at, remove_at, retire_at, brought_in}
 
 -- which site it is, and what it goes by
 pub record Who : Type 0 where
@@ -74,42 +76,37 @@ pub record Describes (state : SiteState) (st : Standing) : Type 0 where
 abbrev pub clock_at : Standing → ℕ
 clock_at st = greatest_of st.vector
 
+-- what it keeps, but for values
+abbrev pub table_of : Standing → Table
+table_of st = record { vector = st.vector; heard = st.rows; floor = st.floor; kept = st.map }
+
 -- the time up to which every site that it does not hold for retired is known to know each operation that one of them knows
 abbrev pub horizon_at : Who → Standing → ℕ
-horizon_at who st = horizon_of st.rows who.number st.vector
-
--- what it heard, with the horizon that it answers kept
-abbrev pub looked_at : Who → Standing → Heard
-looked_at who st = looked st.rows who.number st.vector
+horizon_at who st = tables.horizon_at who.number (table_of st)
 
 -- what is visible at a moment
 abbrev pub visible_at : Standing → ℕ → Visible
 visible_at st now key = entry_in now (version_in (st.map key)) (st.held key)
 
--- it issues an operation
-abbrev pub floor_with : Standing → Option Moment → Option Moment
-floor_with st floor = floor_joined st.floor floor
-
-abbrev pub map_with : Standing → Option Moment → (List ℕ → Record) → List ℕ → Record
-map_with st floor map key = above_both (floor_with st floor) (record_joined (st.map key) (map key))
-
 -- of what is held, what the versions in a map name
 abbrev pub held_by : (List ℕ → Record) → Held → Held
 held_by map held key = named_by (version_in (map key)) (held key)
 
+-- it keeps this now, and of what it holds what the versions in it name
+abbrev pub keeps : Table → Held → Standing → Standing
+keeps t held st = record {
+  vector = t.vector;
+  rows = t.heard;
+  floor = t.floor;
+  map = t.kept;
+  held = held_by t.kept held;
+  waiting = st.waiting;
+  counts = st.counts;
+}
+
+-- it issues an operation
 abbrev pub issue : Who → Act → Standing → Standing
-issue who act st =
-    let op = next_operation (clock_at st) who.number act in
-    let map = map_with st (flush_of op) (λ key. (body_of key op, expiry_of key op)) in
-    record {
-      vector = raised st.vector who.number (clock_at st + 1);
-      rows = st.rows;
-      floor = floor_with st (flush_of op);
-      map = map;
-      held = held_by map (act_held act st.held);
-      waiting = st.waiting;
-      counts = st.counts;
-    }
+issue who act st = keeps (issue_at who.number act (table_of st)) (act_held act st.held) st
 
 -- one after the other
 abbrev pub issue_all : Who → List Act → Standing → Standing
@@ -161,24 +158,11 @@ basis_at who st now records items = record {
 
 -- it joins what a parcel brings, but for what every site was known to know before, and keeps its horizon before and after
 abbrev pub takes : Who → Parcel → Standing → Standing
-takes who parcel st =
-    let delta = sifted_delta (horizon_at who st) (delta_of parcel) in
-    let vector = vector_joined st.vector delta.upto in
-    let map = map_with st delta.floor delta.map in
-    let after = raised vector who.number (greatest_of vector) in
-    record {
-      vector = after;
-      rows = looked (heard (looked_at who st) parcel.from parcel.upto parcel.retired) who.number after;
-      floor = floor_with st delta.floor;
-      map = map;
-      held = held_by map st.held;
-      waiting = st.waiting;
-      counts = st.counts;
-    }
+takes who parcel st = keeps (take_at who.number (brought_in parcel) (table_of st)) st.held st
 
 -- it drops the records without a version of which every site knows all
 abbrev pub removes : Who → Standing → Standing
-removes who st = record st { map = λ key. remaining (horizon_at who st) (st.map key) }
+removes who st = record st { map = (remove_at who.number (table_of st)).kept }
 
 -- it holds the bytes of a key no longer, and counts that where it held any
 abbrev pub evicts : List ℕ → Standing → Standing
@@ -190,7 +174,7 @@ admits key bytes st = record st { held = held_with key bytes st.held }
 
 -- it holds a site for retired, and keeps its horizon before and after
 abbrev pub retires : Who → ℕ → Standing → Standing
-retires who other st = record st { rows = looked (holds_retired (looked_at who st) other) who.number st.vector }
+retires who other st = record st { rows = (retire_at who.number other (table_of st)).heard }
 
 -- what it issues to reap a key
 abbrev pub reaped_at : Who → Standing → ℕ → List ℕ → List Act

@@ -24,7 +24,8 @@ use Rattle.geo_site.specs.Sites.{state_in, heard_in, looked_in, horizon_in, delt
 use Rattle.geo_world.specs.Schedule.{Known, issues_on, reaps_on, flushed}
 use Rattle.geo_stamp.specs.Acks.{Heard, heard, looked, retires, none_heard}
 use Rattle.geo_world.specs.Agreement.{Agrees}
-use Rattle.geo_world.specs.Tables.{Table, Tables, brings_nothing, empty_tables, issue_all_at, take_at, remove_at, retire_at, brought_at, horizon_at, keeps, issued_at, flushed_at, kept_after, table_in, brought_in, Keep, OwesOver, OwesBy, CountsDropped}
+use Rattle.geo_site.specs.Tables.{Table, brings_nothing, issue_all_at, take_at, remove_at, retire_at, brought_at, horizon_at, table_in, brought_in}
+use Rattle.geo_world.specs.Tables.{Tables, empty_tables, keeps, issued_at, flushed_at, kept_after, Keep, OwesOver, OwesBy, CountsDropped}
 use Rattle.geo_world.proofs.Worlds.{some_none, get_appended}
 use Rattle.geo_world.proofs.Opening.{Silent}
 use Rattle.geo_world.proofs.Changing.{get_written, put_here, put_there}

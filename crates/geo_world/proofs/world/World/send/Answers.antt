@@ -1,7 +1,8 @@
 use Rattle.std.proofs.Common.{◌≡◌, ◌+◌, ◌-◌, Bool, List, [], ◌∷◌, ◌++◌, length, arith, refl, sym, ap, ◌∙◌, subst}
 use Rattle.geo_delta.specs.declared.parcel.Parcel.{Parcel}
 use Rattle.geo_world.specs.Agreement.{Agrees, about}
-use Rattle.geo_world.specs.Tables.{brought_at, Keep}
+use Rattle.geo_site.specs.Tables.{brought_at}
+use Rattle.geo_world.specs.Tables.{Keep}
 use Rattle.geo_world.proofs.Worlds.{there_is, read_is}
 use Rattle.geo_world.proofs.Alone.{stays_alone}
 use Rattle.geo_stamp.specs.Retired.{is_in}
