@@ -13,7 +13,7 @@ FIGURES = [
     ("docs/DECISIONS.md", "chunks of #,", "geo_chunks/src/chunks.rt", "CHUNK"),
     ("docs/DECISIONS.md", "one read of # at most", "geo_crowd/src/roster.rt", "PIECE"),
     ("docs/DECISIONS.md", "owed more than # no more", "geo_session/src/session.rt", "MOST_RENDERED"),
-    ("docs/DECISIONS.md", "from 1 to # seconds", "geo_site/src/event.rt", "LAST_MOMENT"),
+    ("docs/DECISIONS.md", "from 1 to # seconds", "geo_site/src/setup.rt", "LAST_MOMENT"),
     ("docs/DECISIONS.md", "key of up to # bytes", "geo_records/src/key.rt", "INLINE_BYTES"),
     ("docs/DECISIONS.md", "value below # bytes is copied", "geo_site/src/repeats.rt", "LONG"),
     ("docs/DECISIONS.md", "data of # or more", "geo_grammar/src/value.rt", "LONG"),
@@ -45,7 +45,7 @@ FIGURES = [
     ("docs/replication.md", r"or above # \(4, Field\)", "geo_frame/src/limits.rt", "LONGEST_FRAME"),
     ("docs/replication.md", r"frame has # \+ 16n bytes", "geo_frame/src/limits.rt", "BESIDE_RECORDS"),
     ("docs/replication.md", "an ask's has # and the key's", "geo_frame/src/limits.rt", "BESIDE_KEY"),
-    ("docs/script.md", "1 to # seconds. Before", "geo_site/src/event.rt", "LAST_MOMENT"),
+    ("docs/script.md", "1 to # seconds. Before", "geo_site/src/setup.rt", "LAST_MOMENT"),
     ("docs/script.md", "within # reads", "geo_cluster/src/script/run.rt", "MOST_READS"),
     ("docs/storage.md", "up to # in each class", "geo_station/src/maintain.rt", "MOST_MOVES"),
 ]

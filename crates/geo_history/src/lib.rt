@@ -2,7 +2,7 @@
 //!
 //! A [`Kept`] is a site and the steps since its history opened. Its type says that carrying out the steps one after the other
 //! leads from the opening to the site, and that the steps of each seat are numbered from 1. A seat is whoever calls: a
-//! connection, or a thread. `specs/` has what a site stands at, what each step makes of that, and replays. It stands on the site,
+//! connection, or a thread. `specs/` has replays of steps, and what each call leaves of both. It stands on the site,
 //! and knows nothing of threads, locks or other sites.
 #![tactic(auto)]
 

@@ -1,9 +1,9 @@
 //! One site: plain memcached over what it holds, and what it tells the other sites.
 //!
 //! A [`Site`] keeps versions of all that was written anywhere, the bytes of some of its own writes, and a vector of clocks. Each
-//! call is one atomic step: `act` answers a client, `send` makes a parcel, `take` joins one. `specs/` has the machine whose
-//! steps these are, and what sites know and hold along a schedule. It stands on versions, parcels and requests, and knows
-//! nothing of bytes on a wire, threads or histories.
+//! call is one atomic step: `act` answers a client, `send` makes a parcel, `take` joins one. [`Event`] and [`Answer`] name all
+//! that can happen at a site, and `specs/Steps.antt` says of each what it answers and leaves. It stands on versions, parcels and
+//! requests, and knows nothing of bytes on a wire, threads, histories or other sites.
 #![tactic(auto)]
 
 pub mod act;
