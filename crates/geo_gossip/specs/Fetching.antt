@@ -1,7 +1,8 @@
 -- A fetch: an ask for each of some missing bytes, at each other site, over the link that leads there.
-use Rattle.std.specs.Prelude.{◌≡◌, ◌≢◌, ◌⊎◌, ℕ, ◌+◌, ◌≤◌, Bool, true, false, cond, List, [], ◌∷◌, ◌++◌, length, Option, None, Some, Ok}
+use Rattle.std.specs.Prelude.{◌≡◌, ◌≢◌, ◌⊎◌, ℕ, ◌+◌, ◌≤◌, Bool, true, false, cond, List, [], ◌∷◌, ◌++◌, length, Option, None, Some, Ok, Result, IfOk, IfErr, Vec}
 use Rattle.std.specs.Option.{IfSome}
 use Rattle.std.specs.declared.alloc.AllocError.{AllocError}
+use Rattle.std.specs.declared.alloc.Global.{Global}
 use Rattle.sha2.specs.Sha256.{sha256}
 use Rattle.geo_frame.specs.declared.message.Message.{Message}
 use Rattle.geo_frame.specs.Payloads.{Payload, Wanted, PayloadInRange, payload_of, wanted}
@@ -15,6 +16,7 @@ use Rattle.geo_link.specs.declared.fault.LinkError.TheVariants as link
 use Rattle.geo_site.specs.Fills.{is_filled}
 use Rattle.geo_site.specs.declared.fill.Filled.{Filled}
 use Rattle.geo_station.specs.Calls.{FillsBy}
+use Rattle.geo_station.specs.Receipts.{LacksFirst}
 use Rattle.geo_station.specs.Seats.{Seated}
 use Rattle.geo_station.specs.declared.missing.Missing.{Missing}
 use Rattle.geo_station.specs.declared.refusal.CallError.{CallError}
@@ -165,11 +167,22 @@ pub record EndsEarly {K : Type 0} (by : Ways K) (sought : List Missing) (olds ne
   pub last : AsksPeer by false between left old new mid after more
   pub counted : count ≡ first + more
 
+-- each peer is asked for those of these that the ones before have not brought
+abbrev pub AsksFor : {K : Type 0} → Ways K → List Missing → List (Peer K) → List (Peer K) → Seated → Seated → ℕ → Type 0
+AsksFor by sought olds news seat after count =
+    (left : List Missing) × (AsksPeers by sought left olds news seat after count ⊎ EndsEarly by sought olds news seat after count)
+
+-- these are the least that a site lacks at a moment whose history leads to it, 64 at most; none where there was no memory to list them
+pub record AreSought (now : ℕ) (sought : List Missing) : Type 0 where
+  pub listed : Result (Vec Missing Global) AllocError
+  pub lacking : LacksFirst now 64 listed
+  pub these : IfOk listed (λ lacked. sought ≡ lacked.items)
+  pub none : IfErr listed (λ refused. sought ≡ [])
+
 -- at most 64 missing keys are sought, and each peer is asked for those that the ones before have not brought; or there was no memory
 -- to seek any
-pub record Fetches {K : Type 0} (by : Ways K) (olds news : List (Peer K)) (seat after : Seated) (count : ℕ) : Type 0 where
+pub record Fetches {K : Type 0} (by : Ways K) (now : ℕ) (olds news : List (Peer K)) (seat after : Seated) (count : ℕ) : Type 0 where
   pub sought : List Missing
-  pub left : List Missing
+  pub lacked : AreSought now sought
   pub few : length sought ≤ 64
-  pub asks : ((news ≡ olds) × (after ≡ seat) × (count ≡ 0))
-      ⊎ (AsksPeers by sought left olds news seat after count ⊎ EndsEarly by sought olds news seat after count)
+  pub asks : ((news ≡ olds) × (after ≡ seat) × (count ≡ 0)) ⊎ AsksFor by sought olds news seat after count

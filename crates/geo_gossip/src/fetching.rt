@@ -3,7 +3,7 @@ ghost use Rattle.std.specs.Prelude.{◌≡◌, ◌≢◌, ◌+◌, ◌≤◌, �
 ghost use Rattle.sha2.specs.Sha256.{sha256};
 ghost use Rattle.geo_frame.specs.Payloads.{payload_of, wanted};
 ghost use Rattle.geo_gossip.specs.Receiving.{turned};
-ghost use Rattle.geo_gossip.specs.Fetching.{ways, ask_of, done_by, OffersThese, Exchanges, TellsThis, IsSilent, AsksPeer, Fetches};
+ghost use Rattle.geo_gossip.specs.Fetching.{ways, ask_of, done_by, OffersThese, Exchanges, TellsThis, IsSilent, AsksPeer, AsksFor, Fetches};
 ghost use Rattle.geo_link.specs.declared.fault.LinkError.TheVariants as link_error;
 
 use crate::rounds::Peer;
@@ -219,6 +219,32 @@ fn ask_peer<R: Wait, L: Ledger, K: Link>(
     (done, true)
 }
 
+/// Asks each peer, in their order, for all of these that the ones before have not brought, and tells how many of the fills were done.
+fn ask_all<R: Wait, L: Ledger, K: Link>(
+    rt: &R,
+    alloc: Global,
+    station: &Station<L>,
+    seat: &mut Seat<L>,
+    peers: &mut [Peer<K>],
+    mut sought: Vec<Missing>,
+) -> usize
+    requires few { length sought.items ≤ 64 }
+    ensures asks { AsksFor (ways K.puts K.gets K.put_fails K.get_fails K.closes) sought.items peers.old peers.new seat.old seat.new result }
+    ensures few { result ≤ 64 }
+    ensures steps { seat.old.steps + result ≤ seat.new.steps }
+    ensures stays { seat.new ≡ record seat.old { steps = seat.new.steps } }
+{
+    let mut done = 0;
+    for at in 0..peers.len() {
+        let (more, goes_on) = ask_peer(rt, alloc, station, seat, &mut peers[at], &mut sought);
+        done += more;
+        if !goes_on {
+            return done;
+        }
+    }
+    done
+}
+
 /// Asks other sites for bytes that the site lacks: for those of the 64 keys that [`Station::first_missing`] gives at a moment
 /// in seconds. Each peer, in their order, is asked for all that the ones before have not brought, by one ask at a time and the offer that
 /// answers it, and the station fills with what is offered. It tells how many of the fills were done.
@@ -235,21 +261,13 @@ pub fn fetch<R: Wait, L: Ledger, K: Link>(
     now: u64,
     peers: &mut [Peer<K>],
 ) -> usize
-    ensures fetches { Fetches (ways K.puts K.gets K.put_fails K.get_fails K.closes) peers.old peers.new seat.old seat.new result }
+    ensures fetches { Fetches (ways K.puts K.gets K.put_fails K.get_fails K.closes) now peers.old peers.new seat.old seat.new result }
     ensures few { result ≤ 64 }
     ensures steps { seat.old.steps + result ≤ seat.new.steps }
     ensures stays { seat.new ≡ record seat.old { steps = seat.new.steps } }
 {
-    let Ok(mut sought) = station.first_missing(rt, alloc, now, MOST_ASKED) else {
-        return 0;
-    };
-    let mut done = 0;
-    for at in 0..peers.len() {
-        let (more, goes_on) = ask_peer(rt, alloc, station, seat, &mut peers[at], &mut sought);
-        done += more;
-        if !goes_on {
-            return done;
-        }
+    match station.first_missing(rt, alloc, now, MOST_ASKED) {
+        Ok(sought) => ask_all(rt, alloc, station, seat, peers, sought),
+        Err(_) => 0,
     }
-    done
 }
