@@ -10,8 +10,9 @@ ghost use Rattle.geo_records.specs.Keys.{IsShortKey, same_key};
 ghost use Rattle.geo_versions.specs.Maps.{Rising, is_unknown, listed_at, rec_means, since};
 ghost use Rattle.geo_records.specs.Operations.{Record, Register};
 ghost use Rattle.geo_delta.specs.Changes.{Noted, Traced, KnowsBut, emptied, first_ring, has_change, known_after, noted, nothing_pending};
+ghost use Rattle.geo_delta.specs.Heads.{IsBehind, keys_under};
 
-use crate::headed::Headed;
+use crate::headed::{Headed, shared};
 use crate::lookup::Lookup;
 use circular_buffer::HeapCircularBuffer;
 use geo_lattice::{Exact, Lattice, Lww, Pair};
@@ -22,6 +23,15 @@ use std::marker::Model;
 
 /// The most changes that are kept.
 pub const MOST_CHANGES: usize = 4096;
+
+/// So few are soon sorted, whatever their keys begin with.
+const FEW_CHANGES: usize = 32;
+
+/// Where keys share fewer bytes, their first sixteen tell most of them apart.
+const LEAST_SHARED: usize = 14;
+
+/// A prime above the most changes, so that steps of it come to each kind of changes that follow one another in turn.
+const STRIDE: usize = 2_654_435_761;
 
 /// The newest changes of a site, its own or taken in a parcel: of each the key, and what the site knew after it. The oldest of
 /// more than 4,096 falls out; [`Buffer::reach`] is what was known after it. What a vector lacks that covers the reach is found
@@ -149,15 +159,47 @@ impl Buffer {
         Some(0)
     }
 
+    fn bytes_at(&self, place: usize) -> &[u8] {
+        match self.ring.get(place) {
+            Some(change) => change.0.bytes(),
+            None => &[],
+        }
+    }
+
+    /// With which bytes the keys of the changes from this one on begin, as far as a few of them tell; none where that are too few to
+    /// leave out, or a whole key. Keys that begin otherwise take more time, and are sorted as well.
+    fn begin_from(&self, first: usize) -> &[u8] {
+        let count = self.ring.len().saturating_sub(first);
+        if count < FEW_CHANGES {
+            return &[];
+        }
+        let key = self.bytes_at(first);
+        let mut begin = key;
+        for sample in 1..8 + count / 128 {
+            let place = first.saturating_add(sample.wrapping_mul(STRIDE) % count);
+            begin = &begin[..shared(begin, self.bytes_at(place))];
+            if begin.len() < LEAST_SHARED {
+                return &[];
+            }
+        }
+        // One key that changes over and over leaves nothing to go by behind it.
+        if begin.len() == key.len() {
+            return &[];
+        }
+        begin
+    }
+
     /// The keys of the changes from this one on, by reference: a key may have changed often, and a copy of a long one takes memory.
     fn keys_from<'a>(&'a self, alloc: Global, first: usize) -> Result<Vec<Headed<'a>>, AllocError>
         requires { first ≤ length self.now.changes }
-        ensures { IfOk result (λ keys. keys.items ≡ map (λ (c : Noted). c.0) (drop first self.now.changes)) }
+        ensures keys { IfOk result (λ keys. keys_under keys.items ≡ map (λ (c : Noted). c.0) (drop first self.now.changes)) }
+        ensures heads { IfOk result (λ keys. (begin : List ℕ) × All (IsBehind begin) keys.items) }
     {
         let mut keys = Vec::with_capacity(alloc, self.ring.len() - first)?;
+        let begin = self.begin_from(first);
         for i in first..self.ring.len() {
             if let Some(change) = self.ring.get(i) {
-                keys.push(Headed::new(&change.0))?;
+                keys.push(Headed::new(begin, &change.0))?;
             }
         }
         Ok(keys)
@@ -166,8 +208,9 @@ impl Buffer {
 
 /// The keys by their order, each once.
 fn sorted(mut keys: Vec<Headed>) -> Vec<Headed>
-    ensures rising { IsStrictlySortedBy (slice_cmp nat_cmp) result.items }
-    ensures same { (q : List ℕ) → list_any (same_key q) result.items ≡ list_any (same_key q) keys.entry.items }
+    requires { (begin : List ℕ) × All (IsBehind begin) keys.items }
+    ensures rising { IsStrictlySortedBy (slice_cmp nat_cmp) (keys_under result.items) }
+    ensures same { (q : List ℕ) → list_any (same_key q) (keys_under result.items) ≡ list_any (same_key q) (keys_under keys.entry.items) }
 {
     keys.sort_unstable();
     keys.dedup();
@@ -204,10 +247,11 @@ fn looked_up<T: Lookup>(
     base: &Vector,
     keys: Vec<Headed>,
 ) -> Result<Vec<(Key, Rec)>, AllocError>
-    requires { IsStrictlySortedBy (slice_cmp nat_cmp) keys.items }
+    requires { IsStrictlySortedBy (slice_cmp nat_cmp) (keys_under keys.items) }
     ensures rising { IfOk result (λ all. Rising all.items) }
     ensures records { IfOk result (λ all. (q : List ℕ)
-        → listed_at all.items q ≡ cond {A = Record} (list_any (same_key q) keys.entry.items) (since base.now (T.record_of versions.now q))
+        → listed_at all.items q
+        ≡ cond {A = Record} (list_any (same_key q) (keys_under keys.entry.items)) (since base.now (T.record_of versions.now q))
         (None, None)) }
     ensures filled { IfOk result (λ all. All (λ e. rec_means e.1 ≡ (None, None) → ⊥) all.items) }
 {

@@ -2,8 +2,5 @@ use Rattle.std.proofs.Common.{◌∙◌, ap}
 use Rattle.std.specs.Int.{w128, from_be_bytes}
 use Rattle.geo_delta.proofs.headed.head.Goals as goal
 
-pub returns-clause-head : goal.returns-clause-head
-returns-clause-head c = c.from_be_bytes.ensures ∙ ap (from_be_bytes w128) c.first_bytes.ensures
-
-pub returns-clause-bytes : goal.returns-clause-bytes
-returns-clause-bytes c = λ k. (c.type_inv.bytes k).fits
+pub returns : goal.returns
+returns c = c.from_be_bytes.ensures ∙ ap (from_be_bytes w128) c.first_bytes.ensures
