@@ -13,11 +13,11 @@ use geo_audit::{Verdict, audit};
 use geo_delta::Parcel;
 use geo_grammar::{Request, Verb};
 use geo_history::History;
+use geo_station::{Room, Unopened};
 use std::alloc::Global;
 use std::hash::RandomState;
 use std::marker::Brand;
 use std::sync::Wait;
-use std::sync::ledger::{Blank, Ledger};
 
 /// How many keys there are.
 const KEYS: u64 = 2_000;
@@ -33,7 +33,7 @@ const ERA: u64 = 5_000;
 
 /// Three sites, and the parcels that are on the way.
 #[derive(Drop)]
-struct Three<A: Ledger, B: Ledger, C: Ledger> {
+struct Three<A: Room, B: Room, C: Room> {
     one: Place<A>,
     two: Place<B>,
     three: Place<C>,
@@ -54,7 +54,7 @@ fn asked(alloc: Global, tables: &Tables, random: &mut Random) -> Result<Request>
     }
 }
 
-impl<A: Ledger, B: Ledger, C: Ledger> Three<A, B, C> {
+impl<A: Room, B: Room, C: Room> Three<A, B, C> {
     fn act<R: Wait>(&mut self, rt: &R, at: u64, request: Request) -> Result<()> {
         match at {
             0 => self.one.act(rt, request),
@@ -214,20 +214,20 @@ struct Measure {
     era: u64,
 }
 
-fn with_two<R: Wait, A: Ledger, B: Ledger, C: Ledger>(
+fn with_two<R: Wait, A: Room, B: Room, C: Room>(
     rt: &R,
     alloc: Global,
     places: (Place<A>, Place<B>),
-    blank: Blank,
-    third: Fresh,
+    unopened: Unopened,
     tables: &Tables,
     measure: Measure,
 ) -> Result<u64>
-    requires name { blank.name ≡ C.name }
-    requires parts { blank.parts ≡ C.parts }
-    requires eight { blank.parts ≡ 8 }
+    requires name { unopened.name ≡ C.name }
+    requires parts { unopened.parts ≡ C.parts }
+    requires table { unopened.table ≡ C.table }
+    requires eight { unopened.parts ≡ 8 }
 {
-    let three: Place<C> = Place::opened(rt, alloc, blank, third, 8)?;
+    let three: Place<C> = Place::opened(rt, alloc, unopened, 8)?;
     let (one, two) = places;
     let mut all = Three {
         one,
@@ -241,41 +241,43 @@ fn with_two<R: Wait, A: Ledger, B: Ledger, C: Ledger>(
     audited(alloc, histories.as_slice(), sum)
 }
 
-fn with_one<R: Wait, A: Ledger, B: Ledger>(
+fn with_one<R: Wait, A: Room, B: Room>(
     rt: &R,
     alloc: Global,
     one: Place<A>,
-    blank: Blank,
+    unopened: Unopened,
+    third: Fresh,
+    tables: &Tables,
+    measure: Measure,
+) -> Result<u64>
+    requires name { unopened.name ≡ B.name }
+    requires parts { unopened.parts ≡ B.parts }
+    requires table { unopened.table ≡ B.table }
+    requires eight { unopened.parts ≡ 8 }
+{
+    let two: Place<B> = Place::opened(rt, alloc, unopened, 8)?;
+    let places = (one, two);
+    let unopened = third.unopened(alloc, 8)?;
+    with_two::<R, A, B, Brand>(rt, alloc, places, unopened, tables, measure)
+}
+
+fn with_none<R: Wait, A: Room>(
+    rt: &R,
+    alloc: Global,
+    unopened: Unopened,
     rest: (Fresh, Fresh),
     tables: &Tables,
     measure: Measure,
 ) -> Result<u64>
-    requires name { blank.name ≡ B.name }
-    requires parts { blank.parts ≡ B.parts }
-    requires eight { blank.parts ≡ 8 }
+    requires name { unopened.name ≡ A.name }
+    requires parts { unopened.parts ≡ A.parts }
+    requires table { unopened.table ≡ A.table }
+    requires eight { unopened.parts ≡ 8 }
 {
     let (second, third) = rest;
-    let two: Place<B> = Place::opened(rt, alloc, blank, second, 8)?;
-    let places = (one, two);
-    with_two::<R, A, B, Brand>(rt, alloc, places, Blank::new(8), third, tables, measure)
-}
-
-fn with_none<R: Wait, A: Ledger>(
-    rt: &R,
-    alloc: Global,
-    blank: Blank,
-    fresh: (Fresh, Fresh, Fresh),
-    tables: &Tables,
-    measure: Measure,
-) -> Result<u64>
-    requires name { blank.name ≡ A.name }
-    requires parts { blank.parts ≡ A.parts }
-    requires eight { blank.parts ≡ 8 }
-{
-    let (first, second, third) = fresh;
-    let one: Place<A> = Place::opened(rt, alloc, blank, first, 8)?;
-    let rest = (second, third);
-    with_one::<R, A, Brand>(rt, alloc, one, Blank::new(8), rest, tables, measure)
+    let one: Place<A> = Place::opened(rt, alloc, unopened, 8)?;
+    let unopened = second.unopened(alloc, 8)?;
+    with_one::<R, A, Brand>(rt, alloc, one, unopened, third, tables, measure)
 }
 
 /// The sum of what came of it at three sites.
@@ -294,8 +296,8 @@ fn run_at<R: Wait>(
     let first = new_site(alloc, hasher, size, 1, 3)?;
     let second = new_site(alloc, hasher, size, 2, 3)?;
     let third = new_site(alloc, hasher, size, 3, 3)?;
-    let all = (first, second, third);
-    with_none::<R, Brand>(rt, alloc, Blank::new(8), all, tables, measure)
+    let unopened = first.unopened(alloc, 8)?;
+    with_none::<R, Brand>(rt, alloc, unopened, (second, third), tables, measure)
 }
 
 /// The sum of all that came of it, at three sites, and at three whose histories begin anew.

@@ -10,12 +10,12 @@ use crate::lines::{
 use crate::random::Random;
 use crate::tables::{LONGEST, Length, Tables};
 use anyhow::Result;
+use geo_station::{Room, Unopened};
 use std::alloc::{AllocError, Global};
 use std::hash::RandomState;
 use std::marker::Brand;
 use std::rt::Clock;
 use std::sync::Wait;
-use std::sync::ledger::{Blank, Ledger};
 
 /// How many connections there are.
 const CONNECTIONS: u64 = 50;
@@ -270,17 +270,17 @@ fn visitors<'a>(
     Ok(all)
 }
 
-fn run_named<R: Wait + Clock, L: Ledger>(
+fn run_named<R: Wait + Clock, L: Room>(
     rt: &R,
     alloc: Global,
-    blank: Blank,
-    fresh: Fresh,
+    unopened: Unopened,
     seed: u64,
     scale: u64,
 ) -> Result<u64>
-    requires name { blank.name ≡ L.name }
-    requires parts { blank.parts ≡ L.parts }
-    requires four { blank.parts ≡ 4 }
+    requires name { unopened.name ≡ L.name }
+    requires parts { unopened.parts ≡ L.parts }
+    requires table { unopened.table ≡ L.table }
+    requires four { unopened.parts ≡ 4 }
 {
     let mut random = Random::new(seed);
     let (fills, turns) = if scale == 0 {
@@ -294,7 +294,7 @@ fn run_named<R: Wait + Clock, L: Ledger>(
         CONNECTIONS.wrapping_mul(fills),
         Length::Varied,
     )?;
-    let mut hall: Hall<L> = opened(rt, alloc, blank, fresh)?;
+    let mut hall: Hall<L> = opened(rt, alloc, unopened)?;
     let clients = visitors(alloc, &tables, &mut random, fills, turns)?;
     hall.serve(rt, alloc, NOON, clients, EVERY)?;
     hall.ended(rt, alloc)
@@ -314,6 +314,6 @@ pub fn run<R: Wait + Clock>(
         max_records: 1_000_000,
         reap_after: 60,
     };
-    let fresh = lone_site(alloc, hasher, size, logged)?;
-    run_named::<R, Brand>(rt, alloc, Blank::new(4), fresh, seed, scale)
+    let unopened = lone_site(alloc, hasher, size, logged)?.unopened(alloc, 4)?;
+    run_named::<R, Brand>(rt, alloc, unopened, seed, scale)
 }

@@ -7,12 +7,12 @@ use crate::lines::{Store, push_end, push_of_key, push_store, push_with_figure, p
 use crate::random::Random;
 use crate::tables::{Length, Tables};
 use anyhow::Result;
+use geo_station::{Room, Unopened};
 use std::alloc::{AllocError, Global};
 use std::hash::RandomState;
 use std::marker::Brand;
 use std::rt::Clock;
 use std::sync::Wait;
-use std::sync::ledger::{Blank, Ledger};
 
 /// How many connections there are.
 const CONNECTIONS: u64 = 10;
@@ -195,17 +195,17 @@ fn fillers<'a>(
     Ok(all)
 }
 
-fn run_named<R: Wait + Clock, L: Ledger>(
+fn run_named<R: Wait + Clock, L: Room>(
     rt: &R,
     alloc: Global,
-    blank: Blank,
-    fresh: Fresh,
+    unopened: Unopened,
     seed: u64,
     scale: u64,
 ) -> Result<u64>
-    requires name { blank.name ≡ L.name }
-    requires parts { blank.parts ≡ L.parts }
-    requires four { blank.parts ≡ 4 }
+    requires name { unopened.name ≡ L.name }
+    requires parts { unopened.parts ≡ L.parts }
+    requires table { unopened.table ≡ L.table }
+    requires four { unopened.parts ≡ 4 }
 {
     let mut random = Random::new(seed);
     let (first, seconds) = if scale == 0 {
@@ -215,7 +215,7 @@ fn run_named<R: Wait + Clock, L: Ledger>(
     };
     let keys = CONNECTIONS.wrapping_mul(first);
     let tables = Tables::new(alloc, &mut random, keys, Length::Nine)?;
-    let mut hall: Hall<L> = opened(rt, alloc, blank, fresh)?;
+    let mut hall: Hall<L> = opened(rt, alloc, unopened)?;
     let clients = fillers(alloc, &tables, &mut random)?;
     hall.serve(rt, alloc, NOON, clients, 0)?;
     for second in 1..seconds {
@@ -242,6 +242,6 @@ pub fn run<R: Wait + Clock>(
         max_records: 100_000,
         reap_after: 2,
     };
-    let fresh = new_site(alloc, hasher, size, 1, 1)?;
-    run_named::<R, Brand>(rt, alloc, Blank::new(4), fresh, seed, scale)
+    let unopened = new_site(alloc, hasher, size, 1, 1)?.unopened(alloc, 4)?;
+    run_named::<R, Brand>(rt, alloc, unopened, seed, scale)
 }

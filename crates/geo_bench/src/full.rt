@@ -7,12 +7,12 @@ use crate::lines::{push_of_key, push_store, set};
 use crate::random::Random;
 use crate::tables::{Length, Tables};
 use anyhow::Result;
+use geo_station::{Room, Unopened};
 use std::alloc::{AllocError, Global};
 use std::hash::RandomState;
 use std::marker::Brand;
 use std::rt::Clock;
 use std::sync::Wait;
-use std::sync::ledger::{Blank, Ledger};
 
 /// How many connections there are.
 const CONNECTIONS: u64 = 20;
@@ -147,20 +147,20 @@ fn readers<'a>(
 }
 
 /// What came of it at one site.
-fn run_named<R: Wait + Clock, L: Ledger>(
+fn run_named<R: Wait + Clock, L: Room>(
     rt: &R,
     alloc: Global,
-    blank: Blank,
-    fresh: Fresh,
+    unopened: Unopened,
     tables: &Tables,
     random: &mut Random,
     turns: u64,
 ) -> Result<u64>
-    requires name { blank.name ≡ L.name }
-    requires parts { blank.parts ≡ L.parts }
-    requires four { blank.parts ≡ 4 }
+    requires name { unopened.name ≡ L.name }
+    requires parts { unopened.parts ≡ L.parts }
+    requires table { unopened.table ≡ L.table }
+    requires four { unopened.parts ≡ 4 }
 {
-    let mut hall: Hall<L> = opened(rt, alloc, blank, fresh)?;
+    let mut hall: Hall<L> = opened(rt, alloc, unopened)?;
     let clients = readers(alloc, tables, random, turns)?;
     hall.serve(rt, alloc, NOON, clients, EVERY)?;
     hall.ended(rt, alloc)
@@ -181,8 +181,8 @@ fn run_at<R: Wait + Clock>(
         max_records: 1_000_000,
         reap_after: 60,
     };
-    let fresh = new_site(alloc, hasher, size, 1, 1)?;
-    run_named::<R, Brand>(rt, alloc, Blank::new(4), fresh, tables, random, turns)
+    let unopened = new_site(alloc, hasher, size, 1, 1)?.unopened(alloc, 4)?;
+    run_named::<R, Brand>(rt, alloc, unopened, tables, random, turns)
 }
 
 /// The sum of all that came of it at two sites, of which one has more pages.

@@ -1,7 +1,6 @@
 //! A station with its clients.
-ghost use Rattle.std.specs.Prelude.{◌≡◌, ◌≤◌, ◌^◌, ℕ, [], IfOk};
-ghost use Rattle.geo_history.specs.Keeping.{opened_with};
-ghost use Rattle.geo_history.specs.Stories.{story_in};
+ghost use Rattle.std.specs.Prelude.{◌≡◌, IfOk};
+ghost use Rattle.geo_history.specs.Stories.{IsNew};
 
 use crate::client::{Client, Talk};
 use crate::sum::Sum;
@@ -12,13 +11,12 @@ use geo_history::Kept;
 use geo_session::clock::Clock as Moments;
 use geo_session::{Counted, OpenGate};
 use geo_site::{LAST_MOMENT, Setup};
-use geo_station::{Maintained, Seat, Station};
+use geo_station::{Maintained, Room, Seat, Station, Unopened};
 use geo_tally::{Tally, TallySeat};
 use std::alloc::Global;
 use std::hash::RandomState;
 use std::rt::Clock;
 use std::sync::Wait;
-use std::sync::ledger::{Blank, Ledger};
 
 /// A site's history begins anew after so many steps.
 const ERA: u64 = 1_000_000;
@@ -33,6 +31,10 @@ pub struct At {
 }
 
 impl Moments for At {
+    ghost use Rattle.std.specs.Prelude.{◌≤◌, ◌^◌};
+
+    ghost shows = { λ _ moment. (1 ≤ moment) × (moment ≤ 2 ^ 40) };
+
     fn now<R: Clock>(&self, _rt: &R) -> u64 {
         self.moment.clamp(1, LAST_MOMENT)
     }
@@ -42,8 +44,17 @@ impl Moments for At {
 #[derive(Drop)]
 pub struct Fresh {
     pub kept: Kept,
-    ghost steps: { (story_in kept).steps ≡ [] },
-    ghost opening: { (seat : ℕ) → opened_with (story_in kept).opening seat ≡ 0 },
+    ghost empty: { IsNew kept },
+}
+
+impl Fresh {
+    /// A station of so many seats round it, which no type stands for yet.
+    pub fn unopened(self, alloc: Global, seats: u64) -> Result<Unopened>
+        ensures { IfOk result (λ unopened. unopened.parts ≡ seats) }
+    {
+        let Fresh { kept } = self;
+        Ok(Unopened::new(alloc, kept, seats)?)
+    }
 }
 
 /// How large a site is.
@@ -91,7 +102,7 @@ fn site_of(alloc: Global, setup: Setup, logged: bool) -> Result<Fresh> {
 
 /// A station, the seat of its clients, that of its maintenance, and a sum of what came of both.
 #[derive(Drop)]
-pub struct Hall<L: Ledger> {
+pub struct Hall<L: Room> {
     station: Station<L>,
     serving: Option<Seat<L>>,
     keeping: Seat<L>,
@@ -99,18 +110,13 @@ pub struct Hall<L: Ledger> {
 }
 
 /// A station of four seats.
-pub fn opened<R: Wait, L: Ledger>(
-    rt: &R,
-    alloc: Global,
-    blank: Blank,
-    fresh: Fresh,
-) -> Result<Hall<L>>
-    requires name { blank.name ≡ L.name }
-    requires parts { blank.parts ≡ L.parts }
-    requires four { blank.parts ≡ 4 }
+pub fn opened<R: Wait, L: Room>(rt: &R, alloc: Global, unopened: Unopened) -> Result<Hall<L>>
+    requires name { unopened.name ≡ L.name }
+    requires parts { unopened.parts ≡ L.parts }
+    requires table { unopened.table ≡ L.table }
+    requires four { unopened.parts ≡ 4 }
 {
-    let Fresh { kept } = fresh;
-    let Ok(station) = Station::<L>::new(blank, kept, 4) else {
+    let Ok(station) = Station::<L>::new(unopened) else {
         return Err(anyhow!("no station"));
     };
     let (Ok(serving), Ok(keeping)) = (station.seat(rt, alloc), station.seat(rt, alloc)) else {
@@ -134,7 +140,7 @@ pub fn add_maintained(sum: &mut Sum, done: Maintained) {
 }
 
 /// What a site needs from time to time.
-fn maintain<R: Wait, L: Ledger>(
+fn maintain<R: Wait, L: Room>(
     rt: &R,
     alloc: Global,
     station: &Station<L>,
@@ -185,14 +191,14 @@ fn add_left<T: Talk + Drop>(crowd: &mut Crowd<Client<'_, T>>, sum: &mut Sum) {
 
 /// What serves clients: a station, the seat of its maintenance, a sum, and after how many passes the station is maintained.
 #[derive(Drop)]
-struct Desk<'a, L: Ledger> {
+struct Desk<'a, L: Room> {
     station: &'a Station<L>,
     keeping: &'a mut Seat<L>,
     sum: &'a mut Sum,
     every: u64,
 }
 
-impl<L: Ledger> Desk<'_, L> {
+impl<L: Room> Desk<'_, L> {
     /// Serves clients until all have ended, and gives the seat back by which they were served.
     fn serve<R: Wait + Clock, T: Talk + Drop>(
         self,
@@ -230,7 +236,7 @@ impl<L: Ledger> Desk<'_, L> {
     }
 }
 
-impl<L: Ledger> Hall<L> {
+impl<L: Room> Hall<L> {
     /// Serves clients at a moment until all have ended, with a maintenance after each so many passes.
     pub fn serve<R: Wait + Clock, T: Talk + Drop>(
         &mut self,

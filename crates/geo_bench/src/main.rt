@@ -26,8 +26,11 @@ use std::sync::Wait;
 
 /// All that there is.
 const ALL: &[&str] = &[
-    "clients", "full", "spread", "ends", "script", "audit", "unlogged",
+    "clients", "full", "spread", "ends", "script", "audit", "unlogged", "prefixes",
 ];
+
+/// How keys begin as users name them: with more than a comparison by numbers sees.
+const PREFIX: &str = "session:user:profile:of";
 
 /// The sum of what came of one.
 fn sum_of<R: Wait + Clock + AllocGlobal + RandomSource>(
@@ -42,7 +45,8 @@ fn sum_of<R: Wait + Clock + AllocGlobal + RandomSource>(
         "clients" => clients::run(rt, alloc, &hasher, true, seed, scale),
         "unlogged" => clients::run(rt, alloc, &hasher, false, seed, scale),
         "full" => full::run(rt, alloc, &hasher, seed, scale),
-        "spread" => spread::run(rt, alloc, &hasher, seed, scale),
+        "spread" => spread::run(rt, alloc, &hasher, "it", seed, scale),
+        "prefixes" => spread::run(rt, alloc, &hasher, PREFIX, seed, scale),
         "ends" => ends::run(rt, alloc, &hasher, seed, scale),
         "script" => script::run(alloc, hasher, seed, scale),
         "audit" => audits::run(rt, alloc, &hasher, seed, scale),

@@ -9,18 +9,17 @@ use geo_delta::Parcel;
 use geo_frame::{Message, decode, encode};
 use geo_grammar::{Request, push_reply};
 use geo_history::History;
-use geo_station::{Seat, Station};
+use geo_station::{Room, Seat, Station, Unopened};
 use std::alloc::Global;
 use std::mem;
 use std::sync::Wait;
-use std::sync::ledger::{Blank, Ledger};
 
 /// The moment at which all happens.
 pub const NOON: u64 = 1_000_000;
 
 /// A station, its seats, and the frames that come late.
 #[derive(Drop)]
-pub struct Place<L: Ledger> {
+pub struct Place<L: Room> {
     alloc: Global,
     station: Station<L>,
     seats: Vec<Seat<L>>,
@@ -30,21 +29,20 @@ pub struct Place<L: Ledger> {
     sum: Sum,
 }
 
-impl<L: Ledger> Place<L> {
+impl<L: Room> Place<L> {
     /// A station of so many seats, which ask in turn.
     pub fn opened<R: Wait>(
         rt: &R,
         alloc: Global,
-        blank: Blank,
-        fresh: Fresh,
+        unopened: Unopened,
         count: u64,
     ) -> Result<Place<L>>
-        requires name { blank.name ≡ L.name }
-        requires parts { blank.parts ≡ L.parts }
-        requires seats { blank.parts ≡ count }
+        requires name { unopened.name ≡ L.name }
+        requires parts { unopened.parts ≡ L.parts }
+        requires table { unopened.table ≡ L.table }
+        requires seats { unopened.parts ≡ count }
     {
-        let Fresh { kept } = fresh;
-        let Ok(station) = Station::<L>::new(blank, kept, count) else {
+        let Ok(station) = Station::<L>::new(unopened) else {
             return Err(anyhow!("no station"));
         };
         let mut seats = Vec::new(alloc);

@@ -9,11 +9,11 @@ use crate::sum::Sum;
 use crate::tables::{Length, Tables};
 use anyhow::Result;
 use geo_grammar::{Request, Verb};
+use geo_station::{Room, Unopened};
 use std::alloc::Global;
 use std::hash::RandomState;
 use std::marker::Brand;
 use std::sync::Wait;
-use std::sync::ledger::{Blank, Ledger};
 
 /// How many keys there are, and how many of them are set before the rounds.
 const KEYS: u64 = 30_000;
@@ -30,7 +30,7 @@ const MANY: u64 = 10_000;
 
 /// Four sites.
 #[derive(Drop)]
-struct Four<A: Ledger, B: Ledger, C: Ledger, D: Ledger> {
+struct Four<A: Room, B: Room, C: Room, D: Room> {
     one: Place<A>,
     two: Place<B>,
     three: Place<C>,
@@ -55,7 +55,7 @@ fn written(alloc: Global, tables: &Tables, random: &mut Random) -> Result<Reques
 }
 
 /// One site tells another. A frame in ten is lost, one in ten comes late, and one in twenty twice.
-fn tell<R: Wait, L: Ledger, M: Ledger>(
+fn tell<R: Wait, L: Room, M: Room>(
     rt: &R,
     random: &mut Random,
     from: &mut Place<L>,
@@ -75,7 +75,7 @@ fn tell<R: Wait, L: Ledger, M: Ledger>(
 }
 
 /// Two sites tell each other.
-fn tell_both<R: Wait, L: Ledger, M: Ledger>(
+fn tell_both<R: Wait, L: Room, M: Room>(
     rt: &R,
     random: &mut Random,
     one: &mut Place<L>,
@@ -87,7 +87,7 @@ fn tell_both<R: Wait, L: Ledger, M: Ledger>(
     tell(rt, random, two, one, one_number)
 }
 
-impl<A: Ledger, B: Ledger, C: Ledger, D: Ledger> Four<A, B, C, D> {
+impl<A: Room, B: Room, C: Room, D: Room> Four<A, B, C, D> {
     /// A request at a site.
     fn act<R: Wait>(&mut self, rt: &R, at: u64, request: Request) -> Result<()> {
         match at & 3 {
@@ -182,7 +182,12 @@ impl<A: Ledger, B: Ledger, C: Ledger, D: Ledger> Four<A, B, C, D> {
     }
 
     /// All that happens.
-    fn run<R: Wait>(&mut self, rt: &R, alloc: Global, seed: u64, scale: u64) -> Result<u64> {
+    fn run<R: Wait>(&mut self, rt: &R, alloc: Global, measure: Measure) -> Result<u64> {
+        let Measure {
+            prefix,
+            seed,
+            scale,
+        } = measure;
         let is_small = scale == 0;
         let mut random = Random::new(seed);
         let keys = if is_small { 300 } else { KEYS };
@@ -191,7 +196,7 @@ impl<A: Ledger, B: Ledger, C: Ledger, D: Ledger> Four<A, B, C, D> {
         } else {
             (FIRST, WRITES, MANY)
         };
-        let tables = Tables::new(alloc, &mut random, keys, Length::Varied)?;
+        let tables = Tables::under(alloc, &mut random, prefix, keys, Length::Varied)?;
         self.fill(rt, alloc, &tables, &mut random, first)?;
         self.rounds(rt, alloc, &tables, &mut random, 3, 0)?;
         let rounds = ROUNDS.wrapping_mul(scale).max(3);
@@ -207,26 +212,27 @@ impl<A: Ledger, B: Ledger, C: Ledger, D: Ledger> Four<A, B, C, D> {
     }
 }
 
-/// The sites' numbers, and how much is to be done at them.
+/// How the keys begin, from which number all follows, and how much is to be done.
 #[derive(Clone, Copy)]
 struct Measure {
+    prefix: &'static str,
     seed: u64,
     scale: u64,
 }
 
-fn with_three<R: Wait, A: Ledger, B: Ledger, C: Ledger, D: Ledger>(
+fn with_three<R: Wait, A: Room, B: Room, C: Room, D: Room>(
     rt: &R,
     alloc: Global,
     places: (Place<A>, Place<B>, Place<C>),
-    blank: Blank,
-    last: Fresh,
+    unopened: Unopened,
     measure: Measure,
 ) -> Result<u64>
-    requires name { blank.name ≡ D.name }
-    requires parts { blank.parts ≡ D.parts }
-    requires two { blank.parts ≡ 2 }
+    requires name { unopened.name ≡ D.name }
+    requires parts { unopened.parts ≡ D.parts }
+    requires table { unopened.table ≡ D.table }
+    requires two { unopened.parts ≡ 2 }
 {
-    let four: Place<D> = Place::opened(rt, alloc, blank, last, 2)?;
+    let four: Place<D> = Place::opened(rt, alloc, unopened, 2)?;
     let (one, two, three) = places;
     let mut all = Four {
         one,
@@ -234,66 +240,72 @@ fn with_three<R: Wait, A: Ledger, B: Ledger, C: Ledger, D: Ledger>(
         three,
         four,
     };
-    all.run(rt, alloc, measure.seed, measure.scale)
+    all.run(rt, alloc, measure)
 }
 
-fn with_two<R: Wait, A: Ledger, B: Ledger, C: Ledger>(
+fn with_two<R: Wait, A: Room, B: Room, C: Room>(
     rt: &R,
     alloc: Global,
     places: (Place<A>, Place<B>),
-    blank: Blank,
-    rest: (Fresh, Fresh),
+    unopened: Unopened,
+    last: Fresh,
     measure: Measure,
 ) -> Result<u64>
-    requires name { blank.name ≡ C.name }
-    requires parts { blank.parts ≡ C.parts }
-    requires two { blank.parts ≡ 2 }
+    requires name { unopened.name ≡ C.name }
+    requires parts { unopened.parts ≡ C.parts }
+    requires table { unopened.table ≡ C.table }
+    requires two { unopened.parts ≡ 2 }
 {
-    let (third, last) = rest;
-    let three: Place<C> = Place::opened(rt, alloc, blank, third, 2)?;
+    let three: Place<C> = Place::opened(rt, alloc, unopened, 2)?;
     let (one, two) = places;
     let places = (one, two, three);
-    with_three::<R, A, B, C, Brand>(rt, alloc, places, Blank::new(2), last, measure)
+    let unopened = last.unopened(alloc, 2)?;
+    with_three::<R, A, B, C, Brand>(rt, alloc, places, unopened, measure)
 }
 
-fn with_one<R: Wait, A: Ledger, B: Ledger>(
+fn with_one<R: Wait, A: Room, B: Room>(
     rt: &R,
     alloc: Global,
     one: Place<A>,
-    blank: Blank,
-    rest: (Fresh, Fresh, Fresh),
+    unopened: Unopened,
+    rest: (Fresh, Fresh),
     measure: Measure,
 ) -> Result<u64>
-    requires name { blank.name ≡ B.name }
-    requires parts { blank.parts ≡ B.parts }
-    requires two { blank.parts ≡ 2 }
+    requires name { unopened.name ≡ B.name }
+    requires parts { unopened.parts ≡ B.parts }
+    requires table { unopened.table ≡ B.table }
+    requires two { unopened.parts ≡ 2 }
 {
-    let (second, third, last) = rest;
-    let two: Place<B> = Place::opened(rt, alloc, blank, second, 2)?;
-    with_two::<R, A, B, Brand>(rt, alloc, (one, two), Blank::new(2), (third, last), measure)
+    let (third, last) = rest;
+    let two: Place<B> = Place::opened(rt, alloc, unopened, 2)?;
+    let unopened = third.unopened(alloc, 2)?;
+    with_two::<R, A, B, Brand>(rt, alloc, (one, two), unopened, last, measure)
 }
 
-fn with_none<R: Wait, A: Ledger>(
+fn with_none<R: Wait, A: Room>(
     rt: &R,
     alloc: Global,
-    blank: Blank,
-    first: Fresh,
+    unopened: Unopened,
     rest: (Fresh, Fresh, Fresh),
     measure: Measure,
 ) -> Result<u64>
-    requires name { blank.name ≡ A.name }
-    requires parts { blank.parts ≡ A.parts }
-    requires two { blank.parts ≡ 2 }
+    requires name { unopened.name ≡ A.name }
+    requires parts { unopened.parts ≡ A.parts }
+    requires table { unopened.table ≡ A.table }
+    requires two { unopened.parts ≡ 2 }
 {
-    let one: Place<A> = Place::opened(rt, alloc, blank, first, 2)?;
-    with_one::<R, A, Brand>(rt, alloc, one, Blank::new(2), rest, measure)
+    let (second, third, last) = rest;
+    let one: Place<A> = Place::opened(rt, alloc, unopened, 2)?;
+    let unopened = second.unopened(alloc, 2)?;
+    with_one::<R, A, Brand>(rt, alloc, one, unopened, (third, last), measure)
 }
 
-/// The sum of all that came of it.
+/// The sum of all that came of it, with keys that begin so.
 pub fn run<R: Wait>(
     rt: &R,
     alloc: Global,
     hasher: &RandomState,
+    prefix: &'static str,
     seed: u64,
     scale: u64,
 ) -> Result<u64> {
@@ -306,13 +318,11 @@ pub fn run<R: Wait>(
     let second = new_site(alloc, hasher, size, 2, 4)?;
     let third = new_site(alloc, hasher, size, 3, 4)?;
     let last = new_site(alloc, hasher, size, 4, 4)?;
-    let measure = Measure { seed, scale };
-    with_none::<R, Brand>(
-        rt,
-        alloc,
-        Blank::new(2),
-        first,
-        (second, third, last),
-        measure,
-    )
+    let measure = Measure {
+        prefix,
+        seed,
+        scale,
+    };
+    let unopened = first.unopened(alloc, 2)?;
+    with_none::<R, Brand>(rt, alloc, unopened, (second, third, last), measure)
 }

@@ -105,8 +105,19 @@ fn piece<'a>(random: &mut Random, all: &'a [u8], length: usize) -> &'a [u8] {
 impl Tables {
     /// So many keys, and as many that are never set.
     pub fn new(alloc: Global, random: &mut Random, count: u64, length: Length) -> Result<Tables> {
+        Tables::under(alloc, random, "it", count, length)
+    }
+
+    /// So many keys that begin so, and as many that are never set.
+    pub fn under(
+        alloc: Global,
+        random: &mut Random,
+        prefix: &str,
+        count: u64,
+        length: Length,
+    ) -> Result<Tables> {
         Ok(Tables {
-            keys: keys(alloc, random, "it", count, length)?,
+            keys: keys(alloc, random, prefix, count, length)?,
             unknown: keys(alloc, random, "no", count, length)?,
             block: block(alloc, random)?,
             letters: letters(alloc, random, LETTERS)?,

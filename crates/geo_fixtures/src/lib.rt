@@ -1,9 +1,8 @@
 //! What the tests of several crates begin with.
 #![tactic(auto)]
 
-ghost use Rattle.std.specs.Prelude.{◌≡◌, ℕ, [], IfSome};
-ghost use Rattle.geo_history.specs.Keeping.{opened_with};
-ghost use Rattle.geo_history.specs.Stories.{story_in};
+ghost use Rattle.std.specs.Prelude.{IfSome};
+ghost use Rattle.geo_history.specs.Stories.{IsNew};
 
 use geo_history::Kept;
 use geo_site::Setup;
@@ -26,8 +25,7 @@ pub fn setup_of(rt: &impl RandomSource, site: u8, sites: u8) -> Option<Setup> {
 
 /// One site of so many, which knows nothing.
 pub fn opened(rt: &impl RandomSource, alloc: Global, site: u8, sites: u8) -> Option<Kept>
-    ensures steps { IfSome result (λ kept. (story_in kept).steps ≡ []) }
-    ensures opening { IfSome result (λ kept. (seat : ℕ) → opened_with (story_in kept).opening seat ≡ 0) }
+    ensures { IfSome result IsNew }
 {
     let setup = setup_of(rt, site, sites)?;
     Kept::new(alloc, setup).ok()

@@ -37,7 +37,7 @@ pub record Goes {K : Type 0} (by : Ways K) (site : ℕ) (first now : List Missin
   pub all : AsksAll by site asked (take at now) old mid seat between count
   pub few : count + length now ≤ length first
   pub steps : seat.steps + count ≤ between.steps
-  pub stays : between ≡ record seat { steps = between.steps }
+  pub stays : between ≡ record seat { mark = between.mark; steps = between.steps }
 
 pub goes_lacked : {K : Type 0} (by : Ways K) (site : ℕ) (first now : List Missing) (at : ℕ) (old mid new : K) (seat between after : Seated) (count : ℕ) (m : Missing)
     → Goes by site first now at old mid seat between count → at < length now → m ≡ get_or now at m → TellsThis by None (ask_of site m) mid new between after → after ≡ between
@@ -50,12 +50,12 @@ goes_lacked {K} by site first now at old mid new seat between after count m goes
       (subst (λ (n : ℕ). AsksAll by site (goes.asked ++ m ∷ []) (take at now ++ m ∷ []) old new seat after n) (omega arith) (asks_next by site goes.asked (take at now) m old mid new seat between after count None goes.all told));
   few = goes.few;
   steps = subst (λ (s : Seated). seat.steps + count ≤ s.steps) (sym same) goes.steps;
-  stays = subst (λ (s : Seated). s ≡ record seat { steps = s.steps }) (sym same) goes.stays;
+  stays = subst (λ (s : Seated). s ≡ record seat { mark = s.mark; steps = s.steps }) (sym same) goes.stays;
 }
 
 pub goes_filled : {K : Type 0} (by : Ways K) (site : ℕ) (first now : List Missing) (at : ℕ) (old mid new : K) (seat between after : Seated) (count : ℕ) (m : Missing) (filled : Filled)
     → Goes by site first now at old mid seat between count → at < length now → m ≡ get_or now at m → TellsThis by (Some filled) (ask_of site m) mid new between after
-    → done_by (Some filled) ≤ 1 → between.steps + done_by (Some filled) ≤ after.steps → after ≡ record between { steps = after.steps }
+    → done_by (Some filled) ≤ 1 → between.steps + done_by (Some filled) ≤ after.steps → after ≡ record between { mark = after.mark; steps = after.steps }
     → (later : List Missing) (done : ℕ) → later ≡ remove now at → done ≡ done_by (Some filled) → Goes by site first later at old new seat after (count + done)
 goes_filled {K} by site first now at old mid new seat between after count m filled goes lt is told one more stays later done removes counts =
     let before : length (take at now) ≡ at = length-take-le at now goes.within in
@@ -72,7 +72,7 @@ goes_filled {K} by site first now at old mid new seat between after count m fill
           (asks_next by site goes.asked (take at now) m old mid new seat between after count (Some filled) goes.all told));
       few = omega (arith, goes.few, fewer, one, counts);
       steps = omega (arith, goes.steps, more, counts);
-      stays = stays ∙ ap (λ (s : Seated). record s { steps = after.steps }) goes.stays;
+      stays = stays ∙ ap (λ (s : Seated). record s { mark = after.mark; steps = after.steps }) goes.stays;
     }
 
 -- where no more is asked, so the peer was asked

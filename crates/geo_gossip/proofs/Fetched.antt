@@ -27,7 +27,7 @@ pub record Fetched {K : Type 0} (by : Ways K) (first now : List (Peer K)) (at : 
   pub rest : drop at now ≡ drop at first
   pub few : count + length left ≤ length sought
   pub steps : seat.steps + count ≤ mid.steps
-  pub stays : mid ≡ record seat { steps = mid.steps }
+  pub stays : mid ≡ record seat { mark = mid.mark; steps = mid.steps }
 
 pub fetched_none : {K : Type 0} (by : Ways K) (peers : List (Peer K)) (sought : List Missing) (seat : Seated) → length sought ≤ 64 → Fetched by peers peers 0 sought sought seat seat 0
 unfolding AsksPeers
@@ -35,7 +35,7 @@ fetched_none by peers sought seat small = record { small = small; long = refl; a
 
 pub fetched_next : {K : Type 0} (by : Ways K) (first now : List (Peer K)) (at : ℕ) (sought left more : List Missing) (seat mid after : Seated) (count n : ℕ) (old new : Peer K)
     → Fetched by first now at sought left seat mid count → at < length now → old ≡ get_or now at old → AsksPeer by true left more (get_or now at old) new mid after n
-    → n + length more ≤ length left → mid.steps + n ≤ after.steps → after ≡ record mid { steps = after.steps }
+    → n + length more ≤ length left → mid.steps + n ≤ after.steps → after ≡ record mid { mark = after.mark; steps = after.steps }
     → Fetched by first (set now at new) (at + 1) sought more seat after (count + n)
 fetched_next {K} by first now at sought left more seat mid after count n old new was lt is asked fewer steps stays = record {
   small = was.small;
@@ -45,7 +45,7 @@ fetched_next {K} by first now at sought left more seat mid after count n old new
   rest = drop-set-lt (at + 1) now at new (omega arith) ∙ ap (drop 1) (sym (drop_more now at old lt) ∙ was.rest ∙ drop_more first at old (omega (arith, lt, was.long)));
   few = omega (arith, was.few, fewer);
   steps = omega (arith, was.steps, steps);
-  stays = stays ∙ ap (λ (s : Seated). record s { steps = after.steps }) was.stays;
+  stays = stays ∙ ap (λ (s : Seated). record s { mark = after.mark; steps = after.steps }) was.stays;
 }
 
 set_splits : {X : Type 0} (xs : List X) (i : ℕ) (y : X) → i < length xs → set xs i y ≡ take i xs ++ y ∷ drop (i + 1) xs

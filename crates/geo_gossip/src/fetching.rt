@@ -11,11 +11,10 @@ use geo_frame::{Message, fits};
 use geo_grammar::ValueBytes;
 use geo_link::{Link, LinkError};
 use geo_site::Filled;
-use geo_station::{Missing, Seat, Station};
+use geo_station::{Missing, Room, Seat, Station};
 use geo_versions::{Digest, Key};
 use std::alloc::{AllocError, Global};
 use std::sync::Wait;
-use std::sync::ledger::Ledger;
 
 /// How many keys one fetch asks for at most.
 const MOST_ASKED: usize = 64;
@@ -153,7 +152,7 @@ fn asked<R: Wait, K: Link>(
 }
 
 /// Asks a site for missing bytes, and has the station fill with those that it offers. What came of that; None where it offers none.
-fn tried<R: Wait, L: Ledger, K: Link>(
+fn tried<R: Wait, L: Room, K: Link>(
     rt: &R,
     alloc: Global,
     station: &Station<L>,
@@ -167,7 +166,7 @@ fn tried<R: Wait, L: Ledger, K: Link>(
     ensures silent { IfErr result (λ why. IsSilent (ways K.puts K.gets K.put_fails K.get_fails K.closes) why (ask_of site missing.now)
         link.old link.new × (seat.new ≡ seat.old)) }
     ensures steps { IfOk result (λ filled. seat.old.steps + done_by filled ≤ seat.new.steps) }
-    ensures stays { seat.new ≡ record seat.old { steps = seat.new.steps } }
+    ensures stays { seat.new ≡ record seat.old { mark = seat.new.mark; steps = seat.new.steps } }
 {
     match asked(rt, alloc, site, link, missing) {
         Err(why) => Err(why),
@@ -188,7 +187,7 @@ fn counted(filled: Filled) -> usize
 
 /// Asks a peer for all that is sought, one after the other. What the station was offered is sought no more, whatever came of it. How
 /// many fills were done, and whether other peers are to be asked.
-fn ask_peer<R: Wait, L: Ledger, K: Link>(
+fn ask_peer<R: Wait, L: Room, K: Link>(
     rt: &R,
     alloc: Global,
     station: &Station<L>,
@@ -200,7 +199,7 @@ fn ask_peer<R: Wait, L: Ledger, K: Link>(
         peer.old peer.new seat.old seat.new result.0 }
     ensures few { result.0 + length sought.new.items ≤ length sought.old.items }
     ensures steps { seat.old.steps + result.0 ≤ seat.new.steps }
-    ensures stays { seat.new ≡ record seat.old { steps = seat.new.steps } }
+    ensures stays { seat.new ≡ record seat.old { mark = seat.new.mark; steps = seat.new.steps } }
 {
     let Peer { site, link } = peer;
     let mut done = 0;
@@ -220,7 +219,7 @@ fn ask_peer<R: Wait, L: Ledger, K: Link>(
 }
 
 /// Asks each peer, in their order, for all of these that the ones before have not brought, and tells how many of the fills were done.
-fn ask_all<R: Wait, L: Ledger, K: Link>(
+fn ask_all<R: Wait, L: Room, K: Link>(
     rt: &R,
     alloc: Global,
     station: &Station<L>,
@@ -232,7 +231,7 @@ fn ask_all<R: Wait, L: Ledger, K: Link>(
     ensures asks { AsksFor (ways K.puts K.gets K.put_fails K.get_fails K.closes) sought.items peers.old peers.new seat.old seat.new result }
     ensures few { result ≤ 64 }
     ensures steps { seat.old.steps + result ≤ seat.new.steps }
-    ensures stays { seat.new ≡ record seat.old { steps = seat.new.steps } }
+    ensures stays { seat.new ≡ record seat.old { mark = seat.new.mark; steps = seat.new.steps } }
 {
     let mut done = 0;
     for at in 0..peers.len() {
@@ -253,7 +252,7 @@ fn ask_all<R: Wait, L: Ledger, K: Link>(
 /// the offer that it was asked for, or by bytes with another SHA-256, loses its link, which is closed. The bytes are looked at before
 /// the site is asked, so that [`Filled::NotNamed`] says nothing of the peer: the site's version has changed since. Where memory is
 /// refused, or the seat is spent, the fetch ends. A `put` and a `get` may wait.
-pub fn fetch<R: Wait, L: Ledger, K: Link>(
+pub fn fetch<R: Wait, L: Room, K: Link>(
     rt: &R,
     alloc: Global,
     station: &Station<L>,
@@ -264,7 +263,7 @@ pub fn fetch<R: Wait, L: Ledger, K: Link>(
     ensures fetches { Fetches (ways K.puts K.gets K.put_fails K.get_fails K.closes) now peers.old peers.new seat.old seat.new result }
     ensures few { result ≤ 64 }
     ensures steps { seat.old.steps + result ≤ seat.new.steps }
-    ensures stays { seat.new ≡ record seat.old { steps = seat.new.steps } }
+    ensures stays { seat.new ≡ record seat.old { mark = seat.new.mark; steps = seat.new.steps } }
 {
     match station.first_missing(rt, alloc, now, MOST_ASKED) {
         Ok(sought) => ask_all(rt, alloc, station, seat, peers, sought),

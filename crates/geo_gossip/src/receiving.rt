@@ -11,14 +11,13 @@ ghost use Rattle.geo_station.specs.declared.refusal.Returned.{Returned};
 use geo_delta::Parcel;
 use geo_frame::{Message, fits};
 use geo_link::{Link, LinkError};
-use geo_station::{Seat, Station};
+use geo_station::{Room, Seat, Station};
 use geo_versions::{Digest, Key};
 use std::alloc::{AllocError, Global};
 use std::sync::Wait;
-use std::sync::ledger::Ledger;
 
 /// Has the site take a parcel, and tells whether it did.
-fn taken<R: Wait, L: Ledger>(
+fn taken<R: Wait, L: Room>(
     rt: &R,
     alloc: Global,
     station: &Station<L>,
@@ -46,7 +45,7 @@ struct Ask {
 
 /// Answers an ask on the link by which it came: with the bytes that the site holds, or with none. Why the link refused that, where it
 /// did; Err where memory was refused, to the site or to the link.
-fn answered<R: Wait, L: Ledger, K: Link>(
+fn answered<R: Wait, L: Room, K: Link>(
     rt: &R,
     alloc: Global,
     station: &Station<L>,
@@ -83,7 +82,7 @@ fn answered<R: Wait, L: Ledger, K: Link>(
 }
 
 /// What becomes of a message, and whether the site took it. None where there was no memory for an answer.
-fn heard<R: Wait, L: Ledger, K: Link>(
+fn heard<R: Wait, L: Room, K: Link>(
     rt: &R,
     alloc: Global,
     station: &Station<L>,
@@ -130,7 +129,7 @@ fn heard<R: Wait, L: Ledger, K: Link>(
 
 /// Gets once from a link, and has the site take a parcel that comes, or answers an ask. Whether it took one; None where the link is
 /// closed, or there is no memory for an answer.
-fn hear<R: Wait, L: Ledger, K: Link>(
+fn hear<R: Wait, L: Room, K: Link>(
     rt: &R,
     alloc: Global,
     station: &Station<L>,
@@ -160,7 +159,7 @@ fn hear<R: Wait, L: Ledger, K: Link>(
 /// and a link that fails is closed for good. Each ask is answered on the same link by one offer, before more is got: whoever asks waits
 /// for it. Where there is no memory for an offer no more is got, so that whoever asked learns of it by the end of the link. Of its calls
 /// the seat keeps the last alone, since each has its parcel.
-pub fn receive<R: Wait, L: Ledger, K: Link>(
+pub fn receive<R: Wait, L: Room, K: Link>(
     rt: &R,
     alloc: Global,
     station: &Station<L>,

@@ -6,10 +6,9 @@ use crate::fault::GossipFault;
 use geo_frame::Message;
 use geo_link::Link;
 use geo_site::SendError;
-use geo_station::{CallError, Seat, Station};
+use geo_station::{CallError, Room, Seat, Station};
 use std::alloc::Global;
 use std::sync::Wait;
-use std::sync::ledger::Ledger;
 
 /// Another site, and the link that leads there.
 #[derive(Drop)]
@@ -20,7 +19,7 @@ pub struct Peer<K> {
 }
 
 /// Sends a peer what it isn't known to know, and tells whether its link took the parcel.
-fn serve<R: Wait, L: Ledger, K: Link>(
+fn serve<R: Wait, L: Room, K: Link>(
     rt: &R,
     alloc: Global,
     station: &Station<L>,
@@ -46,7 +45,7 @@ fn serve<R: Wait, L: Ledger, K: Link>(
 /// heard that the peer knows, and the peer's link takes it. A link that fails is skipped, and its peer is sent all of it again in
 /// a later round. A peer that the station's site doesn't know, or holds for retired, is skipped. It tells how many parcels were put. A
 /// `put` may wait. Of its calls the seat keeps the last alone.
-pub fn round<R: Wait, L: Ledger, K: Link>(
+pub fn round<R: Wait, L: Room, K: Link>(
     rt: &R,
     alloc: Global,
     station: &Station<L>,

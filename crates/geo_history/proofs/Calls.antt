@@ -33,28 +33,37 @@ use Rattle.geo_site.specs.Standings.{who_in, standing_in}
 use Rattle.geo_history.specs.Keeping.{Story, most_steps, made_by, step_with, step_of, is_flush_due, flush_count, flush_steps, number_after, IsKept, GoesOn, ReapsFor, DoesNothing, LeavesAll, ActsFor, ActForDoes, SendForDoes, TakesFor, RefusedFor, TakeForDoes, RemoveForDoes, EvictForDoes, FillForDoes, RetireForDoes, TickForDoes, ReapForDoes, JuggleForDoes}
 use Rattle.geo_site.proofs.Issuing.{stands_same, flush_again, stuck_same}
 use Rattle.geo_site.proofs.Leading.{command_leads, send_leads, unsent_leads, retired_leads, retire_leads, unretired_leads, take_leads, untaken_leads, remove_leads, evict_leads, fill_leads, reap_leads, unreaped_leads}
-use Rattle.geo_history.proofs.Keeps.{made_flushed, kept_more, kept_still, kept_after, flush_kept}
+use Rattle.geo_history.proofs.Keeps.{Continues, continues_kept, continues_more, continues_still, continues_after, flush_continues, made_flushed}
 
--- it is the same site, and its history is still one
+-- it is the same site, which went on with some steps
 pub record Goes (old new : Story) : Type 0 where
-  pub kept : IsKept old → IsKept new
-  pub who : who_in new.site ≡ who_in old.site
+  pub more : List Step
+  pub on : Continues old new more
 
-who_by : (old new : Site) → new.number ≡ old.number → limits_of new ≡ limits_of old → who_in new ≡ who_in old
-who_by old new n l = λ i. record { number = n i; limits = l i }
+-- so its history is still one
+pub goes_kept : {old new : Story} → Goes old new → IsKept old → IsKept new
+goes_kept {old} {new} goes kept = continues_kept old new goes.more goes.on kept
+
+goes_by : {old new : Story} {more : List Step} → Continues old new more → Goes old new
+goes_by {old} {new} {more} c = record { more = more; on = c }
 
 goes_same : (old new : Story) → new ≡ old → Goes old new
-goes_same old new same = record { kept = subst IsKept (sym same); who = ap (λ (s : Story). who_in s.site) same }
+goes_same old new same = record {
+  more = [];
+  on = record {
+    goes_on = record { opening = ap (λ (s : Story). s.opening) same; more = ap (λ (s : Story). s.steps) same ∙ sym (append-nil old.steps) };
+    who = ap (λ (s : Story). who_in s.site) same;
+    replays = ap (λ (s : Story). standing_in s.site) same;
+    numbered = λ seat. refl;
+  };
+}
 
 goes_nothing : (old new : Story) (seat now : ℕ) → DoesNothing old new seat now → Goes old new
 goes_nothing old new seat now (inl same) = goes_same old new same
-goes_nothing old new seat now (inr does) = record { kept = λ kept. flush_kept old new seat now kept does; who = who_by old.site new.site does.flush.stays.0 does.flush.stays.1 }
+goes_nothing old new seat now (inr does) = goes_by (flush_continues old new seat now does)
 
 goes_all : (old new : Story) → LeavesAll old new → Goes old new
-goes_all old new d = record {
-  kept = λ kept. kept_still old new kept d.stays.0 d.stays.1 (stands_same (state_in old.site) new.site (heard_in old.site) (waiting_in old.site) (counts_in old.site) d.same d.stays.2 d.rests.1 d.rests.0) d.goes_on;
-  who = who_by old.site new.site d.stays.0 d.stays.1;
-}
+goes_all old new d = goes_by (continues_still old new d.stays.0 d.stays.1 (stands_same (state_in old.site) new.site (heard_in old.site) (waiting_in old.site) (counts_in old.site) d.same d.stays.2 d.rests.1 d.rests.0) d.goes_on)
 
 -- ---- a command
 request_stays : (b : Bool) (mid new : Site) (now : ℕ) (request : Request) (reply : Reply) → RequestDoesBy b mid new now request reply → Stays mid new
@@ -68,48 +77,27 @@ act_goes old new seat now request (Ok replies) d =
     let stays = request_stays (is_stuck (waiting_in old.site) (clock_in old.site) now) mid new.site now request replies.0 does.does in
     let victim = cond {A = Option (List ℕ)} (is_done replies.0) (victim_in mid (issued_in mid now request)) None in
     let made = cond {A = Option (List ℕ × ℕ)} (is_done replies.0) (made_on now (visible_in (state_in mid) now) request) None in
-    record {
-      kept = λ kept. kept_after old new seat now mid kept does.flush (Command now request) (Replied replies.0) victim made stays.0 stays.1
-          (command_leads old.site new.site now request replies.0 victim made does d.said refl refl) d.goes_on;
-      who = who_by mid new.site stays.0 stays.1 ∙ who_by old.site mid does.flush.stays.0 does.flush.stays.1;
-    }
+    goes_by (continues_after old new seat now mid does.flush (Command now request) (Replied replies.0) victim made stays.0 stays.1
+    (command_leads old.site new.site now request replies.0 victim made does d.said refl refl) d.goes_on)
 act_goes old new seat now request (Err refused) d = goes_nothing old new seat now d
 
 -- ---- sending and taking
-site_stays : (old new : Story) → new.site ≡ old.site → who_in new.site ≡ who_in old.site
-site_stays old new same = ap who_in same
-
 pub send_goes : (old new : Story) (seat to : ℕ) (result : Result (Parcel × Parcel) SendError) → SendForDoes old new seat to result → Goes old new
-send_goes old new seat to (Ok parcels) d = record {
-  kept = λ kept. kept_more old new seat (Send to) (Sent parcels.0) None None kept (ap (λ (s : Site). s.number) d.2) (ap limits_of d.2)
-      (subst (λ (s : Site). Rattle.geo_site.specs.Steps.StepsTo (who_in old.site) (standing_in old.site) (Send to) (Sent parcels.0) None None (standing_in s)) (sym d.2) (send_leads old.site to parcels.0 d.0)) d.3;
-  who = site_stays old new d.2;
-}
-send_goes old new seat to (Err sends.NoSuchSite) d = record {
-  kept = λ kept. kept_more old new seat (Send to) (SendRefused sends.NoSuchSite) None None kept (ap (λ (s : Site). s.number) d.1) (ap limits_of d.1)
-      (subst (λ (s : Site). Rattle.geo_site.specs.Steps.StepsTo (who_in old.site) (standing_in old.site) (Send to) (SendRefused sends.NoSuchSite) None None (standing_in s)) (sym d.1) (unsent_leads old.site to d.0)) d.2;
-  who = site_stays old new d.1;
-}
-send_goes old new seat to (Err sends.Retired) d = record {
-  kept = λ kept. kept_more old new seat (Send to) (SendRefused sends.Retired) None None kept (ap (λ (s : Site). s.number) d.1) (ap limits_of d.1)
-      (subst (λ (s : Site). Rattle.geo_site.specs.Steps.StepsTo (who_in old.site) (standing_in old.site) (Send to) (SendRefused sends.Retired) None None (standing_in s)) (sym d.1) (retired_leads old.site to d.0)) d.2;
-  who = site_stays old new d.1;
-}
+send_goes old new seat to (Ok parcels) d = goes_by (continues_more old new seat (Send to) (Sent parcels.0) None None (ap (λ (s : Site). s.number) d.2) (ap limits_of d.2)
+    (subst (λ (s : Site). Rattle.geo_site.specs.Steps.StepsTo (who_in old.site) (standing_in old.site) (Send to) (Sent parcels.0) None None (standing_in s)) (sym d.2) (send_leads old.site to parcels.0 d.0)) d.3)
+send_goes old new seat to (Err sends.NoSuchSite) d = goes_by (continues_more old new seat (Send to) (SendRefused sends.NoSuchSite) None None (ap (λ (s : Site). s.number) d.1) (ap limits_of d.1)
+    (subst (λ (s : Site). Rattle.geo_site.specs.Steps.StepsTo (who_in old.site) (standing_in old.site) (Send to) (SendRefused sends.NoSuchSite) None None (standing_in s)) (sym d.1) (unsent_leads old.site to d.0)) d.2)
+send_goes old new seat to (Err sends.Retired) d = goes_by (continues_more old new seat (Send to) (SendRefused sends.Retired) None None (ap (λ (s : Site). s.number) d.1) (ap limits_of d.1)
+    (subst (λ (s : Site). Rattle.geo_site.specs.Steps.StepsTo (who_in old.site) (standing_in old.site) (Send to) (SendRefused sends.Retired) None None (standing_in s)) (sym d.1) (retired_leads old.site to d.0)) d.2)
 send_goes old new seat to (Err sends.Memory) d = goes_same old new d
 
 pub take_goes : (old new : Story) (seat : ℕ) (parcel : Parcel) (result : Result Taken Refused) → TakeForDoes old new seat parcel result → Goes old new
-take_goes old new seat parcel (Ok taken) d = record {
-  kept = λ kept. kept_more old new seat (Take parcel) (Took taken) None None kept d.remains.0 d.remains.1 (take_leads old.site new.site parcel taken d.does d.rests d.held_before d.held_after) d.goes_on;
-  who = who_by old.site new.site d.remains.0 d.remains.1;
-}
+take_goes old new seat parcel (Ok taken) d = goes_by (continues_more old new seat (Take parcel) (Took taken) None None d.remains.0 d.remains.1 (take_leads old.site new.site parcel taken d.does d.rests d.held_before d.held_after) d.goes_on)
 take_goes old new seat parcel (Err refused) d = by refused.why refl d
   where
     untaken : (why : TakeError) → refused.why ≡ why → why ≢ takes.Memory → TakesFor old new seat parcel (Err refused) (TakeRefused why) → Goes old new
-    untaken why is other d = record {
-      kept = λ kept. kept_more old new seat (Take parcel) (TakeRefused why) None None kept d.remains.0 d.remains.1
-          (subst (λ w. Rattle.geo_site.specs.Steps.StepsTo (who_in old.site) (standing_in old.site) (Take parcel) (TakeRefused w) None None (standing_in new.site)) is (untaken_leads old.site new.site parcel refused (λ e. other (sym is ∙ e)) d.does d.rests)) d.goes_on;
-      who = who_by old.site new.site d.remains.0 d.remains.1;
-    }
+    untaken why is other d = goes_by (continues_more old new seat (Take parcel) (TakeRefused why) None None d.remains.0 d.remains.1
+        (subst (λ w. Rattle.geo_site.specs.Steps.StepsTo (who_in old.site) (standing_in old.site) (Take parcel) (TakeRefused w) None None (standing_in new.site)) is (untaken_leads old.site new.site parcel refused (λ e. other (sym is ∙ e)) d.does d.rests)) d.goes_on)
 
     by : (why : TakeError) → refused.why ≡ why → RefusedFor old new seat parcel refused why → Goes old new
     by takes.NotForMe is d = untaken takes.NotForMe is (λ e. cc) d
@@ -120,35 +108,20 @@ take_goes old new seat parcel (Err refused) d = by refused.why refl d
 
 -- ---- what is dropped, and flushed
 pub remove_goes : (old new : Story) (seat : ℕ) (result : Result ℕ AllocError) → RemoveForDoes old new seat result → Goes old new
-remove_goes old new seat (Ok count) d = record {
-  kept = λ kept. kept_more old new seat Remove (Removed count) None None kept d.does.stays.0 d.does.stays.1 (remove_leads old.site new.site count d.does d.recorded_before d.recorded_after) d.goes_on;
-  who = who_by old.site new.site d.does.stays.0 d.does.stays.1;
-}
+remove_goes old new seat (Ok count) d = goes_by (continues_more old new seat Remove (Removed count) None None d.does.stays.0 d.does.stays.1 (remove_leads old.site new.site count d.does d.recorded_before d.recorded_after) d.goes_on)
 remove_goes old new seat (Err refused) d = goes_same old new d
 
 pub evict_goes : (old new : Story) (seat : ℕ) (key : List ℕ) (result : Result Bool AllocError) → EvictForDoes old new seat key result → Goes old new
-evict_goes old new seat key (Ok done) d = record {
-  kept = λ kept. kept_more old new seat (Evict key) (Evicted done) None None kept d.0.stays.0 d.0.stays.1 (evict_leads old.site new.site key done d.0) d.1;
-  who = who_by old.site new.site d.0.stays.0 d.0.stays.1;
-}
+evict_goes old new seat key (Ok done) d = goes_by (continues_more old new seat (Evict key) (Evicted done) None None d.0.stays.0 d.0.stays.1 (evict_leads old.site new.site key done d.0) d.1)
 evict_goes old new seat key (Err refused) d = goes_same old new d
 
 pub fill_goes : (old new : Story) (seat : ℕ) (key bytes : List ℕ) (result : Result Filled AllocError) → FillForDoes old new seat key bytes result → Goes old new
-fill_goes old new seat key bytes (Ok filled) d = record {
-  kept = λ kept. kept_more old new seat (Fill key bytes) (FilledAs filled) None None kept d.0.stays.0 d.0.stays.1 (fill_leads old.site new.site key bytes filled d.0) d.1;
-  who = who_by old.site new.site d.0.stays.0 d.0.stays.1;
-}
+fill_goes old new seat key bytes (Ok filled) d = goes_by (continues_more old new seat (Fill key bytes) (FilledAs filled) None None d.0.stays.0 d.0.stays.1 (fill_leads old.site new.site key bytes filled d.0) d.1)
 fill_goes old new seat key bytes (Err refused) d = goes_all old new d
 
 pub retire_goes : (old new : Story) (seat other : ℕ) (result : Result Bool RetireError) → RetireForDoes old new seat other result → Goes old new
-retire_goes old new seat other (Ok fresh) d = record {
-  kept = λ kept. kept_more old new seat (Retire other) (Retired fresh) None None kept d.remains.0 d.remains.1 (retire_leads old.site new.site other fresh d.does d.rests) d.goes_on;
-  who = who_by old.site new.site d.remains.0 d.remains.1;
-}
-retire_goes old new seat other (Err retire.NoSuchSite) d = record {
-  kept = λ kept. kept_more old new seat (Retire other) (RetireRefused retire.NoSuchSite) None None kept d.remains.0 d.remains.1 (unretired_leads old.site new.site other d.does d.rests) d.goes_on;
-  who = who_by old.site new.site d.remains.0 d.remains.1;
-}
+retire_goes old new seat other (Ok fresh) d = goes_by (continues_more old new seat (Retire other) (Retired fresh) None None d.remains.0 d.remains.1 (retire_leads old.site new.site other fresh d.does d.rests) d.goes_on)
+retire_goes old new seat other (Err retire.NoSuchSite) d = goes_by (continues_more old new seat (Retire other) (RetireRefused retire.NoSuchSite) None None d.remains.0 d.remains.1 (unretired_leads old.site new.site other d.does d.rests) d.goes_on)
 retire_goes old new seat other (Err retire.Memory) d = goes_same old new d
 
 pub tick_goes : (old new : Story) (seat now : ℕ) (result : Result Bool AllocError) → TickForDoes old new seat now result → Goes old new
@@ -160,25 +133,16 @@ pub reap_goes : (old new : Story) (seat now : ℕ) (key : List ℕ) (result : Re
 reap_goes old new seat now key (Ok done) d =
     let does = d.does in
     let mid = does.mid in
-    record {
-      kept = λ kept. kept_after old new seat now mid kept does.flush (Reap now key) (Reaped done) None None does.stays.0 does.stays.1 (reap_leads old.site new.site now key done does) d.goes_on;
-      who = who_by mid new.site does.stays.0 does.stays.1 ∙ who_by old.site mid does.flush.stays.0 does.flush.stays.1;
-    }
+    goes_by (continues_after old new seat now mid does.flush (Reap now key) (Reaped done) None None does.stays.0 does.stays.1 (reap_leads old.site new.site now key done does) d.goes_on)
 reap_goes old new seat now key (Err reaps.ClockEnded) d =
     let does = d.does in
     let mid = does.mid in
-    record {
-      kept = λ kept. kept_after old new seat now mid kept does.flush (Reap now key) (ReapRefused reaps.ClockEnded) None None does.stays.0 does.stays.1 (unreaped_leads old.site new.site now key does) d.goes_on;
-      who = who_by mid new.site does.stays.0 does.stays.1 ∙ who_by old.site mid does.flush.stays.0 does.flush.stays.1;
-    }
+    goes_by (continues_after old new seat now mid does.flush (Reap now key) (ReapRefused reaps.ClockEnded) None None does.stays.0 does.stays.1 (unreaped_leads old.site new.site now key does) d.goes_on)
 reap_goes old new seat now key (Err reaps.Memory) d = goes_nothing old new seat now d
 
 -- ---- a juggle changes the order in which bytes go, and nothing else
 pub juggle_goes : (old new : Story) (class : ℕ) (result : Result Bool AllocError) → JuggleForDoes old new class result → Goes old new
-juggle_goes old new class result d = record {
-  kept = λ kept. kept_still old new kept d.stays.0 d.stays.1 (by result d.does) d.goes_on;
-  who = who_by old.site new.site d.stays.0 d.stays.1;
-}
+juggle_goes old new class result d = goes_by (continues_still old new d.stays.0 d.stays.1 (by result d.does) d.goes_on)
   where
     by : (result : Result Bool AllocError) → Rattle.geo_site.specs.Sites.JuggleDoes old.site new.site class result → standing_in new.site ≡ standing_in old.site
     by (Ok moved) does = stands_same (Rattle.geo_site.specs.Machine.with_stock (Rattle.geo_values.specs.Stock.juggled_in class (state_in old.site).stock) (state_in old.site)) new.site (heard_in old.site) (waiting_in old.site) (counts_in old.site) does.1 d.stays.2 d.rests.1 d.rests.0

@@ -30,33 +30,34 @@ get_or_any [] i d e h = absurd (omega arith)
 get_or_any (x ∷ xs) zero d e h = refl
 get_or_any (x ∷ xs) (suc i) d e h = get_or_any xs i d e (omega (arith, h))
 
--- ---- one more step in a list
-pub replays_more : (who : Who) (first mid last : Standing) (steps : List Step) (s : Step) → Replays who first steps mid → StepsTo who mid s.event s.answer s.victim s.made last → Replays who first (steps ++ s ∷ []) last
-replays_more who first mid last [] s is leads = (last, subst (λ st. StepsTo who st s.event s.answer s.victim s.made last) is leads, refl)
-replays_more who first mid last (x ∷ xs) s rest leads = (rest.0, rest.1, replays_more who rest.0 mid last xs s rest.2 leads)
+-- ---- more steps in a list
+pub replays_append : (who : Who) (first mid last : Standing) (steps more : List Step) → Replays who first steps mid → Replays who mid more last → Replays who first (steps ++ more) last
+replays_append who first mid last [] more is rest = subst (λ st. Replays who st more last) is rest
+replays_append who first mid last (x ∷ xs) more got rest = (got.0, got.1, replays_append who got.0 mid last xs more got.2 rest)
 
-pub numbered_more : (from : ℕ) (steps : List Step) (s : Step) → is_numbered from steps ≡ true → s.number ≡ from + length steps → is_numbered from (steps ++ s ∷ []) ≡ true
-numbered_more from [] s h e = grind (arith, nat_tests)
-numbered_more from (x ∷ xs) s h e =
-    let rest : is_numbered (from + 1) xs ≡ true = grind (arith, nat_tests, h) in
-    let more = numbered_more (from + 1) xs s rest (omega (arith, e)) in
-    grind (arith, nat_tests, h, more)
+pub numbered_append : (from : ℕ) (steps more : List Step) → is_numbered from steps ≡ true → is_numbered (from + length steps) more ≡ true → is_numbered from (steps ++ more) ≡ true
+numbered_append from [] more h rest = subst (λ n. is_numbered n more ≡ true) (omega arith) rest
+numbered_append from (x ∷ xs) more h rest =
+    let here : is_numbered (from + 1) xs ≡ true = grind (arith, nat_tests, h) in
+    let on : from + length (x ∷ xs) ≡ from + 1 + length xs = omega arith in
+    let behind = numbered_append (from + 1) xs more here (subst (λ n. is_numbered n more ≡ true) on rest) in
+    grind (arith, nat_tests, h, behind)
 
-pub steps_append : (seat : ℕ) (steps : List Step) (s : Step) → steps_of seat (steps ++ s ∷ []) ≡ steps_of seat steps ++ steps_of seat (s ∷ [])
-steps_append seat [] s = refl
-steps_append seat (x ∷ xs) s =
-    elim (x.seat == seat) as (λ b. (if b then x ∷ steps_of seat (xs ++ s ∷ []) else steps_of seat (xs ++ s ∷ [])) ≡ (if b then x ∷ steps_of seat xs else steps_of seat xs) ++ steps_of seat (s ∷ []))
-    [ true ↦ ap (λ w. x ∷ w) (steps_append seat xs s) | false ↦ steps_append seat xs s ]
+pub of_append : (seat : ℕ) (steps more : List Step) → steps_of seat (steps ++ more) ≡ steps_of seat steps ++ steps_of seat more
+of_append seat [] more = refl
+of_append seat (x ∷ xs) more =
+    elim (x.seat == seat) as (λ b. (if b then x ∷ steps_of seat (xs ++ more) else steps_of seat (xs ++ more)) ≡ (if b then x ∷ steps_of seat xs else steps_of seat xs) ++ steps_of seat more)
+    [ true ↦ ap (λ w. x ∷ w) (of_append seat xs more) | false ↦ of_append seat xs more ]
 
 pub steps_mine : (seat : ℕ) (steps : List Step) (s : Step) → s.seat ≡ seat → steps_of seat (steps ++ s ∷ []) ≡ steps_of seat steps ++ s ∷ []
 steps_mine seat steps s e =
     let same : (s.seat == seat) ≡ true = grind (arith, nat_tests) in
-    steps_append seat steps s ∙ ap (λ (b : Bool). steps_of seat steps ++ (if b then s ∷ [] else [])) same
+    of_append seat steps (s ∷ []) ∙ ap (λ (b : Bool). steps_of seat steps ++ (if b then s ∷ [] else [])) same
 
 pub steps_other : (seat : ℕ) (steps : List Step) (s : Step) → (s.seat ≡ seat → ⊥) → steps_of seat (steps ++ s ∷ []) ≡ steps_of seat steps
 steps_other seat steps s e =
     let differs : (s.seat == seat) ≡ false = grind (arith, nat_tests) in
-    steps_append seat steps s ∙ ap (λ (b : Bool). steps_of seat steps ++ (if b then s ∷ [] else [])) differs ∙ append-nil (steps_of seat steps)
+    of_append seat steps (s ∷ []) ∙ ap (λ (b : Bool). steps_of seat steps ++ (if b then s ∷ [] else [])) differs ∙ append-nil (steps_of seat steps)
 
 -- ---- one more step of a seat
 module _ (opening : Opening) (steps : List Step) (seat : ℕ) (event : Event) (answer : Answer) (victim : Option (List ℕ)) (made : Option (List ℕ × ℕ)) where
@@ -88,16 +89,6 @@ module _ (opening : Opening) (steps : List Step) (seat : ℕ) (event : Event) (a
         omega (arith, more, long, n, h.counted seat below, h.total);
   }
 
-  pub keeps_more : (who : Who) (mid last : Standing) → Keeps who opening steps mid → StepsTo who mid event answer victim made last → Keeps who opening (steps ++ s ∷ []) last
-  keeps_more who mid last h leads = record {
-    first = h.first;
-    opens = h.opens;
-    replays = replays_more who h.first mid last steps s h.replays leads;
-    numbered = λ k. by_seat (λ k. is_numbered (opened_with opening k + 1) (steps_of k (steps ++ s ∷ [])) ≡ true)
-        (rw (steps_mine seat steps s refl) (numbered_more (opened_with opening seat + 1) (steps_of seat steps) s (h.numbered seat) (omega arith)))
-        (λ k ne. rw (steps_other k steps s ne) (h.numbered k)) k (seat == k) refl;
-  }
-
 -- ---- a call
 who_stays : (old new : Site) → new.number ≡ old.number → Rattle.geo_site.specs.Sites.limits_of new ≡ Rattle.geo_site.specs.Sites.limits_of old → who_in new ≡ who_in old
 who_stays old new n l = λ i. record { number = n i; limits = l i }
@@ -108,26 +99,75 @@ keeps_at old new more who on h =
     (subst (λ (o : Opening). Keeps (who_in old.site) o new.steps (standing_in new.site)) (sym on.opening)
     (subst (λ (ss : List Step). Keeps (who_in old.site) old.opening ss (standing_in new.site)) (sym on.more) h))
 
+-- these steps more lead from where the site stood to where it stands, and each seat's are numbered on
+pub record Continues (old new : Story) (more : List Step) : Type 0 where
+  pub goes_on : GoesOn old new more
+  pub who : who_in new.site ≡ who_in old.site
+  pub replays : Replays (who_in old.site) (standing_in old.site) more (standing_in new.site)
+  pub numbered : (seat : ℕ) → is_numbered (made_by old seat + 1) (steps_of seat more) ≡ true
+
+-- so the history is one again
+pub continues_kept : (old new : Story) (more : List Step) → Continues old new more → IsKept old → IsKept new
+continues_kept old new more c kept = keeps_at old new more c.who c.goes_on (record {
+  first = kept.first;
+  opens = kept.opens;
+  replays = replays_append (who_in old.site) kept.first (standing_in old.site) (standing_in new.site) old.steps more kept.replays c.replays;
+  numbered = λ seat.
+      let on : made_by old seat + 1 ≡ opened_with old.opening seat + 1 + length (steps_of seat old.steps) = omega arith in
+      rw (of_append seat old.steps more) (numbered_append (opened_with old.opening seat + 1) (steps_of seat old.steps) (steps_of seat more) (kept.numbered seat) (subst (λ n. is_numbered n (steps_of seat more) ≡ true) on (c.numbered seat)));
+})
+
+-- how many steps of a seat there are then
+pub made_more : (old new : Story) (more : List Step) → GoesOn old new more → (seat : ℕ) → made_by new seat ≡ made_by old seat + length (steps_of seat more)
+made_more old new more on seat = ap (λ (o : Opening). made_in o new.steps seat) on.opening ∙ ap (λ (ss : List Step). made_in old.opening ss seat) on.more
+    ∙ (rw (of_append seat old.steps more, length-append (steps_of seat old.steps) (steps_of seat more)) (omega arith))
+
 -- one that makes a step
-pub kept_more : (old new : Story) (seat : ℕ) (event : Event) (answer : Answer) (victim : Option (List ℕ)) (made : Option (List ℕ × ℕ)) → IsKept old → new.site.number ≡ old.site.number → Rattle.geo_site.specs.Sites.limits_of new.site ≡ Rattle.geo_site.specs.Sites.limits_of old.site
-    → StepsTo (who_in old.site) (standing_in old.site) event answer victim made (standing_in new.site) → GoesOn old new (step_with seat (made_by old seat + 1) event answer victim made ∷ []) → IsKept new
-kept_more old new seat event answer victim made kept number limits leads on =
-    keeps_at old new (step_with seat (made_by old seat + 1) event answer victim made ∷ []) (who_stays old.site new.site number limits) on
-    (keeps_more old.opening old.steps seat event answer victim made (who_in old.site) (standing_in old.site) (standing_in new.site) kept leads)
+module _ (old new : Story) (seat : ℕ) (event : Event) (answer : Answer) (victim : Option (List ℕ)) (made : Option (List ℕ × ℕ)) where
+  abbrev next : Step
+  next = step_with seat (made_by old seat + 1) event answer victim made
+
+  numbered_one : (k : ℕ) (b : Bool) → (seat == k) ≡ b → is_numbered (made_by old k + 1) (if b then next ∷ [] else []) ≡ true
+  numbered_one k true e =
+      let same : seat ≡ k = grind (arith, nat_tests) in
+      let here : is_numbered (made_by old seat + 1) (next ∷ []) ≡ true = grind (arith, nat_tests) in
+      subst (λ k. is_numbered (made_by old k + 1) (next ∷ []) ≡ true) same here
+  numbered_one k false e = refl
+
+  pub continues_more : new.site.number ≡ old.site.number → Rattle.geo_site.specs.Sites.limits_of new.site ≡ Rattle.geo_site.specs.Sites.limits_of old.site
+      → StepsTo (who_in old.site) (standing_in old.site) event answer victim made (standing_in new.site) → GoesOn old new (next ∷ []) → Continues old new (next ∷ [])
+  continues_more number limits leads on = record {
+    goes_on = on;
+    who = who_stays old.site new.site number limits;
+    replays = (standing_in new.site, leads, refl);
+    numbered = λ k. numbered_one k (seat == k) refl;
+  }
 
 -- one that makes none
-pub kept_still : (old new : Story) → IsKept old → new.site.number ≡ old.site.number → Rattle.geo_site.specs.Sites.limits_of new.site ≡ Rattle.geo_site.specs.Sites.limits_of old.site → standing_in new.site ≡ standing_in old.site → GoesOn old new [] → IsKept new
-kept_still old new kept number limits stands on =
-    keeps_at old new [] (who_stays old.site new.site number limits) on
-    (rw (append-nil old.steps) (subst (λ (st : Standing). Keeps (who_in old.site) old.opening old.steps st) (sym stands) kept))
+pub continues_still : (old new : Story) → new.site.number ≡ old.site.number → Rattle.geo_site.specs.Sites.limits_of new.site ≡ Rattle.geo_site.specs.Sites.limits_of old.site → standing_in new.site ≡ standing_in old.site → GoesOn old new [] → Continues old new []
+continues_still old new number limits stands on = record { goes_on = on; who = who_stays old.site new.site number limits; replays = stands; numbered = λ k. refl }
+
+-- two, one after the other
+pub continues_both : (old mid new : Story) (first after : List Step) → Continues old mid first → Continues mid new after → Continues old new (first ++ after)
+continues_both old mid new first after one two = record {
+  goes_on = record {
+    opening = two.goes_on.opening ∙ one.goes_on.opening;
+    more = two.goes_on.more ∙ ap (λ (ss : List Step). ss ++ after) one.goes_on.more ∙ append_assoc old.steps first after;
+  };
+  who = two.who ∙ one.who;
+  replays = replays_append (who_in old.site) (standing_in old.site) (standing_in mid.site) (standing_in new.site) first after one.replays (subst (λ (w : Who). Replays w (standing_in mid.site) after (standing_in new.site)) one.who two.replays);
+  numbered = λ seat.
+      let on : made_by mid seat + 1 ≡ made_by old seat + 1 + length (steps_of seat first) = let h = made_more old mid first one.goes_on seat in omega (arith, h) in
+      rw (of_append seat first after) (numbered_append (made_by old seat + 1) (steps_of seat first) (steps_of seat after) (one.numbered seat) (subst (λ n. is_numbered n (steps_of seat after) ≡ true) on (two.numbered seat)));
+}
 
 -- a due flush
-pub flush_kept : (old new : Story) (seat now : ℕ) → IsKept old → FlushesAlone old new seat now → IsKept new
-flush_kept old new seat now kept does = by (is_flush_due old now) refl does.goes_on
+pub flush_continues : (old new : Story) (seat now : ℕ) → FlushesAlone old new seat now → Continues old new (flush_steps old seat now)
+flush_continues old new seat now does = by (is_flush_due old now) refl does.goes_on
   where
-    by : (t : Bool) → is_flush_due old now ≡ t → GoesOn old new (cond {A = List Step} t (step_of seat (made_by old seat + 1) (Tick now) (Ticked true) ∷ []) []) → IsKept new
-    by true e on = kept_more old new seat (Tick now) (Ticked true) None None kept does.flush.stays.0 does.flush.stays.1 (flush_leads old.site new.site now does.flush e) on
-    by false e on = kept_still old new kept does.flush.stays.0 does.flush.stays.1 (undue_stands old.site new.site now does.flush e) on
+    by : (t : Bool) → is_flush_due old now ≡ t → GoesOn old new (cond {A = List Step} t (step_of seat (made_by old seat + 1) (Tick now) (Ticked true) ∷ []) []) → Continues old new (cond {A = List Step} t (step_of seat (made_by old seat + 1) (Tick now) (Ticked true) ∷ []) [])
+    by true e on = continues_more old new seat (Tick now) (Ticked true) None None does.flush.stays.0 does.flush.stays.1 (flush_leads old.site new.site now does.flush e) on
+    by false e on = continues_still old new does.flush.stays.0 does.flush.stays.1 (undue_stands old.site new.site now does.flush e) on
 
 -- how many steps there are after it
 pub made_flushed : (old new : Story) (seat now : ℕ) → GoesOn old new (flush_steps old seat now) → made_by new seat ≡ made_by old seat + flush_count old now
@@ -138,27 +178,25 @@ made_flushed old new seat now on = ap (λ (o : Opening). made_in o new.steps sea
     by false = rw (append-nil old.steps) (omega arith)
 
 -- one that makes a step after that of a due flush
-module _ (old new : Story) (seat now : ℕ) (mid : Site) (kept : IsKept old) (flush : FlushDoes old.site mid now) where
+module _ (old new : Story) (seat now : ℕ) (mid : Site) (flush : FlushDoes old.site mid now) where
   abbrev pub between : Story
   between = record { site = mid; opening = old.opening; steps = old.steps ++ flush_steps old seat now }
 
   goes_between : GoesOn old between (flush_steps old seat now)
   goes_between = record { opening = refl; more = refl }
 
-  pub kept_after : (event : Event) (answer : Answer) (victim : Option (List ℕ)) (made : Option (List ℕ × ℕ)) → new.site.number ≡ mid.number → Rattle.geo_site.specs.Sites.limits_of new.site ≡ Rattle.geo_site.specs.Sites.limits_of mid
-      → StepsTo (who_in mid) (standing_in mid) event answer victim made (standing_in new.site) → GoesOn old new (flush_steps old seat now ++ step_with seat (number_after old seat now) event answer victim made ∷ []) → IsKept new
-  kept_after event answer victim made number limits leads on =
+  pub continues_after : (event : Event) (answer : Answer) (victim : Option (List ℕ)) (made : Option (List ℕ × ℕ)) → new.site.number ≡ mid.number → Rattle.geo_site.specs.Sites.limits_of new.site ≡ Rattle.geo_site.specs.Sites.limits_of mid
+      → StepsTo (who_in mid) (standing_in mid) event answer victim made (standing_in new.site) → GoesOn old new (flush_steps old seat now ++ step_with seat (number_after old seat now) event answer victim made ∷ [])
+      → Continues old new (flush_steps old seat now ++ step_with seat (number_after old seat now) event answer victim made ∷ [])
+  continues_after event answer victim made number limits leads on =
       let h = made_flushed old between seat now goes_between in
-      let first = flush_kept old between seat now kept (record { flush = flush; goes_on = goes_between }) in
+      let first = flush_continues old between seat now (record { flush = flush; goes_on = goes_between }) in
       let more : new.steps ≡ between.steps ++ step_with seat (made_by between seat + 1) event answer victim made ∷ [] =
       on.more ∙ sym (append_assoc old.steps (flush_steps old seat now) (step_with seat (number_after old seat now) event answer victim made ∷ []))
       ∙ ap (λ n. between.steps ++ step_with seat (n + 1) event answer victim made ∷ []) (sym h) in
-      kept_more between new seat event answer victim made first number limits leads (record { opening = on.opening; more = more })
-
--- nothing, or a due flush alone
-pub nothing_kept : (old new : Story) (seat now : ℕ) → IsKept old → DoesNothing old new seat now → IsKept new
-nothing_kept old new seat now kept (inl same) = subst IsKept (sym same) kept
-nothing_kept old new seat now kept (inr flushes) = flush_kept old new seat now kept flushes
+      let after = continues_more between new seat event answer victim made number limits leads (record { opening = on.opening; more = more }) in
+      subst (λ n. Continues old new (flush_steps old seat now ++ step_with seat (n + 1) event answer victim made ∷ [])) h
+      (continues_both old between new (flush_steps old seat now) (step_with seat (made_by between seat + 1) event answer victim made ∷ []) first after)
 
 -- ---- an empty history
 pub describes_none : (state : SiteState) (sites : ℕ) → state ≡ record { floor = None; records = []; vector = zeros sites; rows = none_heard sites; held = []; waiting = None; hits = 0; misses = 0; evictions = 0 } → Describes state (nothing_yet sites)

@@ -1,5 +1,5 @@
 -- The steps of an era, logged or in the proofs alone.
-use Rattle.std.specs.Prelude.{◌≡◌, ℕ, Bool, true, false, cond, List, [], map, Option, None, Some}
+use Rattle.std.specs.Prelude.{◌≡◌, ℕ, ◌-◌, Bool, true, false, cond, List, [], length, map, Option, None, Some, slice_get}
 use Rattle.geo_chunks.specs.Chunking.{Chunked}
 use Rattle.geo_history.specs.declared.step.Step.{Step}
 use Rattle.geo_history.specs.declared.log.Unlogged.{Unlogged}
@@ -19,10 +19,14 @@ log_view chunks (Some other) = record { items = map (λ p. p.1) other.steps.item
 abbrev pub logged_in : LogView → List Step
 logged_in log = cond log.logged log.items []
 
--- those that are logged are counted, and of others none is there as data
+-- the last of steps, if there is one
+abbrev pub last_step : List Step → Option Step
+last_step steps = slice_get steps (length steps - 1)
+
+-- those that are logged are counted, and of others the last alone is there as data
 abbrev pub IsNone : List Step → Option Unlogged → Type 0
 IsNone steps None = Unit {0}
-IsNone steps (Some other) = steps ≡ []
+IsNone steps (Some other) = (steps ≡ []) × (other.last ≡ last_step (map (λ p. p.1) other.steps.items))
 
 pub record IsLogged (steps : List Step) (bytes : ℕ) (unlogged : Option Unlogged) : Type 0 where
   pub counted : bytes ≡ kept_bytes steps

@@ -37,6 +37,10 @@ StaysTold old new = (setup_in new ≡ setup_in old) × (most_bytes_in new ≡ mo
 abbrev pub is_full : Kept → Bool
 is_full kept = fills (most_bytes_in kept) (logged_steps kept)
 
+-- nothing was done at the site yet
+abbrev pub IsNew : Kept → Type 0
+IsNew kept = OpensEmpty (setup_in kept) (story_in kept)
+
 abbrev pub KeptOpens : Setup → Result Kept SetupError → Type 0
 KeptOpens setup (Ok kept) = OpensEmpty setup (story_in kept)
 KeptOpens setup (Err why) = SetupRefuses setup why

@@ -40,10 +40,11 @@ fn no_steps(alloc: Global) -> Result<Vec<u64>, AllocError>
 }
 
 impl Kept {
-    ghost use Rattle.std.specs.Prelude.{◌≡◌, ◌+◌, true, IfOk, IfSome, None, Some};
+    ghost use Rattle.std.specs.Prelude.{◌≡◌, ◌+◌, true, option_copied, IfOk, IfSome, None, Some};
     ghost use Rattle.geo_site.specs.Machine.{Numbered};
     ghost use Rattle.geo_site.specs.Sites.{state_in};
     ghost use Rattle.geo_history.specs.Keeping.{most_steps, made_by};
+    ghost use Rattle.geo_history.specs.Logging.{last_step};
     ghost use Rattle.geo_history.specs.Sizes.{kept_bytes};
     ghost use Rattle.geo_history.specs.Stories.{story_in, setup_in, most_bytes_in, is_logged, logged_steps, is_full, StaysTold, KeptOpens, IsHistoryOf, NewEraDoes};
 
@@ -110,6 +111,13 @@ impl Kept {
         &self.parts.site
     }
 
+    /// What the site was told at its start.
+    pub fn setup(&self) -> &Setup
+        ensures { result.now ≡ setup_in self.now }
+    {
+        &self.parts.setup
+    }
+
     /// The site's number.
     pub fn number(&self) -> u8
         ensures number { result ≡ (story_in self.now).site.number }
@@ -144,6 +152,13 @@ impl Kept {
         ensures { result.now.items ≡ logged_steps self.now }
     {
         self.parts.steps.steps()
+    }
+
+    /// The last step of the era, if there is one, logged or not.
+    pub fn last(&self) -> Option<&Step>
+        ensures { option_copied result ≡ last_step (story_in self.now).steps }
+    {
+        self.parts.steps.last()
     }
 
     /// How many bytes the steps so far keep that are logged: the lengths of what they own, and a fixed size for each step and for each

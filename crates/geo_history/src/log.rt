@@ -1,7 +1,7 @@
 //! The steps of an era.
-ghost use Rattle.std.specs.Prelude.{◌≡◌, ◌≤◌, ◌+◌, ◌++◌, ◌∷◌, [], IfOk, OnOk, OnErr};
+ghost use Rattle.std.specs.Prelude.{◌≡◌, ◌≤◌, ◌+◌, ◌++◌, ◌∷◌, [], Some, option_copied, IfOk, OnOk, OnErr};
 ghost use Rattle.geo_chunks.specs.Chunking.{most_in_chunk};
-ghost use Rattle.geo_history.specs.Logging.{logged_in};
+ghost use Rattle.geo_history.specs.Logging.{logged_in, last_step};
 ghost use Rattle.geo_history.specs.Sizes.{kept_bytes};
 
 use crate::step::Step;
@@ -10,12 +10,20 @@ use http_server::Log as Traces;
 use std::alloc::{AllocError, Global};
 use std::marker::Model;
 
-/// Steps that proofs alone have, for they were not logged.
+/// Steps that proofs alone have, for they were not logged, but for the last.
 #[derive(Drop)]
 pub struct Unlogged {
     pub(crate) steps: Traces<(), Step>,
     /// For how many more steps room was asked for.
     pub(crate) room: usize,
+    pub(crate) last: Option<Step>,
+}
+
+/// Keeps a step, and lets go of the one before it.
+fn keep(last: &mut Option<Step>, step: Step)
+    ensures { last.new ≡ Some step }
+{
+    *last = Some(step);
 }
 
 /// The steps of an era, logged or not, and how many bytes those keep that are logged. Contracts see the steps, for how many more there
@@ -56,6 +64,7 @@ impl Log {
         let unlogged = Unlogged {
             steps: Traces::new(),
             room: 0,
+            last: None,
         };
         Ok(Log {
             steps,
@@ -99,11 +108,25 @@ impl Log {
             Some(unlogged) => {
                 unlogged.steps = unlogged.steps.and(&(), &step);
                 unlogged.room -= 1;
+                keep(&mut unlogged.last, step);
             }
             None => {
                 let bytes = self.bytes.saturating_add(step.bytes());
                 self.bytes = bytes;
                 self.steps.push(step);
+            }
+        }
+    }
+
+    /// The last step, if there is one, logged or not.
+    pub fn last(&self) -> Option<&Step>
+        ensures { option_copied result ≡ last_step self.now.items }
+    {
+        match &self.unlogged {
+            Some(unlogged) => unlogged.last.as_ref(),
+            None => {
+                let place = self.steps.len().checked_sub(1)?;
+                self.steps.get(place)
             }
         }
     }

@@ -6,11 +6,10 @@ use geo_link::{Link, LinkError};
 use geo_scenes::Stop;
 use geo_scenes::texts::word;
 use geo_site::{Filled, Site};
-use geo_station::{CallError, Seat, Station};
+use geo_station::{CallError, Room, Seat, Station};
 use geo_versions::{Digest, Key};
 use std::alloc::{AllocError, Global};
 use std::sync::Wait;
-use std::sync::ledger::Ledger;
 
 fn key_of(alloc: Global, text: &[u8]) -> Result<Key, Stop> {
     match Key::new(alloc, text)? {
@@ -20,7 +19,7 @@ fn key_of(alloc: Global, text: &[u8]) -> Result<Key, Stop> {
 }
 
 /// Tells which key is missing first at the moment 100.
-pub fn miss<L: Ledger, R: Wait>(
+pub fn miss<L: Room, R: Wait>(
     rt: &R,
     alloc: Global,
     station: &Station<L>,
@@ -33,7 +32,7 @@ pub fn miss<L: Ledger, R: Wait>(
 }
 
 /// Tells the bytes of a key that are held and have the SHA-256 of these.
-pub fn offer<L: Ledger, R: Wait>(
+pub fn offer<L: Room, R: Wait>(
     rt: &R,
     alloc: Global,
     station: &Station<L>,
@@ -49,7 +48,7 @@ pub fn offer<L: Ledger, R: Wait>(
 }
 
 /// Offers the station's site bytes of a key.
-pub fn fill<L: Ledger, R: Wait>(
+pub fn fill<L: Room, R: Wait>(
     rt: &R,
     alloc: Global,
     station: &Station<L>,
@@ -135,7 +134,7 @@ impl Link for Answering<'_> {
 
 /// Fetches what is missing at the moment 100 from the second site, as many values as are due. Where memory is wanted, fewer come, and
 /// the rest when it is fetched again.
-pub fn fetch_all<L: Ledger, R: Wait>(
+pub fn fetch_all<L: Room, R: Wait>(
     rt: &R,
     alloc: Global,
     station: &Station<L>,

@@ -6,10 +6,9 @@ use geo_lattice::Twin;
 use geo_link::{Link, LinkError, MemoryLink, memory_link};
 use geo_scenes::Stop;
 use geo_scenes::texts::word;
-use geo_station::{Seat, Station};
+use geo_station::{Room, Seat, Station};
 use std::alloc::Global;
 use std::sync::Wait;
-use std::sync::ledger::Ledger;
 
 fn link(alloc: Global) -> Result<(MemoryLink, MemoryLink), Stop> {
     match memory_link(alloc, 16) {
@@ -20,7 +19,7 @@ fn link(alloc: Global) -> Result<(MemoryLink, MemoryLink), Stop> {
 }
 
 /// A round to sites 2 and 3, whose links are then let go.
-fn put_round<L: Ledger, R: Wait>(
+fn put_round<L: Room, R: Wait>(
     rt: &R,
     alloc: Global,
     station: &Station<L>,
@@ -59,7 +58,7 @@ fn keep(
 }
 
 /// One round to sites 2 and 3. Where memory is wanted for a parcel, those before it were put.
-pub fn tell_all<L: Ledger, R: Wait>(
+pub fn tell_all<L: Room, R: Wait>(
     rt: &R,
     alloc: Global,
     station: &Station<L>,
@@ -105,7 +104,7 @@ fn put<R: Wait>(rt: &R, alloc: Global, link: &mut MemoryLink, parcel: &Parcel) -
 }
 
 /// The site takes parcels that come over a link. Those for which memory is wanted are let go, and come again.
-pub fn hear_all<L: Ledger, R: Wait>(
+pub fn hear_all<L: Room, R: Wait>(
     rt: &R,
     alloc: Global,
     station: &Station<L>,

@@ -1,7 +1,5 @@
 //! Calls of seats at a station, and its end.
-ghost use Rattle.std.specs.Prelude.{◌≡◌, ℕ, []};
-ghost use Rattle.geo_history.specs.Keeping.{opened_with};
-ghost use Rattle.geo_history.specs.Stories.{story_in};
+ghost use Rattle.std.specs.Prelude.{◌≡◌};
 
 use crate::fills::{fetch_all, fill, miss, offer};
 use crate::rounds::{hear_all, tell_all};
@@ -18,13 +16,12 @@ use geo_scenes::shown::{
 use geo_scenes::texts::{request, word};
 use geo_scenes::{Course, Scene, Stop, carry_out};
 use geo_site::{LAST_MOMENT, RetireError, SendError, Site, TakeError, Taken};
-use geo_station::{CallError, Maintained, Returned, Seat, Station, Unclosed, Why};
+use geo_station::{CallError, Maintained, Returned, Room, Seat, Station, Unclosed, Unopened, Why};
 use std::alloc::{AllocError, Global};
 use std::marker::Brand;
 use std::random::RandomSource;
 use std::rt::Clock;
 use std::sync::Wait;
-use std::sync::ledger::{Blank, Ledger};
 use std::{io, mem};
 
 /// A call at a station, whose seat, 0 or 1, comes first, or at a second site. Moments are in seconds.
@@ -80,7 +77,7 @@ pub enum Sight {
 
 /// A station with its two seats, and a second site.
 #[derive(Drop)]
-pub struct Post<L: Ledger> {
+pub struct Post<L: Room> {
     station: Option<Station<L>>,
     seats: Vec<Seat<L>>,
     beside: Site,
@@ -102,7 +99,7 @@ const NOTHING_DONE: Maintained = Maintained {
     refused: false,
 };
 
-fn act<L: Ledger, R: Wait>(
+fn act<L: Room, R: Wait>(
     rt: &R,
     alloc: Global,
     station: &Station<L>,
@@ -129,7 +126,7 @@ fn keep(parcels: &mut Vec<Parcel>, parcel: Parcel, out: &mut Vec<u8>) -> Result<
     Ok(())
 }
 
-fn send<L: Ledger, R: Wait>(
+fn send<L: Room, R: Wait>(
     rt: &R,
     alloc: Global,
     station: &Station<L>,
@@ -166,7 +163,7 @@ fn handed_back(returned: &Returned, whole: &Parcel, out: &mut Vec<u8>) -> Result
     }
 }
 
-fn take<L: Ledger, R: Wait>(
+fn take<L: Room, R: Wait>(
     rt: &R,
     alloc: Global,
     station: &Station<L>,
@@ -181,7 +178,7 @@ fn take<L: Ledger, R: Wait>(
     }
 }
 
-fn retire<L: Ledger, R: Wait>(
+fn retire<L: Room, R: Wait>(
     rt: &R,
     alloc: Global,
     station: &Station<L>,
@@ -215,7 +212,7 @@ fn tell_done(done: Maintained, out: &mut Vec<u8>) -> Result<(), AllocError> {
 }
 
 /// Where a part of it was refused, made again it does the rest.
-fn maintain<L: Ledger, R: Wait>(
+fn maintain<L: Room, R: Wait>(
     rt: &R,
     alloc: Global,
     station: &Station<L>,
@@ -245,7 +242,7 @@ fn steps_in(history: &History) -> u64 {
     count
 }
 
-fn renew<L: Ledger, R: Wait>(
+fn renew<L: Room, R: Wait>(
     rt: &R,
     alloc: Global,
     station: &Station<L>,
@@ -265,7 +262,7 @@ fn renew<L: Ledger, R: Wait>(
 }
 
 /// Begins two eras, so that the second tells what the site is.
-fn look<L: Ledger, R: Wait>(
+fn look<L: Room, R: Wait>(
     rt: &R,
     alloc: Global,
     station: &Station<L>,
@@ -283,7 +280,7 @@ fn look<L: Ledger, R: Wait>(
 }
 
 /// The history of a station that is closed without its last seat, which is refused, and then with it. It takes no memory.
-fn closed<L: Ledger>(station: Station<L>, mut seats: Vec<Seat<L>>) -> Result<History, Stop> {
+fn closed<L: Room>(station: Station<L>, mut seats: Vec<Seat<L>>) -> Result<History, Stop> {
     let Some(last) = seats.pop() else {
         return Err(Stop::Wrong("no seats"));
     };
@@ -347,7 +344,7 @@ fn parcel_of(parcels: &Vec<Parcel>, number: usize) -> Result<&Parcel, Stop> {
     }
 }
 
-fn seat_of<L: Ledger>(seats: &mut Vec<Seat<L>>, number: usize) -> Result<&mut Seat<L>, Stop> {
+fn seat_of<L: Room>(seats: &mut Vec<Seat<L>>, number: usize) -> Result<&mut Seat<L>, Stop> {
     match seats.get_mut(number) {
         Some(seat) => Ok(seat),
         None => Err(Stop::Wrong("no such seat")),
@@ -355,7 +352,7 @@ fn seat_of<L: Ledger>(seats: &mut Vec<Seat<L>>, number: usize) -> Result<&mut Se
 }
 
 /// The calls that a seat keeps.
-fn push_calls<L: Ledger>(out: &mut Vec<u8>, seat: &Seat<L>) -> Result<(), AllocError> {
+fn push_calls<L: Room>(out: &mut Vec<u8>, seat: &Seat<L>) -> Result<(), AllocError> {
     push_number(out, seat.calls().len() as u64)?;
     for call in seat.calls() {
         push_event(out, &call.event)?;
@@ -364,7 +361,7 @@ fn push_calls<L: Ledger>(out: &mut Vec<u8>, seat: &Seat<L>) -> Result<(), AllocE
     Ok(())
 }
 
-fn push_all_calls<L: Ledger>(out: &mut Vec<u8>, seats: &Vec<Seat<L>>) -> Result<(), AllocError> {
+fn push_all_calls<L: Room>(out: &mut Vec<u8>, seats: &Vec<Seat<L>>) -> Result<(), AllocError> {
     for seat in seats {
         push_calls(out, seat)?;
     }
@@ -395,7 +392,7 @@ fn push_ended(out: &mut Vec<u8>, ended: &Vec<History>, sight: Sight) -> Result<(
 }
 
 /// Makes a call by a seat.
-fn seated<L: Ledger, R: Wait>(
+fn seated<L: Room, R: Wait>(
     rt: &R,
     alloc: Global,
     station: &Station<L>,
@@ -431,7 +428,7 @@ fn seated<L: Ledger, R: Wait>(
     }
 }
 
-impl<L: Ledger> Post<L> {
+impl<L: Room> Post<L> {
     fn by_seat<R: Wait>(
         &mut self,
         rt: &R,
@@ -533,7 +530,7 @@ impl<L: Ledger> Post<L> {
     }
 }
 
-impl<L: Ledger> Scene for Post<L> {
+impl<L: Room> Scene for Post<L> {
     fn count(&self) -> usize {
         self.rows.lines().len()
     }
@@ -605,7 +602,7 @@ impl<L: Ledger> Scene for Post<L> {
 }
 
 /// Two seats of a station.
-fn two_seats<L: Ledger, R: Wait>(
+fn two_seats<L: Room, R: Wait>(
     rt: &R,
     alloc: Global,
     station: &Station<L>,
@@ -620,21 +617,19 @@ fn two_seats<L: Ledger, R: Wait>(
 }
 
 /// A station of two seats round a site.
-fn post_at<L: Ledger, R: Wait>(
+fn post_at<L: Room, R: Wait>(
     rt: &R,
     alloc: Global,
-    blank: Blank,
-    kept: Kept,
+    unopened: Unopened,
     beside: Site,
     rows: Rows,
 ) -> Result<Post<L>, Stop>
-    requires name { blank.name ≡ L.name }
-    requires parts { blank.parts ≡ L.parts }
-    requires two { blank.parts ≡ 2 }
-    requires steps { (story_in kept).steps ≡ [] }
-    requires opening { (seat : ℕ) → opened_with (story_in kept).opening seat ≡ 0 }
+    requires name { unopened.name ≡ L.name }
+    requires parts { unopened.parts ≡ L.parts }
+    requires table { unopened.table ≡ L.table }
+    requires two { unopened.parts ≡ 2 }
 {
-    let Ok(station) = Station::<L>::new(blank, kept, 2) else {
+    let Ok(station) = Station::<L>::new(unopened) else {
         return Err(Stop::Wrong("no station"));
     };
     let seats = two_seats(rt, alloc, &station)?;
@@ -651,22 +646,20 @@ fn post_at<L: Ledger, R: Wait>(
 }
 
 /// Makes calls at a station round a site.
-fn run_named<L: Ledger, R: Print + Wait + Clock>(
+fn run_named<L: Room, R: Print + Wait + Clock>(
     rt: &R,
     alloc: Global,
-    blank: Blank,
-    kept: Kept,
+    unopened: Unopened,
     beside: Site,
     rows: Rows,
     course: &mut Course,
 ) -> io::Result<Result<(), Stop>>
-    requires name { blank.name ≡ L.name }
-    requires parts { blank.parts ≡ L.parts }
-    requires two { blank.parts ≡ 2 }
-    requires steps { (story_in kept).steps ≡ [] }
-    requires opening { (seat : ℕ) → opened_with (story_in kept).opening seat ≡ 0 }
+    requires name { unopened.name ≡ L.name }
+    requires parts { unopened.parts ≡ L.parts }
+    requires table { unopened.table ≡ L.table }
+    requires two { unopened.parts ≡ 2 }
 {
-    let post = post_at::<L, R>(rt, alloc, blank, kept, beside, rows);
+    let post = post_at::<L, R>(rt, alloc, unopened, beside, rows);
     carry_out(rt, alloc, post, course)
 }
 
@@ -688,5 +681,8 @@ pub fn run<R: Print + Wait + Clock + RandomSource>(
     ) else {
         return Ok(Err(Stop::Wrong("no site")));
     };
-    run_named::<Brand, R>(rt, alloc, Blank::new(2), kept, beside, rows, course)
+    match Unopened::new(alloc, kept, 2) {
+        Ok(unopened) => run_named::<Brand, R>(rt, alloc, unopened, beside, rows, course),
+        Err(refused) => Ok(Err(refused.into())),
+    }
 }

@@ -1,9 +1,8 @@
 -- A seat of a tally that counts a request stays of its tally.
-use Rattle.std.proofs.Common.{◌≡◌, ◌⊎◌, inl, inr, Option, None, Some, IfSome, IfNone, ap}
+use Rattle.std.proofs.Common.{◌≡◌, ◌⊎◌, inl, inr, ℕ, Option, None, Some, IfSome, IfNone, ap}
 use Rattle.geo_grammar.specs.declared.request.Request.{Request}
 use Rattle.geo_grammar.specs.declared.reply.Reply.{Reply}
-use Rattle.geo_session.specs.Seats.{AnswersCounted, RefusesCounted, CountsOne}
-use Rattle.geo_station.specs.Seats.{Seated}
+use Rattle.geo_session.specs.Seats.{Asker, AnswersCounted, RefusesCounted, CountsOne}
 use Rattle.geo_station.specs.declared.refusal.SeatSpent.{SeatSpent}
 use Rattle.geo_tally.specs.Seats.{SeatView}
 use Rattle.geo_tally.specs.declared.counter.Counter.{Counter}
@@ -13,7 +12,18 @@ pub counts_one : (counter : Counter) (old new : SeatView) → CountsOne counter 
 counts_one counter old new (inl one) = ap (λ (s : SeatView). s.tally) one
 counts_one counter old new (inr spent) = ap (λ (s : SeatView). s.tally) spent.1
 
-pub tally_kept : (reply : Option Reply) (request : Request) (seat after : Seated) (old new : SeatView) → IfSome reply (λ r. AnswersCounted seat after old new request r)
-    → IfNone reply ((spent : SeatSpent) × RefusesCounted seat after old new request spent) → new.tally ≡ old.tally
-tally_kept (Some r) request seat after old new answers refuses = counts_one Requests old new answers.counted
-tally_kept None request seat after old new answers refuses = counts_one Requests old new refuses.1.counted
+pub tally_kept : (shows : ℕ → Type 0) (reply : Option Reply) (request : Request) (old new : Asker)
+    → IfSome reply (λ r. AnswersCounted shows old new request r)
+    → IfNone reply ((spent : SeatSpent) × RefusesCounted shows old new request spent) → new.counts.tally ≡ old.counts.tally
+tally_kept shows (Some r) request old new answers refuses = counts_one Requests old.counts new.counts answers.counted
+tally_kept shows None request old new answers refuses = counts_one Requests old.counts new.counts refuses.1.counted
+
+-- what is told beside an answer, left out
+pub answer_alone : (same : Type 0) (answers : Reply → Type 0) (reply : Option Reply) → IfSome reply (λ r. same × answers r) → IfSome reply answers
+answer_alone same answers (Some r) told = told.1
+answer_alone same answers None told = told
+
+pub refusal_alone : (same : Type 0) (refuses : SeatSpent → Type 0) (reply : Option Reply) → IfNone reply (same × (spent : SeatSpent) × refuses spent)
+    → IfNone reply ((spent : SeatSpent) × refuses spent)
+refusal_alone same refuses (Some r) told = told
+refusal_alone same refuses None told = (told.1, told.2)

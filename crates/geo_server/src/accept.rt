@@ -2,11 +2,11 @@
 use crate::mailbox::{Mailbox, least};
 use crate::registrar::Registrar;
 use crate::site::{Door, Shared};
+use geo_station::Room;
 use std::alloc::Global;
 use std::net::{OpenListener, TcpListener, TcpStream};
 use std::rt::Clock;
 use std::sync::Wait;
-use std::sync::ledger::Ledger;
 use std::thread;
 use std::time::Duration;
 
@@ -48,7 +48,7 @@ fn accept<R: Wait + Clock>(rt: &R, listener: TcpListener, sessions: u64, mailbox
 }
 
 impl Door for Entrance {
-    fn attend<R: Wait + Clock, L: Ledger, G>(
+    fn attend<R: Wait + Clock, L: Room, G>(
         self,
         rt: &R,
         _alloc: Global,

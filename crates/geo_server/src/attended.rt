@@ -8,6 +8,7 @@ use crate::report::write_all;
 use crate::site::{Door, Shared};
 use crate::telling::tell;
 use geo_grammar::Device;
+use geo_station::Room;
 use mio::net::TcpListener as Listener;
 use mio::{Events, Poll};
 use std::alloc::Global;
@@ -15,7 +16,6 @@ use std::io::{ErrorKind, Read, Write};
 use std::net::{Net, OpenListener, OpenStream, TcpListener};
 use std::rt::Clock;
 use std::sync::Wait;
-use std::sync::ledger::Ledger;
 use std::thread;
 use std::time::{Duration, Instant};
 
@@ -170,7 +170,7 @@ impl<'a, N: Net + Clock + Eprint, I: Read + Drop, W: Write + Drop> Attended<'a, 
     }
 
     /// Hears the operator, and does what is ordered but for a stop. Whether the site is to stop.
-    fn is_to_stop<R: Wait, L: Ledger>(
+    fn is_to_stop<R: Wait, L: Room>(
         &mut self,
         rt: &R,
         alloc: Global,
@@ -230,7 +230,7 @@ fn is_over<R: Clock>(rt: &R, since: Option<Instant>, time: Duration) -> bool {
 }
 
 impl<N: Net + Clock + Eprint, I: Read + Drop, W: Write + Drop> Door for Attended<'_, N, I, W> {
-    fn attend<R: Wait + Clock, L: Ledger, G>(
+    fn attend<R: Wait + Clock, L: Room, G>(
         self,
         rt: &R,
         alloc: Global,

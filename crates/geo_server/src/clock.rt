@@ -22,6 +22,10 @@ fn shown<R: rt::Clock>(rt: &R) -> u64 {
 }
 
 impl Clock for SystemClock {
+    ghost use Rattle.geo_server.specs.Moments.{IsMoment};
+
+    ghost shows = { λ _. IsMoment };
+
     fn now<R: rt::Clock>(&self, rt: &R) -> u64 {
         shown(rt).clamp(1, LAST_MOMENT)
     }

@@ -1,19 +1,19 @@
 //! The seats of a site's tally, which all come back to it.
 ghost use Rattle.std.specs.Prelude.{◌≡◌, IfSome, IfNone};
 ghost use Rattle.atomic_table.specs.Seated.{TableId};
-ghost use Rattle.geo_session.specs.Seats.{AnswersCounted, RefusesCounted};
+ghost use Rattle.geo_server.specs.Moments.{IsMoment};
+ghost use Rattle.geo_session.specs.Seats.{AnswersCounted, RefusesCounted, asker};
 ghost use Rattle.geo_station.specs.declared.refusal.SeatSpent.{SeatSpent};
 
 use crate::clock::SystemClock;
 use geo_grammar::{Reply, Request};
 use geo_session::{Backend, Counted};
-use geo_station::{Seat, Station};
+use geo_station::{Room, Seat, Station};
 use geo_tally::{Counter, Tally, TallySeat};
 use std::alloc::Global;
 use std::marker::{Brand, PhantomData};
 use std::rt;
 use std::sync::Wait;
-use std::sync::ledger::Ledger;
 
 /// Which tally the threads of a site count by. Contracts alone see it: a seat that a thread leaves is known by it to be of the tally
 /// that is closed.
@@ -55,7 +55,7 @@ impl<'a, N: Named> Counting<'a, N> {
     }
 
     /// Its seat, beside one of the station.
-    pub(crate) fn into_rested<L: Ledger>(self, seat: Seat<L>) -> Rested<L, N> {
+    pub(crate) fn into_rested<L: Room>(self, seat: Seat<L>) -> Rested<L, N> {
         let Counting { seat: counts, .. } = self;
         Rested::new(seat, counts)
     }
@@ -63,14 +63,14 @@ impl<'a, N: Named> Counting<'a, N> {
 
 /// The seats that a thread of a site leaves: the station's, and the tally's.
 #[derive(Drop)]
-pub(crate) struct Rested<L: Ledger, N: Named> {
+pub(crate) struct Rested<L: Room, N: Named> {
     pub(crate) seat: Seat<L>,
     pub(crate) counts: TallySeat,
     of: PhantomData<N>,
     ghost named: { counts.tally ≡ N.tally },
 }
 
-impl<L: Ledger, N: Named> Rested<L, N> {
+impl<L: Room, N: Named> Rested<L, N> {
     pub(crate) fn new(seat: Seat<L>, counts: TallySeat) -> Rested<L, N>
         requires { counts.tally ≡ N.tally }
     {
@@ -83,22 +83,23 @@ impl<L: Ledger, N: Named> Rested<L, N> {
 }
 
 /// Asks by a seat at a station. Its seat of a tally stays one of that tally.
-fn asked<R: Wait + rt::Clock, L: Ledger>(
+fn asked<R: Wait + rt::Clock, L: Room>(
     rt: &R,
     alloc: Global,
     counted: &mut Counted<'_, L, SystemClock>,
     request: Request,
 ) -> Option<Reply>
-    ensures some { IfSome result (λ reply. AnswersCounted counted.old.seat counted.new.seat counted.old.counts counted.new.counts request reply) }
-    ensures none { IfNone result ((spent : SeatSpent) × RefusesCounted counted.old.seat counted.new.seat counted.old.counts
-        counted.new.counts request spent) }
+    ensures some { IfSome result (λ reply. AnswersCounted IsMoment
+        (asker counted.old.seat counted.old.last counted.old.counts) (asker counted.new.seat counted.new.last counted.new.counts) request reply) }
+    ensures none { IfNone result ((spent : SeatSpent) × RefusesCounted IsMoment
+        (asker counted.old.seat counted.old.last counted.old.counts) (asker counted.new.seat counted.new.last counted.new.counts) request spent) }
     ensures tally { counted.new.counts.tally ≡ counted.old.counts.tally }
 {
     counted.act(rt, alloc, request)
 }
 
 /// Adds one to a counter. The seat of a tally stays one of that tally.
-fn add_one<L: Ledger>(counted: &mut Counted<'_, L, SystemClock>, counter: Counter)
+fn add_one<L: Room>(counted: &mut Counted<'_, L, SystemClock>, counter: Counter)
     ensures { counted.new.counts.tally ≡ counted.old.counts.tally }
 {
     counted.count(counter);
@@ -106,13 +107,13 @@ fn add_one<L: Ledger>(counted: &mut Counted<'_, L, SystemClock>, counter: Counte
 
 /// A worker's backend, whose seat of a tally stays one of the site's.
 #[derive(Drop)]
-pub(crate) struct Clerk<'a, L: Ledger, N: Named> {
+pub(crate) struct Clerk<'a, L: Room, N: Named> {
     counted: Counted<'a, L, SystemClock>,
     of: PhantomData<N>,
     ghost named: { counted.counts.tally ≡ N.tally },
 }
 
-impl<'a, L: Ledger, N: Named> Clerk<'a, L, N> {
+impl<'a, L: Room, N: Named> Clerk<'a, L, N> {
     pub(crate) fn new(
         station: &'a Station<L>,
         seat: Seat<L>,
@@ -142,14 +143,16 @@ impl<'a, L: Ledger, N: Named> Clerk<'a, L, N> {
     }
 }
 
-impl<L: Ledger, N: Named> Backend for Clerk<'_, L, N> {
+impl<L: Room, N: Named> Backend for Clerk<'_, L, N> {
     ghost use Rattle.geo_station.specs.declared.refusal.SeatSpent.{SeatSpent};
-    ghost use Rattle.geo_session.specs.Seats.{AnswersCounted, RefusesCounted};
+    ghost use Rattle.geo_session.specs.Seats.{AnswersCounted, RefusesCounted, asker};
+    ghost use Rattle.geo_server.specs.Moments.{IsMoment};
 
-    ghost answers = { λ old request reply new. AnswersCounted old.counted.seat new.counted.seat old.counted.counts new.counted.counts request reply };
+    ghost answers = { λ old request reply new. AnswersCounted IsMoment (asker old.counted.seat old.counted.last old.counted.counts)
+        (asker new.counted.seat new.counted.last new.counted.counts) request reply };
 
-    ghost refuses = { λ old request new. (spent : SeatSpent) × RefusesCounted old.counted.seat new.counted.seat old.counted.counts new.counted.counts
-        request spent };
+    ghost refuses = { λ old request new. (spent : SeatSpent) × RefusesCounted IsMoment
+        (asker old.counted.seat old.counted.last old.counted.counts) (asker new.counted.seat new.counted.last new.counted.counts) request spent };
 
     fn act<R: Wait + rt::Clock>(
         &mut self,

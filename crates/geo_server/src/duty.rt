@@ -12,17 +12,16 @@ use geo_gossip::{Peer, fetch, receive, round};
 use geo_link::{Link, Tallied};
 use geo_session::Gate;
 use geo_session::clock::Clock;
-use geo_station::{Seat, Station};
+use geo_station::{Room, Seat, Station};
 use geo_tally::{Counter, TallySeat};
 use std::alloc::Global;
 use std::rt;
 use std::sync::Wait;
-use std::sync::ledger::Ledger;
 use std::time::Duration;
 
 /// What a thread of a site does until the cluster is told to stop.
 #[derive(Drop)]
-pub(crate) enum Duty<'a, L: Ledger, N: Named, P: Lead + Drop, Q: Link + Drop> {
+pub(crate) enum Duty<'a, L: Room, N: Named, P: Lead + Drop, Q: Link + Drop> {
     /// Carries clients' connections.
     Serve(Clerk<'a, L, N>, Worker<'a>),
     /// Tells the other sites what was written here.
@@ -34,7 +33,7 @@ pub(crate) enum Duty<'a, L: Ledger, N: Named, P: Lead + Drop, Q: Link + Drop> {
 }
 
 /// Counts sessions that ended.
-fn count_sessions<L: Ledger, N: Named>(backend: &mut Clerk<'_, L, N>, passed: Passed) {
+fn count_sessions<L: Room, N: Named>(backend: &mut Clerk<'_, L, N>, passed: Passed) {
     for _session in 0..passed.ended {
         backend.count(Counter::Sessions);
     }
@@ -44,7 +43,7 @@ fn count_sessions<L: Ledger, N: Named>(backend: &mut Clerk<'_, L, N>, passed: Pa
 }
 
 /// Carries clients' connections until no more come and all have ended, and gives the seats back.
-fn serve_clients<R: Wait + rt::Clock, L: Ledger, N: Named, G: Gate>(
+fn serve_clients<R: Wait + rt::Clock, L: Room, N: Named, G: Gate>(
     rt: &R,
     alloc: Global,
     shared: &Shared<'_, G>,
@@ -84,7 +83,7 @@ fn rest_of<K: Lead>(peers: &[Peer<K>], every: Duration) -> Duration {
 }
 
 /// One round, and the asks for what the site lacks where that is to be.
-fn go_round<R: Wait + rt::Clock, L: Ledger, K: Lead, G: Gate>(
+fn go_round<R: Wait + rt::Clock, L: Room, K: Lead, G: Gate>(
     rt: &R,
     alloc: Global,
     shared: &Shared<'_, G>,
@@ -100,7 +99,7 @@ fn go_round<R: Wait + rt::Clock, L: Ledger, K: Lead, G: Gate>(
 }
 
 /// The last round, where one is owed: nobody writes at the site any more. Whether there was one.
-fn go_round_at_last<R: Wait, L: Ledger, K: Lead>(
+fn go_round_at_last<R: Wait, L: Room, K: Lead>(
     rt: &R,
     alloc: Global,
     station: &Station<L>,
@@ -122,7 +121,7 @@ fn go_round_at_last<R: Wait, L: Ledger, K: Lead>(
 
 /// Sends rounds, and behind each asks for what the site lacks where that is to be, until the cluster stops, and then lets go of the links,
 /// by which those who receive at their ends learn of it.
-fn gossip<R: Wait + rt::Clock, L: Ledger, N: Named, K: Lead + Drop, G: Gate>(
+fn gossip<R: Wait + rt::Clock, L: Room, N: Named, K: Lead + Drop, G: Gate>(
     rt: &R,
     alloc: Global,
     shared: &Shared<'_, G>,
@@ -150,7 +149,7 @@ fn gossip<R: Wait + rt::Clock, L: Ledger, N: Named, K: Lead + Drop, G: Gate>(
 }
 
 /// Maintains the site until the cluster stops, and lets its history begin anew where it is long.
-fn maintain<R: Wait + rt::Clock, L: Ledger, G: Gate>(
+fn maintain<R: Wait + rt::Clock, L: Room, G: Gate>(
     rt: &R,
     alloc: Global,
     shared: &Shared<'_, G>,
@@ -172,7 +171,7 @@ fn maintain<R: Wait + rt::Clock, L: Ledger, G: Gate>(
 
 /// Takes and answers what comes over a link, until it is closed or there was no memory for an answer. The seat that counts what the link
 /// refused stays one of its tally.
-fn hear<R: Wait, L: Ledger, K: Link + Drop>(
+fn hear<R: Wait, L: Room, K: Link + Drop>(
     rt: &R,
     alloc: Global,
     station: &Station<L>,
@@ -185,7 +184,7 @@ fn hear<R: Wait, L: Ledger, K: Link + Drop>(
 }
 
 /// Takes and answers what comes over a link until it is closed, and gives back the seat that counts what the link refused.
-fn hear_all<R: Wait, L: Ledger, K: Link + Drop>(
+fn hear_all<R: Wait, L: Room, K: Link + Drop>(
     rt: &R,
     alloc: Global,
     station: &Station<L>,
@@ -204,7 +203,7 @@ fn hear_all<R: Wait, L: Ledger, K: Link + Drop>(
 }
 
 /// Takes what another site tells until it tells no more.
-fn hear_out<R: Wait, L: Ledger, N: Named, K: Link + Drop, G: Gate>(
+fn hear_out<R: Wait, L: Room, N: Named, K: Link + Drop, G: Gate>(
     rt: &R,
     alloc: Global,
     shared: &Shared<'_, G>,
@@ -226,7 +225,7 @@ fn hear_out<R: Wait, L: Ledger, N: Named, K: Link + Drop, G: Gate>(
     Rested::new(seat, counts)
 }
 
-impl<L: Ledger, N: Named, P: Lead + Drop, Q: Link + Drop> Duty<'_, L, N, P, Q> {
+impl<L: Room, N: Named, P: Lead + Drop, Q: Link + Drop> Duty<'_, L, N, P, Q> {
     /// Does it to its end, once all threads have begun, and gives the seats back.
     pub(crate) fn run<R: Wait + rt::Clock, G: Gate>(
         self,

@@ -1,9 +1,8 @@
 //! Holding other sites for gone, as an operator orders it.
 use geo_site::RetireError;
-use geo_station::{CallError, Seat, Station};
+use geo_station::{CallError, Room, Seat, Station};
 use std::alloc::Global;
 use std::sync::Wait;
-use std::sync::ledger::Ledger;
 
 /// What came of an order to retire a site.
 #[derive(Clone, Copy, Debug, PartialEq, Eq)]
@@ -31,12 +30,12 @@ impl Retiring {
 
 /// A seat of a site's station, by which whoever hears the operator has other sites held for gone.
 #[derive(Drop)]
-pub(crate) struct Registrar<'a, L: Ledger> {
+pub(crate) struct Registrar<'a, L: Room> {
     station: &'a Station<L>,
     seat: Seat<L>,
 }
 
-impl<'a, L: Ledger> Registrar<'a, L> {
+impl<'a, L: Room> Registrar<'a, L> {
     pub(crate) fn new(station: &'a Station<L>, seat: Seat<L>) -> Registrar<'a, L> {
         Registrar { station, seat }
     }

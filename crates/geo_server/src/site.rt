@@ -2,8 +2,7 @@
 ghost use Rattle.std.specs.Prelude.{◌≡◌, ℕ, [], IfOk, IfSome};
 ghost use Rattle.std.specs.List.{All};
 ghost use Rattle.geo_tally.specs.Counts.{all_together, in_order};
-ghost use Rattle.geo_history.specs.Keeping.{opened_with};
-ghost use Rattle.geo_history.specs.Stories.{story_in};
+ghost use Rattle.geo_history.specs.Stories.{IsNew};
 
 use crate::counting::{Clerk, Counting, Named, Rested};
 use crate::duty::Duty;
@@ -18,7 +17,7 @@ use geo_gossip::Peer;
 use geo_history::{History, Kept};
 use geo_link::Link;
 use geo_session::Gate;
-use geo_station::{Seat, Station};
+use geo_station::{Room, Seat, Station, Unopened};
 use geo_tally::{Tally, TallySeat};
 use mio::{Poll, Waker};
 use std::alloc::Global;
@@ -26,7 +25,6 @@ use std::marker::{Brand, PhantomData};
 use std::net::Net;
 use std::sync::Wait;
 use std::sync::atomic::{AtomicU64, Ordering};
-use std::sync::ledger::{Blank, Ledger};
 use std::thread::Threads;
 use std::time::Duration;
 use std::{io, rt};
@@ -104,15 +102,14 @@ impl<G> Shared<'_, G> {
 #[derive(Drop)]
 pub(crate) struct Fresh {
     pub(crate) kept: Kept,
-    ghost steps: { (story_in kept).steps ≡ [] },
-    ghost opening: { (seat : ℕ) → opened_with (story_in kept).opening seat ≡ 0 },
+    ghost empty: { IsNew kept },
 }
 
 /// Who lets the clients of a site in.
 pub(crate) trait Door {
     /// Lets them in, and hands each to a worker, until no more are to come. Where an operator is heard meanwhile, sites are retired by the
     /// registrar.
-    fn attend<R: Wait + rt::Clock, L: Ledger, G>(
+    fn attend<R: Wait + rt::Clock, L: Room, G>(
         self,
         rt: &R,
         alloc: Global,
@@ -165,7 +162,7 @@ fn next_counting<'a, N: Named>(
 
 /// What the threads of a site are given, while it is put together.
 #[derive(Drop)]
-struct Duties<'a, L: Ledger, N: Named, P: Lead + Drop, Q: Link + Drop> {
+struct Duties<'a, L: Room, N: Named, P: Lead + Drop, Q: Link + Drop> {
     station: &'a Station<L>,
     tally: &'a Tally,
     counts: Vec<TallySeat>,
@@ -175,7 +172,7 @@ struct Duties<'a, L: Ledger, N: Named, P: Lead + Drop, Q: Link + Drop> {
     ghost named: { tally.now.tally ≡ N.tally },
 }
 
-impl<'a, L: Ledger, N: Named, P: Lead + Drop, Q: Link + Drop> Duties<'a, L, N, P, Q> {
+impl<'a, L: Room, N: Named, P: Lead + Drop, Q: Link + Drop> Duties<'a, L, N, P, Q> {
     /// A seat of the station and one of the tally. There are as many of both as threads that need them.
     fn seats<R: Wait>(
         &mut self,
@@ -232,7 +229,7 @@ impl<'a, L: Ledger, N: Named, P: Lead + Drop, Q: Link + Drop> Duties<'a, L, N, P
 
 /// Who does what at a site.
 #[derive(Drop)]
-struct Roles<'a, L: Ledger, N: Named, P: Lead + Drop, Q: Link + Drop> {
+struct Roles<'a, L: Room, N: Named, P: Lead + Drop, Q: Link + Drop> {
     /// One for each thread beside the one that lets clients in.
     duties: Vec<Duty<'a, L, N, P, Q>>,
     /// The seats of that one.
@@ -241,7 +238,7 @@ struct Roles<'a, L: Ledger, N: Named, P: Lead + Drop, Q: Link + Drop> {
 }
 
 /// Gives each thread its duty, in the order of workers, gossip, maintenance and links, and the one that lets clients in its seats.
-fn assigned<'a, R: Wait, L: Ledger, N: Named, P: Lead + Drop, Q: Link + Drop>(
+fn assigned<'a, R: Wait, L: Room, N: Named, P: Lead + Drop, Q: Link + Drop>(
     rt: &R,
     alloc: Global,
     mut given: Duties<'a, L, N, P, Q>,
@@ -271,7 +268,7 @@ fn assigned<'a, R: Wait, L: Ledger, N: Named, P: Lead + Drop, Q: Link + Drop>(
 /// Lets clients in while the threads do their duties, and gives the seats back once all have ended.
 fn work<
     R: Threads + Wait + rt::Clock + Sync,
-    L: Ledger + Send + Sync,
+    L: Room + Send + Sync,
     N: Named + Send,
     P: Lead + Send + Drop,
     Q: Link + Send + Drop,
@@ -369,13 +366,13 @@ fn seats_of<P, Q, D>(job: &Job<P, Q, D>) -> usize {
 
 /// The seats that a site's threads have left.
 #[derive(Drop)]
-struct Left<L: Ledger> {
+struct Left<L: Room> {
     seats: Vec<Seat<L>>,
     counts: Vec<TallySeat>,
 }
 
 /// The seats of the station, and those of the tally.
-fn parted<L: Ledger, N: Named>(
+fn parted<L: Room, N: Named>(
     alloc: Global,
     rested: Vec<Rested<L, N>>,
 ) -> Result<Left<L>, ClusterFault>
@@ -410,7 +407,7 @@ fn sums_of(tally: Tally, seats: Vec<TallySeat>) -> Result<[u64; 5], ClusterFault
 /// Runs a site whose ledger and whose tally are named.
 fn run_counted<
     R: Net + Threads + Wait + rt::Clock + Sync,
-    L: Ledger + Send + Sync,
+    L: Room + Send + Sync,
     N: Named + Send,
     P: Lead + Send + Drop,
     Q: Link + Send + Drop,
@@ -464,7 +461,7 @@ struct Plan<P, Q, D> {
 /// Runs a site whose ledger is named.
 fn run_named<
     R: Net + Threads + Wait + rt::Clock + Sync,
-    L: Ledger + Send + Sync,
+    L: Room + Send + Sync,
     P: Lead + Send + Drop,
     Q: Link + Send + Drop,
     D: Door + Drop,
@@ -473,28 +470,21 @@ fn run_named<
     rt: &R,
     alloc: Global,
     shared: &Shared<'_, G>,
-    blank: Blank,
+    unopened: Unopened,
     seats: usize,
-    job: Job<P, Q, D>,
+    job: Plan<P, Q, D>,
 ) -> Result<Ended, ClusterFault>
-    requires name { blank.name ≡ L.name }
-    requires parts { blank.parts ≡ L.parts }
-    requires seats { blank.parts ≡ seats }
+    requires name { unopened.name ≡ L.name }
+    requires parts { unopened.parts ≡ L.parts }
+    requires table { unopened.table ≡ L.table }
+    requires seats { unopened.parts ≡ seats }
 {
-    let Job {
-        fresh,
-        crew,
-        posts,
-        door,
-    } = job;
-    let Fresh { kept } = fresh;
-    let Ok(station) = Station::<L>::new(blank, kept, seats as u64) else {
+    let Ok(station) = Station::<L>::new(unopened) else {
         return Err(ClusterFault::Memory);
     };
     let Ok((tally, counts)) = Tally::new(alloc, seats) else {
         return Err(ClusterFault::Memory);
     };
-    let job = Plan { crew, posts, door };
     let left = run_counted::<R, L, Brand, P, Q, D, G>(
         rt, alloc, shared, &station, &tally, counts, job,
     )?;
@@ -513,14 +503,20 @@ pub(crate) fn run_site<
     G: Gate,
 >(rt: &R, alloc: Global, shared: &Shared<'_, G>, job: Job<P, Q, D>) -> Result<Ended, ClusterFault> {
     let seats = seats_of(&job);
-    let ended = run_named::<R, Brand, P, Q, D, G>(
-        rt,
-        alloc,
-        shared,
-        Blank::new(seats as u64),
-        seats,
-        job,
-    );
+    let Job {
+        fresh,
+        crew,
+        posts,
+        door,
+    } = job;
+    let Fresh { kept } = fresh;
+    let plan = Plan { crew, posts, door };
+    let ended = match Unopened::new(alloc, kept, seats as u64) {
+        Ok(unopened) => {
+            run_named::<R, Brand, P, Q, D, G>(rt, alloc, shared, unopened, seats, plan)
+        }
+        Err(_) => Err(ClusterFault::Memory),
+    };
     if ended.is_err() {
         shared.abandon();
     }

@@ -2,3 +2,4 @@ pub mod Lists
 pub mod Talks
 pub mod Pieces
 pub mod Going
+pub mod Chains

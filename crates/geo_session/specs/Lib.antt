@@ -6,3 +6,4 @@ pub mod Sessions
 pub mod Batches
 pub mod Bares
 pub mod Seats
+pub mod Chains

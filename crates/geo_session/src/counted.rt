@@ -1,30 +1,33 @@
 //! A seat at a shared site, whose requests are counted.
-ghost use Rattle.std.specs.Prelude.{◌≡◌};
-ghost use Rattle.geo_session.specs.Seats.{CountsOne};
+ghost use Rattle.std.specs.Prelude.{◌≡◌, ◌≤◌, ◌^◌};
+ghost use Rattle.geo_session.specs.Seats.{CountsOne, asker};
 
 use crate::backend::Backend;
 use crate::clock::Clock;
 use geo_grammar::{Reply, Request};
-use geo_station::{Seat, Station};
+use geo_station::{Room, Seat, Station};
 use geo_tally::{Counter, Tally, TallySeat};
 use std::alloc::Global;
 use std::rt;
 use std::sync::Wait;
-use std::sync::ledger::Ledger;
 
-/// A backend that asks a station by a seat, at the moment that a clock tells, and counts the requests by a seat of a tally. It waits
-/// for the station's lock. Sessions of one thread use it one after the other.
+/// A backend that asks a station by a seat, at the moment that a clock shows for it, and counts the requests by a seat of a tally. Where
+/// the clock has gone back the moment is that of the request before. It waits for the station's lock. Sessions of one thread use it one
+/// after the other.
 #[derive(Drop)]
-pub struct Counted<'a, L: Ledger, C: Clock> {
+pub struct Counted<'a, L: Room, C: Clock> {
     station: &'a Station<L>,
     seat: Seat<L>,
     clock: &'a C,
+    // The moment of the last request.
+    last: u64,
     tally: &'a Tally,
     counts: TallySeat,
     ghost given: { counts.tally ≡ tally.now.tally },
+    ghost bound: { last ≤ 2 ^ 40 },
 }
 
-impl<'a, L: Ledger, C: Clock> Counted<'a, L, C> {
+impl<'a, L: Room, C: Clock> Counted<'a, L, C> {
     /// A backend of a station's seat and a tally's.
     pub fn new(
         station: &'a Station<L>,
@@ -41,6 +44,7 @@ impl<'a, L: Ledger, C: Clock> Counted<'a, L, C> {
             station,
             seat,
             clock,
+            last: 1,
             tally,
             counts,
         }
@@ -50,6 +54,8 @@ impl<'a, L: Ledger, C: Clock> Counted<'a, L, C> {
     pub fn count(&mut self, counter: Counter)
         ensures counts { CountsOne counter self.old.counts self.new.counts }
         ensures seat { self.new.seat ≡ self.old.seat }
+        ensures last { self.new.last ≡ self.old.last }
+        ensures clock { self.new.clock ≡ self.old.clock }
     {
         let _ = self.tally.add(&mut self.counts, counter);
     }
@@ -64,13 +70,15 @@ impl<'a, L: Ledger, C: Clock> Counted<'a, L, C> {
     }
 }
 
-impl<L: Ledger, C: Clock> Backend for Counted<'_, L, C> {
+impl<L: Room, C: Clock> Backend for Counted<'_, L, C> {
     ghost use Rattle.geo_station.specs.declared.refusal.SeatSpent.{SeatSpent};
     ghost use Rattle.geo_session.specs.Seats.{AnswersCounted, RefusesCounted};
 
-    ghost answers = { λ old request reply new. AnswersCounted old.seat new.seat old.counts new.counts request reply };
+    ghost answers = { λ old request reply new. (new.clock ≡ old.clock)
+        × AnswersCounted (C.shows old.clock.now) (asker old.seat old.last old.counts) (asker new.seat new.last new.counts) request reply };
 
-    ghost refuses = { λ old request new. (spent : SeatSpent) × RefusesCounted old.seat new.seat old.counts new.counts request spent };
+    ghost refuses = { λ old request new. (new.clock ≡ old.clock) × (spent : SeatSpent)
+        × RefusesCounted (C.shows old.clock.now) (asker old.seat old.last old.counts) (asker new.seat new.last new.counts) request spent };
 
     fn act<R: Wait + rt::Clock>(
         &mut self,
@@ -80,7 +88,8 @@ impl<L: Ledger, C: Clock> Backend for Counted<'_, L, C> {
     ) -> Option<Reply> {
         self.count(Counter::Requests);
         self.seat.trim();
-        let now = self.clock.now(rt);
+        let now = self.clock.now(rt).max(self.last);
+        self.last = now;
         match self.station.act(rt, alloc, &mut self.seat, now, request) {
             Ok(reply) => Some(reply),
             Err(_) => None,

@@ -1,5 +1,5 @@
 -- What a station's end tells of its history.
-use Rattle.std.proofs.Common.{◌≡◌, ◌≢◌, ◌⊎◌, ◌≤◌, ◌+◌, ℕ, Bool, true, false, cond, List, [], Option, None, Some, Result, Ok, Err, IfOk, IfSome, ap, inl, inr, sym, subst, ◌∙◌, arith}
+use Rattle.std.proofs.Common.{if◌then◌else◌, refl, ◌≡◌, ◌≢◌, ◌⊎◌, ◌≤◌, ◌+◌, ℕ, Bool, true, false, cond, List, [], ◌++◌, Option, None, Some, Result, Ok, Err, IfOk, IfSome, ap, inl, inr, sym, subst, ◌∙◌, arith}
 use Rattle.std.specs.declared.alloc.AllocError.{AllocError}
 use Rattle.std.proofs.Math.Logic.{∥∥₁_map}
 use Rattle.geo_history.specs.declared.history.History.{History}
@@ -14,7 +14,11 @@ use Rattle.geo_site.specs.declared.event.Event.TheVariants.{Command}
 use Rattle.geo_site.specs.declared.event.Answer.TheVariants.{Replied}
 use Rattle.geo_history.specs.declared.step.Step.{Step}
 use Rattle.geo_history.specs.Stories.{IsHistoryOf, NewEraDoes, StaysTold, is_full, is_logged, last_era, most_bytes_in, logged_steps, setup_in, story_in}
-use Rattle.geo_station.specs.Seats.{Seated, IsLawful, call_of, kept_with}
+use Rattle.std.specs.List.{All}
+use Rattle.std.proofs.lemmas.Grind.{merely}
+use Rattle.geo_journal.specs.Marks.{Noted, Agree}
+use Rattle.geo_station.specs.Wholes.{IsWhole}
+use Rattle.geo_station.specs.Seats.{Seated, IsOneHistory, IsLawful, call_of, kept_with, is_long, trimmed}
 use Rattle.geo_station.specs.Calls.{HasAsked, HasFlushed}
 use Rattle.geo_station.specs.Eras.{EndsWhereFull}
 
@@ -56,12 +60,12 @@ ends_where_full old new (Err refused) full does setup told =
 
 -- a seat that keeps no call
 pub asked_unlogged : (old new : Seated) (now flushes : ℕ) (request : Request) (reply : Reply) → flushes ≤ 1 → reply ≢ OutOfMemory → old.logged ≡ false
-    → new ≡ record old { steps = old.steps + (flushes + 1) } → HasAsked old new now request reply
+    → new ≡ record old { mark = new.mark; steps = old.steps + (flushes + 1) } → HasAsked old new now request reply
 asked_unlogged old new now flushes request reply few said off same = record {
   flushes = flushes;
   few = few;
   said = said;
-  is = same ∙ (λ i. record old { steps = old.steps + (flushes + 1); calls = as_they_were i });
+  is = same ∙ (λ i. record old { mark = new.mark; steps = old.steps + (flushes + 1); calls = as_they_were i });
 }
   where
     as_they_were : old.calls ≡ kept_with old.logged old.calls (call_of (Command now request) (Replied reply))
@@ -69,7 +73,29 @@ asked_unlogged old new now flushes request reply few said off same = record {
 
 -- a seat that is as it was
 pub flushed_none : (old new : Seated) → new ≡ old → HasFlushed old new
-flushed_none old new same = record { flushes = 0; few = omega arith; is = same ∙ (λ i. record old { steps = as_it_was i }) }
+flushed_none old new same = record { flushes = 0; few = omega arith; is = same ∙ (λ i. record old { mark = as_marked i; steps = as_it_was i }) }
   where
+    as_marked : old.mark ≡ new.mark
+    as_marked = ap (λ (s : Seated). s.mark) (sym same)
+
     as_it_was : old.steps ≡ old.steps + 0
     as_it_was = omega arith
+
+-- a seat that lets go of its calls keeps its mark
+pub mark_stays : (seat : Seated) → (trimmed seat).mark ≡ seat.mark
+mark_stays seat = by (is_long seat.calls)
+  where
+    by : (long : Bool) → (if long then record seat { calls = []; forgot = true } else seat).mark ≡ seat.mark
+    by true = refl
+    by false = refl
+
+-- the one history of a station that is closed
+pub one_history_of : (story : Story) (all : Noted) (seats : List Seated) (steps : List Step) → ∥ IsWhole story all ∥₁ → All (λ (s : Seated). Agree all s.mark) seats → steps ≡ story.steps
+    → ∥ IsOneHistory steps seats ∥₁
+one_history_of story all seats steps whole each same = ∥∥₁_map whole (λ w. record {
+  all = all;
+  before = w.before;
+  replayed = merely (standing_in story.site, w.history);
+  ends = w.ends ∙ ap (λ (ss : List Step). w.before ++ ss) (sym same);
+  each = each;
+})

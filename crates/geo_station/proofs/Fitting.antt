@@ -21,8 +21,8 @@ both_ends a b one two = by one.0 one.1
         absurd (omega (arith, m, n))
 
 module _ (opening : Opening) (steps : List Step) (seat : Seated) where
-  module _ (count : opened_with opening seat.number + length (steps_of seat.number steps) ≡ seat.steps) where
-    pub fits_whole : EndsSo Whole (calls_of seat.number steps) seat.calls → FitsIn opening steps seat
+  module _ (count : opened_with opening seat.mark.number + length (steps_of seat.mark.number steps) ≡ seat.steps) where
+    pub fits_whole : EndsSo Whole (calls_of seat.mark.number steps) seat.calls → FitsIn opening steps seat
     fits_whole same = record {
       count = count;
       ends = inl ([], same);
@@ -31,7 +31,7 @@ module _ (opening : Opening) (steps : List Step) (seat : Seated) where
       whole = λ none first. same;
     }
 
-    pub fits_tail : EndsSo Tail (calls_of seat.number steps) seat.calls → seat.forgot ≡ true → FitsIn opening steps seat
+    pub fits_tail : EndsSo Tail (calls_of seat.mark.number steps) seat.calls → seat.forgot ≡ true → FitsIn opening steps seat
     fits_tail ends forgot = record {
       count = count;
       ends = inl ends.0;
@@ -40,7 +40,7 @@ module _ (opening : Opening) (steps : List Step) (seat : Seated) where
       whole = λ none first. absurd (true≢false (sym forgot ∙ none));
     }
 
-    pub fits_more : EndsSo More (calls_of seat.number steps) seat.calls → (opening.era ≡ 0 → ⊥) → FitsIn opening steps seat
+    pub fits_more : EndsSo More (calls_of seat.mark.number steps) seat.calls → (opening.era ≡ 0 → ⊥) → FitsIn opening steps seat
     fits_more ends later = record {
       count = count;
       ends = inr ends.0;
@@ -49,11 +49,11 @@ module _ (opening : Opening) (steps : List Step) (seat : Seated) where
       whole = λ none first. absurd (later first);
     }
 
-  pub unfit_tail : EndsSo Tail (calls_of seat.number steps) seat.calls → seat.forgot ≡ false → FitsIn opening steps seat → ⊥
-  unfit_tail ends none fits = ends.1 (both_ends (calls_of seat.number steps) seat.calls ends.0 (fits.kept none))
+  pub unfit_tail : EndsSo Tail (calls_of seat.mark.number steps) seat.calls → seat.forgot ≡ false → FitsIn opening steps seat → ⊥
+  unfit_tail ends none fits = ends.1 (both_ends (calls_of seat.mark.number steps) seat.calls ends.0 (fits.kept none))
 
-  pub unfit_more : EndsSo More (calls_of seat.number steps) seat.calls → opening.era ≡ 0 → FitsIn opening steps seat → ⊥
-  unfit_more ends first fits = ends.1 (both_ends (calls_of seat.number steps) seat.calls (fits.told first) ends.0)
+  pub unfit_more : EndsSo More (calls_of seat.mark.number steps) seat.calls → opening.era ≡ 0 → FitsIn opening steps seat → ⊥
+  unfit_more ends first fits = ends.1 (both_ends (calls_of seat.mark.number steps) seat.calls (fits.told first) ends.0)
 
-  pub unfit_other : EndsSo Other (calls_of seat.number steps) seat.calls → FitsIn opening steps seat → ⊥
+  pub unfit_other : EndsSo Other (calls_of seat.mark.number steps) seat.calls → FitsIn opening steps seat → ⊥
   unfit_other apart fits = apart fits.ends

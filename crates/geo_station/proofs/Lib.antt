@@ -5,3 +5,6 @@ pub mod Counting
 pub mod Firsts
 pub mod Receiving
 pub mod Fitting
+pub mod Noting
+pub mod Caring
+pub mod Stepping

@@ -17,6 +17,7 @@ use Rattle.geo_site.specs.declared.event.Event.{Event}
 use Rattle.geo_site.specs.declared.event.Event.TheVariants.{Command, Send, Take}
 use Rattle.geo_site.specs.declared.event.Answer.{Answer}
 use Rattle.geo_site.specs.declared.event.Answer.TheVariants.{Replied, Sent, SendRefused, Taken as Took, TakeRefused}
+use Rattle.geo_journal.specs.Marks.{Marked}
 use Rattle.geo_station.specs.declared.maintain.Maintained.{Maintained}
 use Rattle.geo_station.specs.declared.refusal.CallError.{CallError}
 use Rattle.geo_station.specs.declared.refusal.CallError.TheVariants.{SeatSpent, Site}
@@ -26,23 +27,23 @@ use Rattle.geo_station.specs.declared.refusal.StationError.{StationError}
 use Rattle.geo_station.specs.Maintenance.{Maintains}
 use Rattle.geo_station.specs.Seats.{Seated, kept_with, call_of}
 
--- it made so many steps, and keeps the call with its answer, if it keeps any
-abbrev pub called : Seated → ℕ → Event → Answer → Seated
-called seat count event answer =
-    record seat { steps = seat.steps + count; calls = kept_with seat.logged seat.calls (call_of event answer) }
+-- it made so many steps, by which its mark went on, and keeps the call with its answer, if it keeps any
+abbrev pub called : Seated → Marked → ℕ → Event → Answer → Seated
+called seat mark count event answer =
+    record seat { mark = mark; steps = seat.steps + count; calls = kept_with seat.logged seat.calls (call_of event answer) }
 
 -- a request, with a due flush before it
 pub record HasAsked (old new : Seated) (now : ℕ) (request : Request) (reply : Reply) : Type 0 where
   pub flushes : ℕ
   pub few : flushes ≤ 1
   pub said : reply ≢ OutOfMemory
-  pub is : new ≡ called old (flushes + 1) (Command now request) (Replied reply)
+  pub is : new ≡ called old new.mark (flushes + 1) (Command now request) (Replied reply)
 
 -- nothing, or a due flush
 pub record HasFlushed (old new : Seated) : Type 0 where
   pub flushes : ℕ
   pub few : flushes ≤ 1
-  pub is : new ≡ record old { steps = old.steps + flushes }
+  pub is : new ≡ record old { mark = new.mark; steps = old.steps + flushes }
 
 abbrev pub ActsBy : Seated → Seated → ℕ → Request → Result Reply Spent → Type 0
 ActsBy old new now request (Ok reply) = HasAsked old new now request reply ⊎ ((reply ≡ OutOfMemory) × HasFlushed old new)
@@ -51,24 +52,24 @@ ActsBy old new now request (Err spent) = HasFlushed old new
 abbrev pub SendRefusedBy : Seated → Seated → ℕ → CallError SendError → Type 0
 SendRefusedBy old new to SeatSpent = new ≡ old
 SendRefusedBy old new to (Site sends.Memory) = new ≡ old
-SendRefusedBy old new to (Site why) = new ≡ called old 1 (Send to) (SendRefused why)
+SendRefusedBy old new to (Site why) = new ≡ called old new.mark 1 (Send to) (SendRefused why)
 
 abbrev pub SendsBy : Seated → Seated → ℕ → Result Parcel (CallError SendError) → Type 0
-SendsBy old new to (Ok parcel) = new ≡ called old 1 (Send to) (Sent parcel)
+SendsBy old new to (Ok parcel) = new ≡ called old new.mark 1 (Send to) (Sent parcel)
 SendsBy old new to (Err why) = SendRefusedBy old new to why
 
 abbrev pub TakeRefusedBy : Seated → Seated → Parcel → CallError TakeError → Type 0
 TakeRefusedBy old new parcel SeatSpent = new ≡ old
 TakeRefusedBy old new parcel (Site takes.Memory) = new ≡ old
-TakeRefusedBy old new parcel (Site why) = new ≡ called old 1 (Take parcel) (TakeRefused why)
+TakeRefusedBy old new parcel (Site why) = new ≡ called old new.mark 1 (Take parcel) (TakeRefused why)
 
 abbrev pub TakesBy : Seated → Seated → Parcel → Result Taken Returned → Type 0
-TakesBy old new parcel (Ok told) = new ≡ called old 1 (Take parcel) (Took told)
+TakesBy old new parcel (Ok told) = new ≡ called old new.mark 1 (Take parcel) (Took told)
 TakesBy old new parcel (Err returned) = (returned.parcel ≡ parcel) × TakeRefusedBy old new parcel returned.why
 
 -- a fill is a step that the seat does not keep; a refusal leaves none
 abbrev pub FillsBy : Seated → Seated → Result Filled (CallError AllocError) → Type 0
-FillsBy old new (Ok filled) = new ≡ record old { steps = old.steps + 1 }
+FillsBy old new (Ok filled) = new ≡ record old { mark = new.mark; steps = old.steps + 1 }
 FillsBy old new (Err why) = new ≡ old
 
 -- a retirement is a step that the seat does not keep, a refused one too, but for want of memory and where the seat is spent
@@ -78,12 +79,12 @@ retires_made (Site retire.Memory) = 0
 retires_made (Site retire.NoSuchSite) = 1
 
 abbrev pub RetiresBy : Seated → Seated → Result Bool (CallError RetireError) → Type 0
-RetiresBy old new (Ok fresh) = new ≡ record old { steps = old.steps + 1 }
-RetiresBy old new (Err why) = new ≡ record old { steps = old.steps + retires_made why }
+RetiresBy old new (Ok fresh) = new ≡ record old { mark = new.mark; steps = old.steps + 1 }
+RetiresBy old new (Err why) = new ≡ record old { mark = new.mark; steps = old.steps + retires_made why }
 
 -- a maintenance makes steps and changes nothing else of a seat
 abbrev pub MaintainsBy : Seated → Seated → Result Maintained Spent → Type 0
-MaintainsBy old new (Ok done) = (new ≡ record old { steps = new.steps }) × Maintains old.steps new.steps done
+MaintainsBy old new (Ok done) = (new ≡ record old { mark = new.mark; steps = new.steps }) × Maintains old.steps new.steps done
 MaintainsBy old new (Err spent) = new ≡ old
 
 -- how many steps a refusal leaves: want of memory and a spent seat leave none

@@ -5,3 +5,4 @@ pub mod Calls
 pub mod Lacking
 pub mod Receipts
 pub mod Eras
+pub mod Wholes

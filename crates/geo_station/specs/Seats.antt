@@ -8,14 +8,24 @@ use Rattle.geo_site.specs.declared.event.Event.TheVariants.{Command, Evict, Send
 use Rattle.geo_site.specs.declared.event.Answer.{Answer}
 use Rattle.geo_history.specs.declared.step.Step.{Step}
 use Rattle.geo_site.specs.Standings.{Standing, who_of}
+use Rattle.atomic_table.specs.Seated.{TableId}
 use Rattle.geo_history.specs.Replays.{steps_of}
 use Rattle.geo_history.specs.Keeping.{opened_with, Keeps, Story}
 use Rattle.geo_history.specs.Sizes.{answer_bytes, capped, event_bytes, step_size}
+use Rattle.geo_journal.specs.Marks.{Noted, Marked, Agree}
+use Rattle.geo_station.specs.Wholes.{IsReplayed}
 use Rattle.geo_station.specs.declared.call.Call.{Call}
 
--- a seat: its number, how many steps it made, the calls that it keeps, whether it let go of earlier ones, and whether it keeps any
+-- how a station that no type stands for yet is to be named: its ledger, which has a part for each seat, and the table of its history
+pub record Named : Type 0 where
+  pub name : ℕ
+  pub parts : ℕ
+  pub table : TableId
+
+-- a seat: its mark in the one history, how many steps it made, the calls that it keeps, whether it let go of earlier ones, and whether it
+-- keeps any
 pub record Seated : Type 0 where
-  pub number : ℕ
+  pub mark : Marked
   pub steps : ℕ
   pub calls : List Call
   pub forgot : Bool
@@ -76,11 +86,11 @@ EndsWith all last = (first : List Call) × (all ≡ first ++ last)
 -- the seat keeps one list ends with the other. A seat that let go of none keeps all that the history has, and in the first era the
 -- history has all that the seat keeps.
 pub record FitsIn (opening : Opening) (steps : List Step) (seat : Seated) : Type 0 where
-  pub count : opened_with opening seat.number + length (steps_of seat.number steps) ≡ seat.steps
-  pub ends : EndsWith (calls_of seat.number steps) seat.calls ⊎ EndsWith seat.calls (calls_of seat.number steps)
-  pub kept : seat.forgot ≡ false → EndsWith seat.calls (calls_of seat.number steps)
-  pub told : opening.era ≡ 0 → EndsWith (calls_of seat.number steps) seat.calls
-  pub whole : seat.forgot ≡ false → opening.era ≡ 0 → calls_of seat.number steps ≡ seat.calls
+  pub count : opened_with opening seat.mark.number + length (steps_of seat.mark.number steps) ≡ seat.steps
+  pub ends : EndsWith (calls_of seat.mark.number steps) seat.calls ⊎ EndsWith seat.calls (calls_of seat.mark.number steps)
+  pub kept : seat.forgot ≡ false → EndsWith seat.calls (calls_of seat.mark.number steps)
+  pub told : opening.era ≡ 0 → EndsWith (calls_of seat.mark.number steps) seat.calls
+  pub whole : seat.forgot ≡ false → opening.era ≡ 0 → calls_of seat.mark.number steps ≡ seat.calls
 
 -- a history has a replay: its steps lead from where it opens to where a site can stand, and those of each seat are numbered one
 -- after the other
@@ -90,3 +100,11 @@ IsLawful history = ∥ ((last : Standing) × Keeps (who_of history.setup) histor
 -- a history does not tell of each seat what the seat keeps
 abbrev pub DiffersFrom : Story → List Seated → Type 0
 DiffersFrom story seats = All (FitsIn story.opening story.steps) seats → ⊥
+
+-- there is one history, which replays from an empty site and ends with these steps, and of which each seat has just its own
+pub record IsOneHistory (steps : List Step) (seats : List Seated) : Type 0 where
+  pub all : Noted
+  pub before : List Step
+  pub replayed : IsReplayed all
+  pub ends : all.steps ≡ before ++ steps
+  pub each : All (λ s. Agree all s.mark) seats

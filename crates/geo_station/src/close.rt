@@ -2,6 +2,7 @@
 ghost use Rattle.std.specs.Prelude.{◌≡◌, ◌≢◌, ◌+◌, true, false, Some, MatchBool, IfNone, sum_by, length, vec_len};
 ghost use Rattle.std.specs.List.{All};
 ghost use Rattle.geo_history.specs.Stories.{story_in, is_logged};
+ghost use Rattle.geo_journal.specs.Marks.{Agree};
 ghost use Rattle.geo_station.specs.Seats.{FitsIn, DiffersFrom};
 ghost use Rattle.geo_station.specs.declared.close.Why.TheVariants as whys;
 
@@ -10,7 +11,8 @@ use crate::fits::{Ending, ending_of};
 use crate::seat::Seat;
 use crate::station::Station;
 use geo_history::{Kept, MOST_STEPS};
-use std::sync::ledger::{Ledger, Share};
+use geo_journal::{Journal, Room};
+use std::sync::ledger::Share;
 use thiserror::Error;
 
 /// Why a station is not closed, tested in this order.
@@ -29,12 +31,12 @@ pub enum Why {
 
 /// A station whose lock was taken off: its history stands still.
 #[derive(Drop)]
-pub struct Unlocked<L: Ledger> {
+pub struct Unlocked<L: Room> {
     pub(crate) desk: Desk<L>,
     pub(crate) seats: u64,
 }
 
-impl<L: Ledger> Unlocked<L> {
+impl<L: Room> Unlocked<L> {
     /// The station, under a lock again.
     pub fn lock(self) -> Station<L>
         requires { self.seats ≡ L.parts }
@@ -47,7 +49,7 @@ impl<L: Ledger> Unlocked<L> {
 
 /// A station that was not closed, and the seats that were handed in, as they were.
 #[derive(Drop)]
-pub struct Unclosed<L: Ledger> {
+pub struct Unclosed<L: Room> {
     pub why: Why,
     /// The station, with the history that it has.
     pub station: Unlocked<L>,
@@ -55,15 +57,15 @@ pub struct Unclosed<L: Ledger> {
 }
 
 /// Whether the history, which is logged, tells of a seat what the seat keeps.
-fn fits<L: Ledger>(kept: &Kept, seat: &Seat<L>) -> bool
+fn fits<L: Room>(kept: &Kept, seat: &Seat<L>) -> bool
     requires { is_logged kept.now ≡ true }
     ensures { MatchBool result (FitsIn (story_in kept.now).opening (story_in kept.now).steps seat.now) (FitsIn
         (story_in kept.now).opening (story_in kept.now).steps seat.now → ⊥) }
 {
-    if MOST_STEPS - kept.left(seat.number) != seat.account.count {
+    if MOST_STEPS - kept.left(seat.account.number()) != seat.account.count {
         return false;
     }
-    match ending_of(kept.steps(), seat.number, seat.calls.as_slice()) {
+    match ending_of(kept.steps(), seat.account.number(), seat.calls.as_slice()) {
         Ending::Whole => true,
         Ending::Tail => seat.forgot,
         Ending::More => kept.era() > 0,
@@ -72,7 +74,7 @@ fn fits<L: Ledger>(kept: &Kept, seat: &Seat<L>) -> bool
 }
 
 /// Whether it does of each.
-fn all_fit<L: Ledger>(kept: &Kept, seats: &[Seat<L>]) -> bool
+fn all_fit<L: Room>(kept: &Kept, seats: &[Seat<L>]) -> bool
     requires { is_logged kept.now ≡ true }
     ensures { MatchBool result (All (FitsIn (story_in kept.now).opening (story_in kept.now).steps) seats.now) (All
         (FitsIn (story_in kept.now).opening (story_in kept.now).steps) seats.now → ⊥) }
@@ -86,7 +88,7 @@ fn all_fit<L: Ledger>(kept: &Kept, seats: &[Seat<L>]) -> bool
 }
 
 /// Why a station of so many seats isn't closed with these, if there is a reason.
-pub fn open_for<L: Ledger>(kept: &Kept, count: u64, seats: &[Seat<L>]) -> Option<Why>
+pub fn open_for<L: Room>(kept: &Kept, count: u64, seats: &[Seat<L>]) -> Option<Why>
     ensures missing { result ≡ Some whys.Missing → length seats.now ≢ count }
     ensures unlogged { result ≡ Some whys.Unlogged → (length seats.now ≡ count) × (is_logged kept.now ≡ false) }
     ensures differs { result ≡ Some whys.Differs → (length seats.now ≡ count) × DiffersFrom (story_in kept.now) seats.now }
@@ -105,13 +107,16 @@ pub fn open_for<L: Ledger>(kept: &Kept, count: u64, seats: &[Seat<L>]) -> Option
     None
 }
 
-/// Puts the seats' shares together.
-pub fn merge_all<L: Ledger>(all: &mut Share<L>, seats: Vec<Seat<L>>)
+/// Puts the seats' shares together, and compares the seats with the one history.
+pub fn merge_all<L: Room>(all: &mut Share<L>, journal: &mut Journal<L>, seats: Vec<Seat<L>>)
     ensures parts { all.new.parts ≡ all.old.parts + vec_len seats }
     ensures amount { all.new.amount ≡ all.old.amount + sum_by (λ s. s.steps) seats.items }
+    ensures journal { journal.new ≡ journal.old }
+    ensures agree { All (λ s. Agree journal.old s.mark) seats.items }
 {
     for seat in seats {
-        let Seat { account, .. } = seat;
+        let Seat { mut account, .. } = seat;
+        account.compare(journal);
         all.merge(account.into_share());
     }
 }

@@ -9,6 +9,9 @@ ghost use Rattle.geo_history.specs.Keeping.{most_steps, made_by, made_in_all, is
 ghost use Rattle.geo_history.specs.Stories.{story_in, last_era, is_logged, logged_steps, is_full};
 ghost use Rattle.geo_station.specs.Eras.{ended_by};
 ghost use Rattle.geo_station.specs.Seats.{IsLawful};
+ghost use Rattle.geo_station.specs.Wholes.{IsWhole, NotesNone, NotesOne, TicksOnce, NotesAnswer, NotesSend, NotesTake, NotesFill, NotesRetire};
+ghost use Rattle.geo_site.specs.declared.event.Event.TheVariants.{Command};
+ghost use Rattle.geo_site.specs.declared.event.Answer.TheVariants.{Replied};
 ghost use Rattle.geo_station.specs.declared.desk.Unmade.TheVariants.{Spent};
 ghost use Rattle.geo_station.specs.declared.refusal.CallError.TheVariants.{SeatSpent};
 
@@ -19,23 +22,26 @@ use crate::seat::Seat;
 use geo_delta::Parcel;
 use geo_grammar::{Reply, Request, ValueBytes};
 use geo_history::{History, Kept};
+use geo_journal::{Journal, Room};
 use geo_site::{BoxedParcel, Filled, Refused, RetireError, SendError, TakeError, Taken};
 use geo_versions::{Digest, Key};
 use std::alloc::{AllocError, Global};
-use std::sync::ledger::{Book, Ledger, Share};
+use std::sync::ledger::{Book, Share};
 
-/// A site with its history, the book of the steps that its seats have made in all eras, and the seats that weren't given yet.
+/// A site with the history of an era, the one history of all eras, the book of the steps that its seats have made in these, and the seats
+/// that weren't given yet.
 #[derive(Drop)]
-pub struct Desk<L: Ledger> {
+pub struct Desk<L: Room> {
     pub(crate) kept: Kept,
     pub(crate) book: Book<L>,
     pub(crate) rest: Share<L>,
-    pub(crate) given: u64,
+    pub(crate) journal: Journal<L>,
     pub(crate) seats: u64,
     ghost total: { book.total ≡ made_in_all (story_in kept) },
-    ghost parts: { rest.parts + given ≡ seats },
+    ghost parts: { rest.parts + journal.given ≡ seats },
     ghost amount: { rest.amount ≡ 0 },
     ghost few: { seats ≤ 256 },
+    ghost whole: { ∥ IsWhole (story_in kept) journal ∥₁ },
 }
 
 /// What became of the era with a call: the history that ended, where its steps kept as many bytes as they may; Err where memory for a
@@ -64,7 +70,7 @@ fn listed(mut room: Vec<History>, ended: Result<Option<History>, AllocError>) ->
     Ok(room)
 }
 
-impl<L: Ledger> Desk<L> {
+impl<L: Room> Desk<L> {
     ghost use Rattle.geo_station.specs.Calls.{sends_made, takes_made};
     ghost use Rattle.geo_station.specs.Receipts.{AnswersFor, SendsFrom, TakesFrom};
 
@@ -73,44 +79,41 @@ impl<L: Ledger> Desk<L> {
         ensures fresh { IfOk result (λ seat. (seat.steps ≡ 0) × (seat.calls ≡ []) × (seat.forgot ≡ false)) }
         ensures logged { IfOk result (λ seat. seat.logged ≡ is_logged self.old.kept) }
     {
-        if self.given >= self.seats {
+        if self.journal.given() >= self.seats {
             return Err(NoSeat);
         }
+        let Some(mark) = self.journal.give() else {
+            return Err(NoSeat);
+        };
         let share = self.rest.split_off(1, 0);
-        let number = self.given as u8;
-        self.given += 1;
         Ok(Seat {
-            number,
-            account: Account::new(share),
+            account: Account::new(share, mark),
             calls: Calls::new(alloc, self.kept.is_logged()),
             forgot: false,
         })
     }
 
     /// Whether the history has room for a step more of a seat, as it has for each seat whose account isn't spent.
-    pub(crate) fn has_room(&self, number: u8) -> bool
-        ensures { result ≡ true → made_by (story_in self.now.kept) number < most_steps }
+    pub(crate) fn has_room(&self, account: &Account<L>) -> bool
+        ensures { result ≡ true → made_by (story_in self.now.kept) account.now.mark.number < most_steps }
     {
-        self.kept.left(number) > 0
+        self.kept.left(account.number()) > 0
     }
 
     /// Carries out a due flush for a seat, and tells whether there was one. None is due then.
-    pub(crate) fn tick(
-        &mut self,
-        number: u8,
-        account: &mut Account<L>,
-        now: u64,
-    ) -> Result<bool, AllocError>
-        requires history { made_by (story_in self.old.kept) number < most_steps }
+    pub(crate) fn tick(&mut self, account: &mut Account<L>, now: u64) -> Result<bool, AllocError>
+        requires history { made_by (story_in self.old.kept) account.old.mark.number < most_steps }
         requires account { account.old.count < most_steps }
         ensures told { IfOk result (λ flushed. account.new.count ≡ account.old.count + cond flushed 1 0) }
         ensures undue { IfOk result (λ _. is_flush_due (story_in self.new.kept) now ≡ false) }
         ensures unmade { IfErr result (λ _. account.new.count ≡ account.old.count) }
-        ensures does { TickForDoes (story_in self.old.kept) (story_in self.new.kept) number now result }
+        ensures noted { IfOk result (λ flushed. TicksOnce flushed self.old.journal self.new.journal account.old.mark account.new.mark now) }
+        ensures unnoted { IfErr result (λ _. NotesNone self.old.journal self.new.journal account.old.mark account.new.mark) }
+        ensures does { TickForDoes (story_in self.old.kept) (story_in self.new.kept) account.old.mark.number now result }
     {
-        let flushed = self.kept.tick_for(number, now)?;
+        let flushed = self.kept.tick_for(account.number(), now)?;
         if flushed {
-            account.book(&mut self.book);
+            account.book(&self.kept, &mut self.book, &mut self.journal);
         }
         Ok(flushed)
     }
@@ -119,31 +122,35 @@ impl<L: Ledger> Desk<L> {
     fn answer(
         &mut self,
         alloc: Global,
-        number: u8,
         account: &mut Account<L>,
         now: u64,
         request: Request,
     ) -> Result<(Reply, Reply), AllocError>
         requires moment { now ≤ 2 ^ 40 }
         requires undue { is_flush_due (story_in self.old.kept) now ≡ false }
-        requires history { made_by (story_in self.old.kept) number < most_steps }
+        requires history { made_by (story_in self.old.kept) account.old.mark.number < most_steps }
         requires account { account.old.count < most_steps }
         ensures made { IfOk result (λ replies. account.new.count ≡ account.old.count + 1) }
         ensures equal { IfOk result (λ replies. replies.1 ≡ replies.0) }
         ensures said { IfOk result (λ replies. replies.0 ≢ OutOfMemory) }
         ensures unmade { IfErr result (λ _. account.new.count ≡ account.old.count) }
-        ensures does { ActForDoes (story_in self.old.kept) (story_in self.new.kept) number now request result }
+        ensures noted { IfOk result (λ replies. NotesOne self.old.journal self.new.journal account.old.mark account.new.mark (Command now request) (Replied replies.0)) }
+        ensures unnoted { IfErr result (λ _. NotesNone self.old.journal self.new.journal account.old.mark account.new.mark) }
+        ensures does { ActForDoes (story_in self.old.kept) (story_in self.new.kept) account.old.mark.number now request result }
     {
-        let replies = self.kept.act_for(alloc, number, now, request)?;
-        account.book(&mut self.book);
-        Ok(replies)
+        match self.kept.act_for(alloc, account.number(), now, request) {
+            Ok(replies) => {
+                account.book(&self.kept, &mut self.book, &mut self.journal);
+                Ok(replies)
+            }
+            Err(refused) => Err(refused),
+        }
     }
 
     /// Answers a request of a seat, after a due flush, and gives the reply twice.
     fn act_in_era(
         &mut self,
         alloc: Global,
-        number: u8,
         account: &mut Account<L>,
         now: u64,
         request: Request,
@@ -154,24 +161,25 @@ impl<L: Ledger> Desk<L> {
         ensures said { IfOk result (λ replies. replies.0 ≢ OutOfMemory) }
         ensures unmade { IfErr result (λ _. (flushes : ℕ) × (flushes ≤ 1) × (account.new.count ≡ account.old.count + flushes)) }
         ensures spent { IfErr result (λ why. why ≡ Spent → most_steps ≤ account.old.count + 1) }
-        ensures does { AnswersFor (story_in self.old.kept) (story_in self.new.kept) number now request result }
+        ensures noted { NotesAnswer self.old.journal self.new.journal account.old.mark account.new.mark now request result }
+        ensures does { AnswersFor (story_in self.old.kept) (story_in self.new.kept) account.old.mark.number now request result }
     {
         if account.is_spent() {
             return Err(Unmade::Spent);
         }
-        if !self.has_room(number) {
+        if !self.has_room(account) {
             return Err(Unmade::Memory);
         }
-        let Ok(_flushed) = self.tick(number, account, now) else {
+        let Ok(_flushed) = self.tick(account, now) else {
             return Err(Unmade::Memory);
         };
         if account.is_spent() {
             return Err(Unmade::Spent);
         }
-        if !self.has_room(number) {
+        if !self.has_room(account) {
             return Err(Unmade::Memory);
         }
-        match self.answer(alloc, number, account, now, request) {
+        match self.answer(alloc, account, now, request) {
             Ok(replies) => Ok(replies),
             Err(_) => Err(Unmade::Memory),
         }
@@ -183,6 +191,7 @@ impl<L: Ledger> Desk<L> {
         ensures due { IfOk result (λ ended. IfSome ended (λ history. after ≤ length history.steps.items)) }
         ensures early { IfOk result (λ ended. IfNone ended ((length (logged_steps self.old.kept) < after)
             ⊎ ((is_logged self.old.kept ≡ false) ⊎ ((story_in self.old.kept).opening.era ≡ last_era)))) }
+        ensures journal { self.new.journal ≡ self.old.journal }
     {
         if (self.kept.steps().len() as u64) < after {
             return Ok(None);
@@ -194,7 +203,6 @@ impl<L: Ledger> Desk<L> {
     fn send_in_era(
         &mut self,
         alloc: Global,
-        number: u8,
         account: &mut Account<L>,
         to: u8,
     ) -> Result<(Parcel, BoxedParcel), CallError<SendError>>
@@ -203,22 +211,23 @@ impl<L: Ledger> Desk<L> {
         ensures ranges { IfOk result (λ parcels. InRange parcels.0) }
         ensures unmade { IfErr result (λ why. account.new.count ≡ account.old.count + sends_made why) }
         ensures spent { IfErr result (λ why. why ≡ SeatSpent → most_steps ≤ account.old.count) }
-        ensures does { SendsFrom (story_in self.old.kept) (story_in self.new.kept) number to result }
+        ensures noted { NotesSend self.old.journal self.new.journal account.old.mark account.new.mark to result }
+        ensures does { SendsFrom (story_in self.old.kept) (story_in self.new.kept) account.old.mark.number to result }
     {
         if account.is_spent() {
             return Err(CallError::SeatSpent);
         }
-        if !self.has_room(number) {
+        if !self.has_room(account) {
             return Err(CallError::Site(SendError::Memory));
         }
-        match self.kept.send_for(alloc, number, to) {
+        match self.kept.send_for(alloc, account.number(), to) {
             Ok(parcels) => {
-                account.book(&mut self.book);
+                account.book(&self.kept, &mut self.book, &mut self.journal);
                 Ok(parcels)
             }
             Err(SendError::Memory) => Err(CallError::Site(SendError::Memory)),
             Err(why) => {
-                account.book(&mut self.book);
+                account.book(&self.kept, &mut self.book, &mut self.journal);
                 Err(CallError::Site(why))
             }
         }
@@ -228,7 +237,6 @@ impl<L: Ledger> Desk<L> {
     fn take_in_era(
         &mut self,
         alloc: Global,
-        number: u8,
         account: &mut Account<L>,
         parcel: Parcel,
         copy: BoxedParcel,
@@ -238,36 +246,42 @@ impl<L: Ledger> Desk<L> {
         ensures unmade { IfErr result (λ returned. account.new.count ≡ account.old.count + takes_made returned.why) }
         ensures back { IfErr result (λ returned. returned.parcel ≡ parcel) }
         ensures spent { IfErr result (λ returned. returned.why ≡ SeatSpent → most_steps ≤ account.old.count) }
-        ensures does { TakesFrom (story_in self.old.kept) (story_in self.new.kept) number parcel result }
+        ensures noted { NotesTake self.old.journal self.new.journal account.old.mark account.new.mark parcel result }
+        ensures does { TakesFrom (story_in self.old.kept) (story_in self.new.kept) account.old.mark.number parcel result }
     {
         if account.is_spent() {
             let why = CallError::SeatSpent;
             return Err(Returned { why, parcel });
         }
-        if !self.has_room(number) {
+        if !self.has_room(account) {
             let why = CallError::Site(TakeError::Memory);
             return Err(Returned { why, parcel });
         }
-        let refused = match self.kept.take_kept(alloc, number, parcel, copy) {
+        let refused = match self.kept.take_kept(alloc, account.number(), parcel, copy) {
             Ok(taken) => {
-                account.book(&mut self.book);
+                account.book(&self.kept, &mut self.book, &mut self.journal);
                 return Ok(taken);
             }
             Err(refused) => refused,
         };
         let Refused { why, parcel } = refused;
         match why {
-            TakeError::Memory => {}
-            _ => account.book(&mut self.book),
+            TakeError::Memory => Err(Returned {
+                why: CallError::Site(TakeError::Memory),
+                parcel,
+            }),
+            _ => {
+                account.book(&self.kept, &mut self.book, &mut self.journal);
+                Err(Returned {
+                    why: CallError::Site(why),
+                    parcel,
+                })
+            }
         }
-        Err(Returned {
-            why: CallError::Site(why),
-            parcel,
-        })
     }
 }
 
-impl<L: Ledger> Desk<L> {
+impl<L: Room> Desk<L> {
     ghost use Rattle.geo_station.specs.Calls.{retires_made};
     ghost use Rattle.geo_station.specs.Receipts.{FillsFrom};
 
@@ -275,7 +289,6 @@ impl<L: Ledger> Desk<L> {
     fn fill_in_era(
         &mut self,
         alloc: Global,
-        number: u8,
         account: &mut Account<L>,
         key: &Key,
         bytes: ValueBytes,
@@ -283,17 +296,18 @@ impl<L: Ledger> Desk<L> {
         ensures made { IfOk result (λ _. account.new.count ≡ account.old.count + 1) }
         ensures unmade { IfErr result (λ _. account.new.count ≡ account.old.count) }
         ensures spent { IfErr result (λ why. why ≡ SeatSpent → most_steps ≤ account.old.count) }
-        ensures does { FillsFrom (story_in self.old.kept) (story_in self.new.kept) number key.now bytes result }
+        ensures noted { NotesFill self.old.journal self.new.journal account.old.mark account.new.mark key.now bytes result }
+        ensures does { FillsFrom (story_in self.old.kept) (story_in self.new.kept) account.old.mark.number key.now bytes result }
     {
         if account.is_spent() {
             return Err(CallError::SeatSpent);
         }
-        if !self.has_room(number) {
+        if !self.has_room(account) {
             return Err(CallError::Site(AllocError));
         }
-        match self.kept.fill_for(alloc, number, key, bytes) {
+        match self.kept.fill_for(alloc, account.number(), key, bytes) {
             Ok(filled) => {
-                account.book(&mut self.book);
+                account.book(&self.kept, &mut self.book, &mut self.journal);
                 Ok(filled)
             }
             Err(refused) => Err(CallError::Site(refused)),
@@ -303,11 +317,11 @@ impl<L: Ledger> Desk<L> {
     /// Holds another site for gone for good, for a seat.
     fn retire_in_era(
         &mut self,
-        number: u8,
         account: &mut Account<L>,
         other: u8,
     ) -> Result<bool, CallError<RetireError>>
-        ensures does { IfOk result (λ fresh. RetireForDoes (story_in self.old.kept) (story_in self.new.kept) number other (Ok fresh)) }
+        ensures noted { NotesRetire self.old.journal self.new.journal account.old.mark account.new.mark other result }
+        ensures does { IfOk result (λ fresh. RetireForDoes (story_in self.old.kept) (story_in self.new.kept) account.old.mark.number other (Ok fresh)) }
         ensures made { IfOk result (λ _. account.new.count ≡ account.old.count + 1) }
         ensures unmade { IfErr result (λ why. account.new.count ≡ account.old.count + retires_made why) }
         ensures spent { IfErr result (λ why. why ≡ SeatSpent → most_steps ≤ account.old.count) }
@@ -315,32 +329,34 @@ impl<L: Ledger> Desk<L> {
         if account.is_spent() {
             return Err(CallError::SeatSpent);
         }
-        if !self.has_room(number) {
+        if !self.has_room(account) {
             return Err(CallError::Site(RetireError::Memory));
         }
-        match self.kept.retire_for(number, other) {
+        match self.kept.retire_for(account.number(), other) {
             Ok(is_new) => {
-                account.book(&mut self.book);
+                account.book(&self.kept, &mut self.book, &mut self.journal);
                 Ok(is_new)
             }
             Err(RetireError::Memory) => Err(CallError::Site(RetireError::Memory)),
             Err(why) => {
-                account.book(&mut self.book);
+                account.book(&self.kept, &mut self.book, &mut self.journal);
                 Err(CallError::Site(why))
             }
         }
     }
 }
 
-impl<L: Ledger> Desk<L> {
+impl<L: Room> Desk<L> {
     ghost use Rattle.geo_station.specs.Calls.{sends_made, takes_made, retires_made};
     ghost use Rattle.geo_station.specs.Eras.{EndsWhereFull};
     ghost use Rattle.geo_station.specs.Receipts.{AnswersOnce, SendsOnce, TakesOnce, FillsOnce, RetiresOnce};
+    ghost use Rattle.geo_station.specs.Wholes.{AddsAnswer, AddsParcels, AddsTake, AddsFill, AddsRetire};
 
     /// Begins a new era, where the steps of this one keep as many bytes as they may, and hands out the history that ends.
     fn end_era(&mut self, alloc: Global) -> Ended
         requires full { is_full self.old.kept ≡ true }
-        ensures { EndsWhereFull self.new.kept (ended_by result) }
+        ensures ends { EndsWhereFull self.new.kept (ended_by result) }
+        ensures journal { self.new.journal ≡ self.old.journal }
     {
         let room = Vec::with_capacity(alloc, 1)?;
         listed(room, self.kept.new_era(alloc))
@@ -348,7 +364,8 @@ impl<L: Ledger> Desk<L> {
 
     /// Begins a new era where the steps of this one keep as many bytes as they may, and hands out the history that ends.
     pub(crate) fn end_full(&mut self, alloc: Global) -> Ended
-        ensures { EndsWhereFull self.new.kept (ended_by result) }
+        ensures ends { EndsWhereFull self.new.kept (ended_by result) }
+        ensures journal { self.new.journal ≡ self.old.journal }
     {
         if !self.kept.is_full() {
             return Ok(Vec::new(alloc));
@@ -360,7 +377,6 @@ impl<L: Ledger> Desk<L> {
     pub(crate) fn act(
         &mut self,
         alloc: Global,
-        number: u8,
         account: &mut Account<L>,
         now: u64,
         request: Request,
@@ -373,9 +389,10 @@ impl<L: Ledger> Desk<L> {
         ensures unmade { IfErr result (λ _. (flushes : ℕ) × (flushes ≤ 1) × (account.new.count ≡ account.old.count + flushes)) }
         ensures spent { IfErr result (λ why. why ≡ Spent → most_steps ≤ account.old.count + 1) }
         ensures ended { EndsWhereFull self.new.kept (ended_by ended.new) }
-        ensures does { AnswersOnce (story_in self.old.kept) number now request result }
+        ensures adds { AddsAnswer account.old.mark account.new.mark now request result }
+        ensures does { AnswersOnce (story_in self.old.kept) account.old.mark.number now request result }
     {
-        let outcome = self.act_in_era(alloc, number, account, now, request);
+        let outcome = self.act_in_era(alloc, account, now, request);
         *ended = self.end_full(alloc);
         outcome
     }
@@ -384,7 +401,6 @@ impl<L: Ledger> Desk<L> {
     pub(crate) fn send(
         &mut self,
         alloc: Global,
-        number: u8,
         account: &mut Account<L>,
         to: u8,
         ended: &mut Ended,
@@ -395,9 +411,10 @@ impl<L: Ledger> Desk<L> {
         ensures unmade { IfErr result (λ why. account.new.count ≡ account.old.count + sends_made why) }
         ensures spent { IfErr result (λ why. why ≡ SeatSpent → most_steps ≤ account.old.count) }
         ensures ended { EndsWhereFull self.new.kept (ended_by ended.new) }
-        ensures does { SendsOnce (story_in self.old.kept) number to result }
+        ensures adds { AddsParcels account.old.mark account.new.mark to result }
+        ensures does { SendsOnce (story_in self.old.kept) account.old.mark.number to result }
     {
-        let outcome = self.send_in_era(alloc, number, account, to);
+        let outcome = self.send_in_era(alloc, account, to);
         *ended = self.end_full(alloc);
         outcome
     }
@@ -406,7 +423,6 @@ impl<L: Ledger> Desk<L> {
     pub(crate) fn take(
         &mut self,
         alloc: Global,
-        number: u8,
         account: &mut Account<L>,
         parcel: Parcel,
         copy: BoxedParcel,
@@ -418,9 +434,10 @@ impl<L: Ledger> Desk<L> {
         ensures back { IfErr result (λ returned. returned.parcel ≡ parcel) }
         ensures spent { IfErr result (λ returned. returned.why ≡ SeatSpent → most_steps ≤ account.old.count) }
         ensures ended { EndsWhereFull self.new.kept (ended_by ended.new) }
-        ensures does { TakesOnce (story_in self.old.kept) number parcel result }
+        ensures adds { AddsTake account.old.mark account.new.mark parcel result }
+        ensures does { TakesOnce (story_in self.old.kept) account.old.mark.number parcel result }
     {
-        let outcome = self.take_in_era(alloc, number, account, parcel, copy);
+        let outcome = self.take_in_era(alloc, account, parcel, copy);
         *ended = self.end_full(alloc);
         outcome
     }
@@ -429,7 +446,6 @@ impl<L: Ledger> Desk<L> {
     pub(crate) fn fill(
         &mut self,
         alloc: Global,
-        number: u8,
         account: &mut Account<L>,
         key: &Key,
         bytes: ValueBytes,
@@ -439,9 +455,10 @@ impl<L: Ledger> Desk<L> {
         ensures unmade { IfErr result (λ _. account.new.count ≡ account.old.count) }
         ensures spent { IfErr result (λ why. why ≡ SeatSpent → most_steps ≤ account.old.count) }
         ensures ended { EndsWhereFull self.new.kept (ended_by ended.new) }
-        ensures does { FillsOnce (story_in self.old.kept) number key.now bytes result }
+        ensures adds { AddsFill account.old.mark account.new.mark key.now bytes result }
+        ensures does { FillsOnce (story_in self.old.kept) account.old.mark.number key.now bytes result }
     {
-        let outcome = self.fill_in_era(alloc, number, account, key, bytes);
+        let outcome = self.fill_in_era(alloc, account, key, bytes);
         *ended = self.end_full(alloc);
         outcome
     }
@@ -450,7 +467,6 @@ impl<L: Ledger> Desk<L> {
     pub(crate) fn retire(
         &mut self,
         alloc: Global,
-        number: u8,
         account: &mut Account<L>,
         other: u8,
         ended: &mut Ended,
@@ -459,9 +475,10 @@ impl<L: Ledger> Desk<L> {
         ensures unmade { IfErr result (λ why. account.new.count ≡ account.old.count + retires_made why) }
         ensures spent { IfErr result (λ why. why ≡ SeatSpent → most_steps ≤ account.old.count) }
         ensures ended { EndsWhereFull self.new.kept (ended_by ended.new) }
-        ensures does { IfOk result (RetiresOnce (story_in self.old.kept) number other) }
+        ensures adds { AddsRetire account.old.mark account.new.mark other result }
+        ensures does { IfOk result (RetiresOnce (story_in self.old.kept) account.old.mark.number other) }
     {
-        let outcome = self.retire_in_era(number, account, other);
+        let outcome = self.retire_in_era(account, other);
         *ended = self.end_full(alloc);
         outcome
     }

@@ -7,6 +7,7 @@
 #![tactic(auto)]
 
 mod account;
+mod bygone;
 mod call;
 mod calls;
 mod close;
@@ -17,11 +18,14 @@ mod missing;
 mod refusal;
 mod seat;
 mod station;
+mod unopened;
 
 pub use call::Call;
 pub use close::{Unclosed, Unlocked, Why};
+pub use geo_journal::Room;
 pub use maintain::Maintained;
 pub use missing::Missing;
 pub use refusal::{CallError, NoSeat, Returned, SeatSpent, StationError};
 pub use seat::Seat;
 pub use station::Station;
+pub use unopened::Unopened;

@@ -9,11 +9,11 @@ ghost use Rattle.geo_history.specs.Stories.{story_in};
 ghost use Rattle.geo_station.specs.Lacking.{IsLackedBy};
 
 use crate::desk::Desk;
+use geo_journal::Room;
 use geo_lattice::Twin;
 use geo_site::Site;
 use geo_versions::{Digest, Key};
 use std::alloc::{AllocError, Global};
-use std::sync::ledger::Ledger;
 
 /// Bytes that a site lacks, as it asks other sites for them.
 #[derive(Drop)]
@@ -68,7 +68,7 @@ fn all_lacked(
     Ok(lacked_ones)
 }
 
-impl<L: Ledger> Desk<L> {
+impl<L: Room> Desk<L> {
     /// What the site lacks of the keys that [`Desk::missing`] would give one after the other, so many at most.
     pub(crate) fn first_missing(
         &self,

@@ -5,28 +5,27 @@ ghost use Rattle.geo_station.specs.Seats.{trimmed};
 use crate::account::Account;
 use crate::call::Call;
 use crate::calls::Calls;
+use geo_journal::Room;
 use std::marker::Model;
-use std::sync::ledger::Ledger;
 
 /// What a thread calls a station with. It keeps its requests, sends and takes with the answers that it was handed, in order, until
 /// [`Seat::forget`]; at a station whose history is not logged it keeps none.
 #[derive(Drop)]
-pub struct Seat<L: Ledger> {
-    pub(crate) number: u8,
+pub struct Seat<L: Room> {
     pub(crate) account: Account<L>,
     pub(crate) calls: Calls,
     pub(crate) forgot: bool,
 }
 
-impl<L: Ledger> Model for Seat<L> {
+impl<L: Room> Model for Seat<L> {
     ghost use Rattle.geo_station.specs.Seats.{Seated};
 
     ghost Value = { Seated };
 
-    ghost view = { λ s. record { number = s.number; steps = s.account.count; calls = s.calls.list.items; forgot = s.forgot; logged = s.calls.logged } };
+    ghost view = { λ s. record { mark = s.account.mark; steps = s.account.count; calls = s.calls.list.items; forgot = s.forgot; logged = s.calls.logged } };
 }
 
-impl<L: Ledger> Seat<L> {
+impl<L: Room> Seat<L> {
     /// The calls that it keeps.
     pub fn calls(&self) -> &[Call]
         ensures { result.now ≡ self.now.calls }

@@ -2,27 +2,29 @@
 ghost use Rattle.std.specs.Prelude.{◌≡◌, ◌≢◌, ◌⊎◌, ℕ, ◌+◌, ◌≤◌, ◌^◌, [], false, vec_len, sum_by, length, option_copied, IfOk, IfErr, IfSome, IsErr, Err};
 ghost use Rattle.std.specs.List.{All};
 ghost use Rattle.geo_delta.specs.Ranges.{InRange};
-ghost use Rattle.geo_history.specs.Keeping.{most_steps, opened_with, opened_total};
+ghost use Rattle.geo_history.specs.Keeping.{most_steps, opened_total};
 ghost use Rattle.geo_history.specs.Stories.{story_in, is_logged};
 ghost use Rattle.geo_station.specs.Seats.{FitsIn, IsLawful, DiffersFrom};
 ghost use Rattle.geo_station.specs.declared.refusal.CallError.TheVariants as refused;
 
 use crate::account::Account;
+use crate::bygone::Bygone;
 use crate::close::{Unclosed, Unlocked, merge_all, open_for};
 use crate::desk::{Desk, Unmade};
 use crate::maintain::Maintained;
 use crate::missing::Missing;
 use crate::refusal::{CallError, NoSeat, Returned, SeatSpent, StationError};
 use crate::seat::Seat;
+use crate::unopened::Unopened;
 use geo_delta::Parcel;
 use geo_grammar::{Reply, Request, ValueBytes};
-use geo_history::{History, Kept};
+use geo_history::History;
+use geo_journal::Room;
 use geo_site::{Answer, BoxedParcel, Event, Filled, RetireError, SendError, TakeError, Taken};
 use geo_versions::{Digest, Key};
 use std::alloc::{AllocError, Global};
 use std::hint::spin_loop;
 use std::marker::Model;
-use std::sync::ledger::{Blank, Ledger};
 use std::sync::{Mutex, MutexGuard, Wait};
 
 /// How often a call asks for the lock before it sleeps for it, and how often it pauses between two of these. A call holds the lock for
@@ -34,12 +36,13 @@ const PAUSES: usize = 10;
 /// A lock round a site with its history, and a ledger whose total is the number of steps. Each call by a seat waits for the lock.
 /// Seats are used with the station that gave them.
 #[derive(Drop)]
-pub struct Station<L: Ledger> {
+pub struct Station<L: Room> {
     desk: Mutex<Desk<L>>,
+    bygone: Bygone,
     seats: u64,
 }
 
-impl<L: Ledger> Model for Station<L> {
+impl<L: Room> Model for Station<L> {
     ghost use Rattle.std.specs.Prelude.{◌≡◌, ℕ};
 
     ghost Value = { ℕ };
@@ -49,19 +52,22 @@ impl<L: Ledger> Model for Station<L> {
     ghost invariant = { λ s. s.seats ≡ L.parts };
 }
 
-impl<L: Ledger> Station<L> {
+impl<L: Room> Station<L> {
     ghost use Rattle.geo_station.specs.Calls.{StationOpens};
 
-    /// A station of so many seats, 2 to 256, round a site that has made no steps, over a blank ledger with as many parts. It takes no
-    /// memory.
-    pub fn new(blank: Blank, kept: Kept, seats: u64) -> Result<Station<L>, StationError>
-        requires name { blank.name ≡ L.name }
-        requires parts { blank.parts ≡ L.parts }
-        requires seats { blank.parts ≡ seats }
-        requires steps { (story_in kept).steps ≡ [] }
-        requires opening { (seat : ℕ) → opened_with (story_in kept).opening seat ≡ 0 }
-        ensures { StationOpens seats result }
+    /// A station of so many seats, 2 to 256, under the name of its ledger and its history. It takes no memory.
+    pub fn new(unopened: Unopened) -> Result<Station<L>, StationError>
+        requires name { unopened.name ≡ L.name }
+        requires parts { unopened.parts ≡ L.parts }
+        requires table { unopened.table ≡ L.table }
+        ensures { StationOpens unopened.parts result }
     {
+        let Unopened {
+            blank,
+            fresh,
+            kept,
+            seats,
+        } = unopened;
         let (book, rest) = blank.open::<L>();
         if seats < 2 || seats > 256 {
             return Err(StationError::SeatCount);
@@ -70,7 +76,7 @@ impl<L: Ledger> Station<L> {
             kept,
             book,
             rest,
-            given: 0,
+            journal: fresh.named::<L>(),
             seats,
         };
         Ok(Station::locked(desk, seats))
@@ -83,6 +89,7 @@ impl<L: Ledger> Station<L> {
     {
         Station {
             desk: Mutex::new(desk),
+            bygone: Bygone::none(),
             seats,
         }
     }
@@ -109,11 +116,12 @@ impl<L: Ledger> Station<L> {
     }
 }
 
-impl<L: Ledger> Station<L> {
+impl<L: Room> Station<L> {
     ghost use Rattle.sha2.specs.Sha256.{sha256};
     ghost use Rattle.geo_grammar.specs.declared.reply.Reply.TheVariants.{OutOfMemory};
-    ghost use Rattle.geo_station.specs.Calls.{ActsBy, SendsBy, TakesBy, FillsBy, RetiresBy, MaintainsBy, takes_made};
+    ghost use Rattle.geo_station.specs.Calls.{ActsBy, SendsBy, TakesBy, FillsBy, RetiresBy, MaintainsBy, sends_made, takes_made};
     ghost use Rattle.geo_station.specs.Receipts.{IsAnswer, IsFilling, IsRetirement, LacksLeast, LacksFirst, HoldsOf};
+    ghost use Rattle.geo_station.specs.Wholes.{AddsReply, AddsParcels, AddsSend, AddsTake, AddsFill, AddsRetire, AddsCare};
 
     /// Answers a client's request at a moment in seconds, 1 to 2^40, after a due flush. Where memory was wanted for the answer, its
     /// step, or the seat's copy, it is [`Reply::OutOfMemory`], and nothing was done but the due flush.
@@ -127,16 +135,12 @@ impl<L: Ledger> Station<L> {
     ) -> Result<Reply, SeatSpent>
         requires { now ≤ 2 ^ 40 }
         ensures acts { ActsBy seat.old seat.new now request result }
-        ensures answered { IfOk result (λ reply. (reply ≡ OutOfMemory) ⊎ IsAnswer seat.old.number now request reply) }
+        ensures adds { AddsReply seat.old.mark seat.new.mark now request result }
+        ensures answered { IfOk result (λ reply. (reply ≡ OutOfMemory) ⊎ IsAnswer seat.old.mark.number now request reply) }
         ensures limit { seat.old.steps ≡ most_steps → IsErr result }
         ensures spent { IsErr result → most_steps ≤ seat.old.steps + 1 }
     {
-        let Seat {
-            number,
-            account,
-            calls,
-            ..
-        } = seat;
+        let Seat { account, calls, .. } = seat;
         if account.is_spent() {
             return Err(SeatSpent);
         }
@@ -145,11 +149,10 @@ impl<L: Ledger> Station<L> {
         };
         // SHA-256 is most of a set, and no other thread waits for it here.
         request.know_digest(alloc);
-        // A history that ends is let go of behind the lock.
+        // A history that ends is let go of behind the lock, and not by a client's thread.
         let mut ended = Ok(Vec::new(alloc));
-        let done = self
-            .held(rt)
-            .act(alloc, *number, account, now, request, &mut ended);
+        let done = self.held(rt).act(alloc, account, now, request, &mut ended);
+        self.bygone.leave(rt, ended);
         match done {
             Ok((reply, kept)) => {
                 let Some(request) = copy else {
@@ -165,6 +168,27 @@ impl<L: Ledger> Station<L> {
         }
     }
 
+    /// Has the site make a parcel under the lock, and gives it twice. A history that ends with it is let go of behind the lock.
+    fn send_locked(
+        &self,
+        rt: &impl Wait,
+        alloc: Global,
+        account: &mut Account<L>,
+        to: u8,
+    ) -> Result<(Parcel, BoxedParcel), CallError<SendError>>
+        ensures made { IfOk result (λ parcels. (account.new.count ≡ account.old.count + 1) × (parcels.1 ≡ parcels.0)) }
+        ensures addressee { IfOk result (λ parcels. parcels.0.to ≡ to) }
+        ensures ranges { IfOk result (λ parcels. InRange parcels.0) }
+        ensures unmade { IfErr result (λ why. account.new.count ≡ account.old.count + sends_made why) }
+        ensures spent { IfErr result (λ why. why ≡ refused.SeatSpent → most_steps ≤ account.old.count) }
+        ensures adds { AddsParcels account.old.mark account.new.mark to result }
+    {
+        let mut ended = Ok(Vec::new(alloc));
+        let done = self.held(rt).send(alloc, account, to, &mut ended);
+        self.bygone.leave(rt, ended);
+        done
+    }
+
     /// Makes a parcel for another site, which a frame can hold.
     pub fn send(
         &self,
@@ -174,40 +198,32 @@ impl<L: Ledger> Station<L> {
         to: u8,
     ) -> Result<Parcel, CallError<SendError>>
         ensures sends { SendsBy seat.old seat.new to result }
+        ensures adds { AddsSend seat.old.mark seat.new.mark to result }
         ensures addressee { IfOk result (λ parcel. parcel.to ≡ to) }
         ensures ranges { IfOk result (λ parcel. InRange parcel) }
         ensures limit { seat.old.steps ≡ most_steps → result ≡ Err refused.SeatSpent }
         ensures spent { result ≡ Err refused.SeatSpent → most_steps ≤ seat.old.steps }
     {
-        let Seat {
-            number,
-            account,
-            calls,
-            ..
-        } = seat;
+        let Seat { account, calls, .. } = seat;
         if account.is_spent() {
             return Err(CallError::SeatSpent);
         }
         if calls.reserve().is_err() {
             return Err(CallError::Site(SendError::Memory));
         }
-        let event = Event::Send { to };
-        let mut ended = Ok(Vec::new(alloc));
-        let done = self.held(rt).send(alloc, *number, account, to, &mut ended);
-        match done {
+        match self.send_locked(rt, alloc, account, to) {
             Ok((parcel, kept)) => {
-                let answer = Answer::Sent(kept);
-                calls.keep(event, answer);
+                calls.keep(Event::Send { to }, Answer::Sent(kept));
                 Ok(parcel)
             }
             Err(CallError::Site(SendError::NoSuchSite)) => {
                 let answer = Answer::SendRefused(SendError::NoSuchSite);
-                calls.keep(event, answer);
+                calls.keep(Event::Send { to }, answer);
                 Err(CallError::Site(SendError::NoSuchSite))
             }
             Err(CallError::Site(SendError::Retired)) => {
                 let answer = Answer::SendRefused(SendError::Retired);
-                calls.keep(event, answer);
+                calls.keep(Event::Send { to }, answer);
                 Err(CallError::Site(SendError::Retired))
             }
             Err(why) => Err(why),
@@ -219,7 +235,6 @@ impl<L: Ledger> Station<L> {
         &self,
         rt: &impl Wait,
         alloc: Global,
-        number: u8,
         account: &mut Account<L>,
         parcel: Parcel,
         copy: BoxedParcel,
@@ -229,11 +244,11 @@ impl<L: Ledger> Station<L> {
         ensures unmade { IfErr result (λ returned. account.new.count ≡ account.old.count + takes_made returned.why) }
         ensures back { IfErr result (λ returned. returned.parcel ≡ parcel) }
         ensures spent { IfErr result (λ returned. returned.why ≡ refused.SeatSpent → most_steps ≤ account.old.count) }
+        ensures adds { AddsTake account.old.mark account.new.mark parcel result }
     {
         let mut ended = Ok(Vec::new(alloc));
-        let done = self
-            .held(rt)
-            .take(alloc, number, account, parcel, copy, &mut ended);
+        let done = self.held(rt).take(alloc, account, parcel, copy, &mut ended);
+        self.bygone.leave(rt, ended);
         done
     }
 
@@ -246,15 +261,11 @@ impl<L: Ledger> Station<L> {
         parcel: Parcel,
     ) -> Result<Taken, Returned>
         ensures takes { TakesBy seat.old seat.new parcel result }
+        ensures adds { AddsTake seat.old.mark seat.new.mark parcel result }
         ensures limit { seat.old.steps ≡ most_steps → IfErr result (λ returned. returned.why ≡ refused.SeatSpent) }
         ensures spent { IfErr result (λ returned. returned.why ≡ refused.SeatSpent → most_steps ≤ seat.old.steps) }
     {
-        let Seat {
-            number,
-            account,
-            calls,
-            ..
-        } = seat;
+        let Seat { account, calls, .. } = seat;
         if account.is_spent() {
             let why = CallError::SeatSpent;
             return Err(Returned { why, parcel });
@@ -268,7 +279,7 @@ impl<L: Ledger> Station<L> {
             return Err(Returned { why, parcel });
         };
         let event = Event::Take { parcel: own };
-        let done = self.take_locked(rt, alloc, *number, account, parcel, copy);
+        let done = self.take_locked(rt, alloc, account, parcel, copy);
         match &done {
             Ok(told) => {
                 let answer = Answer::Taken(*told);
@@ -295,24 +306,20 @@ impl<L: Ledger> Station<L> {
         mut bytes: ValueBytes,
     ) -> Result<Filled, CallError<AllocError>>
         ensures fills { FillsBy seat.old seat.new result }
-        ensures filled { IfOk result (IsFilling seat.old.number key.now bytes) }
+        ensures adds { AddsFill seat.old.mark seat.new.mark key.now bytes result }
+        ensures filled { IfOk result (IsFilling seat.old.mark.number key.now bytes) }
         ensures limit { seat.old.steps ≡ most_steps → result ≡ Err refused.SeatSpent }
         ensures spent { result ≡ Err refused.SeatSpent → most_steps ≤ seat.old.steps }
     {
-        let Seat {
-            number,
-            account,
-            ..
-        } = seat;
+        let Seat { account, .. } = seat;
         if account.is_spent() {
             return Err(CallError::SeatSpent);
         }
         // No other thread waits for their SHA-256 here.
         bytes.know_digest(alloc);
         let mut ended = Ok(Vec::new(alloc));
-        let done = self
-            .held(rt)
-            .fill(alloc, *number, account, key, bytes, &mut ended);
+        let done = self.held(rt).fill(alloc, account, key, bytes, &mut ended);
+        self.bygone.leave(rt, ended);
         done
     }
 
@@ -326,22 +333,18 @@ impl<L: Ledger> Station<L> {
         other: u8,
     ) -> Result<bool, CallError<RetireError>>
         ensures retires { RetiresBy seat.old seat.new result }
-        ensures retired { IfOk result (IsRetirement seat.old.number other) }
+        ensures adds { AddsRetire seat.old.mark seat.new.mark other result }
+        ensures retired { IfOk result (IsRetirement seat.old.mark.number other) }
         ensures limit { seat.old.steps ≡ most_steps → result ≡ Err refused.SeatSpent }
         ensures spent { result ≡ Err refused.SeatSpent → most_steps ≤ seat.old.steps }
     {
-        let Seat {
-            number,
-            account,
-            ..
-        } = seat;
+        let Seat { account, .. } = seat;
         if account.is_spent() {
             return Err(CallError::SeatSpent);
         }
         let mut ended = Ok(Vec::new(alloc));
-        let done = self
-            .held(rt)
-            .retire(alloc, *number, account, other, &mut ended);
+        let done = self.held(rt).retire(alloc, account, other, &mut ended);
+        self.bygone.leave(rt, ended);
         done
     }
 
@@ -403,26 +406,22 @@ impl<L: Ledger> Station<L> {
         now: u64,
     ) -> Result<Maintained, SeatSpent>
         ensures maintains { MaintainsBy seat.old seat.new result }
+        ensures adds { IfOk result (λ _. AddsCare seat.old.mark seat.new.mark) }
         ensures limit { seat.old.steps ≡ most_steps → IsErr result }
         ensures spent { IsErr result → most_steps ≤ seat.old.steps }
     {
-        let Seat {
-            number,
-            account,
-            ..
-        } = seat;
+        let Seat { account, .. } = seat;
         if account.is_spent() {
             return Err(SeatSpent);
         }
         let mut ended = Ok(Vec::new(alloc));
-        let done = self
-            .held(rt)
-            .maintain(alloc, *number, account, now, &mut ended);
+        let done = self.held(rt).maintain(alloc, account, now, &mut ended);
+        self.bygone.let_go(rt);
         done
     }
 }
 
-impl<L: Ledger> Station<L> {
+impl<L: Room> Station<L> {
     /// Begins a new era where this one has so many steps or more, and hands out the history that ends with it: the next goes on from
     /// what the site is now. It is no step. Where memory is wanted, or this is era 2^32 - 1, nothing is done. Whoever lets go of the
     /// history holds up no other, for the lock is free then.
@@ -439,7 +438,8 @@ impl<L: Ledger> Station<L> {
     }
 }
 
-impl<L: Ledger> Station<L> {
+impl<L: Room> Station<L> {
+    ghost use Rattle.geo_station.specs.Seats.{IsOneHistory};
     ghost use Rattle.geo_station.specs.declared.close.Why.TheVariants as whys;
 
     /// The history of what was done, where all seats are handed in, it was logged, and it tells of each seat what the seat keeps. Else
@@ -449,6 +449,7 @@ impl<L: Ledger> Station<L> {
         ensures sum { IfOk result (λ history. opened_total history.opening + length history.steps.items
             ≡ sum_by (λ s. s.steps) seats.items) }
         ensures each { IfOk result (λ history. All (FitsIn history.opening history.steps.items) seats.items) }
+        ensures one { IfOk result (λ history. ∥ IsOneHistory history.steps.items seats.items ∥₁) }
         ensures all { IfOk result (λ _. vec_len seats ≡ self) }
         ensures missing { IfErr result (λ unclosed. unclosed.why ≡ whys.Missing → vec_len seats ≢ self) }
         ensures unlogged { IfErr result (λ unclosed. unclosed.why ≡ whys.Unlogged
@@ -457,7 +458,11 @@ impl<L: Ledger> Station<L> {
             → (vec_len seats ≡ self) × DiffersFrom (story_in unclosed.station.desk.kept) seats.items) }
         ensures back { IfErr result (λ unclosed. (unclosed.seats ≡ seats) × (unclosed.station.seats ≡ self) × (self ≡ L.parts)) }
     {
-        let Station { desk, seats: count } = self;
+        let Station {
+            desk,
+            seats: count,
+            ..
+        } = self;
         let mut desk = desk.into_inner();
         if let Some(why) = open_for(&desk.kept, count, seats.as_slice()) {
             let station = Unlocked { desk, seats: count };
@@ -468,7 +473,7 @@ impl<L: Ledger> Station<L> {
             });
         }
         let mut all = desk.rest.empty();
-        merge_all(&mut all, seats);
+        merge_all(&mut all, &mut desk.journal, seats);
         desk.book.audit(&mut all);
         let Desk { kept, .. } = desk;
         Ok(kept.history())

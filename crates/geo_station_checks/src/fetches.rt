@@ -1,9 +1,9 @@
 //! Fetches of what a site lacks: from a site that has it, and from peers that answer otherwise.
-ghost use Rattle.std.specs.Prelude.{◌≡◌, ℕ, []};
-ghost use Rattle.geo_history.specs.Keeping.{opened_with};
-ghost use Rattle.geo_history.specs.Stories.{story_in};
+ghost use Rattle.std.specs.Prelude.{◌≡◌};
+ghost use Rattle.geo_history.specs.Stories.{IsNew};
 
 use crate::rounds::{found, set, station_of};
+use crate::stations::with_seats;
 use geo_delta::Parcel;
 use geo_fixtures::opened;
 use geo_frame::{FrameFault, Message};
@@ -12,13 +12,12 @@ use geo_history::Kept;
 use geo_lattice::Items;
 use geo_link::{Link, LinkError, MemoryLink, memory_link};
 use geo_stamp::{Retired, Vector};
-use geo_station::{Seat, Station};
+use geo_station::{Room, Seat, Station, Unopened};
 use geo_versions::{Digest, Key};
 use std::alloc::{AllocError, Global};
 use std::marker::Brand;
 use std::process::Abort;
 use std::sync::Wait;
-use std::sync::ledger::{Blank, Ledger};
 use std::thread::{Threads, join};
 
 /// How a peer answers an ask for the value `yo` of the key `a`.
@@ -186,7 +185,7 @@ fn peer_of(site: u8, way: Way) -> Peer<Other> {
 }
 
 /// Fetches from two peers: how many values are held then that were not, and what the peers have seen.
-fn fetch_from<L: Ledger>(
+fn fetch_from<L: Room>(
     rt: &impl Wait,
     alloc: Global,
     station: &Station<L>,
@@ -202,7 +201,7 @@ fn fetch_from<L: Ledger>(
 }
 
 /// Site 1 learns that site 2 wrote a value.
-fn learn<L: Ledger, M: Ledger>(
+fn learn<L: Room, M: Room>(
     rt: &impl Wait,
     alloc: Global,
     one: &Station<L>,
@@ -219,7 +218,7 @@ fn learn<L: Ledger, M: Ledger>(
 /// What a fetch from two peers brings, and how many values a get finds behind it.
 type Brought = (usize, Asked, usize);
 
-fn brings<L: Ledger>(
+fn brings<L: Room>(
     rt: &impl Wait,
     alloc: Global,
     station: &Station<L>,
@@ -231,44 +230,40 @@ fn brings<L: Ledger>(
 }
 
 /// Site 2 beside site 1, which learns of its write and fetches it from peers that answer in these ways.
-fn beside<L: Ledger, M: Ledger, R: Wait + Abort>(
+fn beside<L: Room, M: Room, R: Wait + Abort>(
     rt: &R,
     alloc: Global,
     station: &Station<L>,
     seat: &mut Seat<L>,
-    kept: Kept,
-    blank: Blank,
+    unopened: Unopened,
     ways: [Way; 2],
 ) -> Brought
-    requires name { blank.name ≡ M.name }
-    requires parts { blank.parts ≡ M.parts }
-    requires two { blank.parts ≡ 2 }
-    requires steps { (story_in kept).steps ≡ [] }
-    requires opening { (seat : ℕ) → opened_with (story_in kept).opening seat ≡ 0 }
+    requires name { unopened.name ≡ M.name }
+    requires parts { unopened.parts ≡ M.parts }
+    requires table { unopened.table ≡ M.table }
+    requires two { unopened.parts ≡ 2 }
 {
-    let (other, mut second) = station_of::<M>(rt, alloc, blank, kept);
+    let (other, mut second) = station_of::<M>(rt, alloc, unopened);
     learn(rt, alloc, station, seat, &other, &mut second).expect(rt, "it is learned");
     brings(rt, alloc, station, seat, ways).expect(rt, "a fetch")
 }
 
-fn over_peers<L: Ledger, R: Wait + Abort>(
+fn over_peers<L: Room, R: Wait + Abort>(
     rt: &R,
     alloc: Global,
-    blank: Blank,
-    one: Kept,
+    unopened: Unopened,
     two: Kept,
     ways: [Way; 2],
 ) -> Brought
-    requires name { blank.name ≡ L.name }
-    requires parts { blank.parts ≡ L.parts }
-    requires two { blank.parts ≡ 2 }
-    requires steps_of_one { (story_in one).steps ≡ [] }
-    requires opening_of_one { (seat : ℕ) → opened_with (story_in one).opening seat ≡ 0 }
-    requires steps_of_two { (story_in two).steps ≡ [] }
-    requires opening_of_two { (seat : ℕ) → opened_with (story_in two).opening seat ≡ 0 }
+    requires name { unopened.name ≡ L.name }
+    requires parts { unopened.parts ≡ L.parts }
+    requires table { unopened.table ≡ L.table }
+    requires two { unopened.parts ≡ 2 }
+    requires new { IsNew two }
 {
-    let (station, mut seat) = station_of::<L>(rt, alloc, blank, one);
-    beside::<L, Brand, R>(rt, alloc, &station, &mut seat, two, Blank::new(2), ways)
+    let (station, mut seat) = station_of::<L>(rt, alloc, unopened);
+    let unopened = with_seats(alloc, two, 2).expect(rt, "memory");
+    beside::<L, Brand, R>(rt, alloc, &station, &mut seat, unopened, ways)
 }
 
 /// Two peers' ways, how many values are fetched, what the peers see, and how many values a get finds.
@@ -316,13 +311,14 @@ fn a_fetch_asks_each_peer_and_closes_the_links_of_those_that_answer_wrongly(rt: 
     for (ways, owed) in ROWS {
         let one = opened(&rt, rt.alloc(), 1, 3).expect(&rt, "a site");
         let two = opened(&rt, rt.alloc(), 2, 3).expect(&rt, "another");
-        let seen = over_peers::<Brand, _>(&rt, rt.alloc(), Blank::new(2), one, two, ways);
+        let unopened = with_seats(rt.alloc(), one, 2).expect(&rt, "memory");
+        let seen = over_peers::<Brand, _>(&rt, rt.alloc(), unopened, two, ways);
         assert_eq!(rt; seen, owed);
     }
 }
 
 /// A fetch over a link, which is then dropped.
-fn fetched<L: Ledger>(
+fn fetched<L: Room>(
     rt: &impl Wait,
     alloc: Global,
     station: &Station<L>,
@@ -338,7 +334,7 @@ fn fetched<L: Ledger>(
 }
 
 /// What comes over a link until it is closed: how many parcels were taken.
-fn answered<L: Ledger>(
+fn answered<L: Room>(
     rt: &impl Wait,
     alloc: Global,
     station: &Station<L>,
@@ -350,7 +346,7 @@ fn answered<L: Ledger>(
 }
 
 /// One site fetches from the other, whose thread receives: how many were fetched, how many parcels taken, and how many values found.
-fn over_a_link<L: Ledger + Send + Sync, M: Ledger + Send + Sync, R: Threads + Wait + Abort + Sync>(
+fn over_a_link<L: Room + Send + Sync, M: Room + Send + Sync, R: Threads + Wait + Abort + Sync>(
     rt: &R,
     alloc: Global,
     one: &Station<L>,
@@ -370,52 +366,45 @@ fn over_a_link<L: Ledger + Send + Sync, M: Ledger + Send + Sync, R: Threads + Wa
     (done, taken, count)
 }
 
-fn beside_a_link<
-    L: Ledger + Send + Sync,
-    M: Ledger + Send + Sync,
-    R: Threads + Wait + Abort + Sync,
->(
+fn beside_a_link<L: Room + Send + Sync, M: Room + Send + Sync, R: Threads + Wait + Abort + Sync>(
     rt: &R,
     alloc: Global,
     station: &Station<L>,
     mut seat: Seat<L>,
-    blank: Blank,
-    kept: Kept,
+    unopened: Unopened,
 ) -> (usize, usize, usize)
-    requires name { blank.name ≡ M.name }
-    requires parts { blank.parts ≡ M.parts }
-    requires two { blank.parts ≡ 2 }
-    requires steps { (story_in kept).steps ≡ [] }
-    requires opening { (seat : ℕ) → opened_with (story_in kept).opening seat ≡ 0 }
+    requires name { unopened.name ≡ M.name }
+    requires parts { unopened.parts ≡ M.parts }
+    requires table { unopened.table ≡ M.table }
+    requires two { unopened.parts ≡ 2 }
 {
-    let (other, mut second) = station_of::<M>(rt, alloc, blank, kept);
+    let (other, mut second) = station_of::<M>(rt, alloc, unopened);
     learn(rt, alloc, station, &mut seat, &other, &mut second).expect(rt, "it is learned");
     over_a_link(rt, alloc, station, seat, &other, second)
 }
 
-fn both<L: Ledger + Send + Sync, R: Threads + Wait + Abort + Sync>(
+fn both<L: Room + Send + Sync, R: Threads + Wait + Abort + Sync>(
     rt: &R,
     alloc: Global,
-    blank: Blank,
-    one: Kept,
+    unopened: Unopened,
     two: Kept,
 ) -> (usize, usize, usize)
-    requires name { blank.name ≡ L.name }
-    requires parts { blank.parts ≡ L.parts }
-    requires two { blank.parts ≡ 2 }
-    requires steps_of_one { (story_in one).steps ≡ [] }
-    requires opening_of_one { (seat : ℕ) → opened_with (story_in one).opening seat ≡ 0 }
-    requires steps_of_two { (story_in two).steps ≡ [] }
-    requires opening_of_two { (seat : ℕ) → opened_with (story_in two).opening seat ≡ 0 }
+    requires name { unopened.name ≡ L.name }
+    requires parts { unopened.parts ≡ L.parts }
+    requires table { unopened.table ≡ L.table }
+    requires two { unopened.parts ≡ 2 }
+    requires new { IsNew two }
 {
-    let (station, seat) = station_of::<L>(rt, alloc, blank, one);
-    beside_a_link::<L, Brand, R>(rt, alloc, &station, seat, Blank::new(2), two)
+    let (station, seat) = station_of::<L>(rt, alloc, unopened);
+    let unopened = with_seats(alloc, two, 2).expect(rt, "memory");
+    beside_a_link::<L, Brand, R>(rt, alloc, &station, seat, unopened)
 }
 
 #[test]
 fn a_site_fetches_what_another_wrote(rt: HostRuntime) {
     let one = opened(&rt, rt.alloc(), 1, 2).expect(&rt, "a site");
     let two = opened(&rt, rt.alloc(), 2, 2).expect(&rt, "another");
-    let seen = both::<Brand, _>(&rt, rt.alloc(), Blank::new(2), one, two);
+    let unopened = with_seats(rt.alloc(), one, 2).expect(&rt, "memory");
+    let seen = both::<Brand, _>(&rt, rt.alloc(), unopened, two);
     assert_eq!(rt; seen, (1, 0, 1));
 }

@@ -1,23 +1,21 @@
 //! Two stations whose sites set one key, tell each other, and which are closed.
-ghost use Rattle.std.specs.Prelude.{◌≡◌, ℕ, []};
-ghost use Rattle.geo_history.specs.Keeping.{opened_with};
-ghost use Rattle.geo_history.specs.Stories.{story_in};
+ghost use Rattle.std.specs.Prelude.{◌≡◌};
+ghost use Rattle.geo_history.specs.Stories.{IsNew};
 
 use crate::audits::{Told, check};
 use crate::shown::show_steps;
-use crate::stations::{act, closed};
+use crate::stations::{act, closed, with_seats};
 use geo_delta::Parcel;
 use geo_fixtures::opened;
 use geo_history::{History, Kept};
-use geo_station::{Seat, Station};
+use geo_station::{Room, Seat, Station, Unopened};
 use std::alloc::Global;
 use std::marker::Brand;
 use std::process::Abort;
 use std::sync::Wait;
-use std::sync::ledger::{Blank, Ledger};
 
 /// A site takes a parcel, which is written down.
-fn take<L: Ledger>(
+fn take<L: Room>(
     rt: &impl Wait,
     alloc: Global,
     station: &Station<L>,
@@ -30,7 +28,7 @@ fn take<L: Ledger>(
 }
 
 /// Both set one key, both send before either takes, and then both get.
-fn tie<L: Ledger, M: Ledger>(
+fn tie<L: Room, M: Room>(
     rt: &impl Wait,
     alloc: Global,
     one: &Station<L>,
@@ -50,24 +48,20 @@ fn tie<L: Ledger, M: Ledger>(
 }
 
 /// The history of a second station, which is opened beside the first and closed.
-fn beside<L: Ledger, M: Ledger, R: Wait + Abort>(
+fn beside<L: Room, M: Room, R: Wait + Abort>(
     rt: &R,
     alloc: Global,
     station: &Station<L>,
     seat: &mut Seat<L>,
-    blank: Blank,
-    kept: Kept,
+    unopened: Unopened,
     out: &mut Vec<u8>,
 ) -> History
-    requires name { blank.name ≡ M.name }
-    requires parts { blank.parts ≡ M.parts }
-    requires two { blank.parts ≡ 2 }
-    requires steps { (story_in kept).steps ≡ [] }
-    requires opening { (seat : ℕ) → opened_with (story_in kept).opening seat ≡ 0 }
+    requires name { unopened.name ≡ M.name }
+    requires parts { unopened.parts ≡ M.parts }
+    requires table { unopened.table ≡ M.table }
+    requires two { unopened.parts ≡ 2 }
 {
-    let other = Station::<M>::new(blank, kept, 2)
-        .ok()
-        .expect(rt, "a station");
+    let other = Station::<M>::new(unopened).ok().expect(rt, "a station");
     let mut second = other.seat(rt, alloc).ok().expect(rt, "a seat");
     let idle = other.seat(rt, alloc).ok().expect(rt, "another");
     tie(rt, alloc, station, seat, &other, &mut second, out).expect(rt, "all is answered");
@@ -75,28 +69,24 @@ fn beside<L: Ledger, M: Ledger, R: Wait + Abort>(
 }
 
 /// The histories of two stations, of which each is closed.
-fn both<L: Ledger, R: Wait + Abort>(
+fn both<L: Room, R: Wait + Abort>(
     rt: &R,
     alloc: Global,
-    blank: Blank,
-    one: Kept,
+    unopened: Unopened,
     two: Kept,
     out: &mut Vec<u8>,
 ) -> [History; 2]
-    requires name { blank.name ≡ L.name }
-    requires parts { blank.parts ≡ L.parts }
-    requires two { blank.parts ≡ 2 }
-    requires steps_of_one { (story_in one).steps ≡ [] }
-    requires opening_of_one { (seat : ℕ) → opened_with (story_in one).opening seat ≡ 0 }
-    requires steps_of_two { (story_in two).steps ≡ [] }
-    requires opening_of_two { (seat : ℕ) → opened_with (story_in two).opening seat ≡ 0 }
+    requires name { unopened.name ≡ L.name }
+    requires parts { unopened.parts ≡ L.parts }
+    requires table { unopened.table ≡ L.table }
+    requires two { unopened.parts ≡ 2 }
+    requires new { IsNew two }
 {
-    let station = Station::<L>::new(blank, one, 2)
-        .ok()
-        .expect(rt, "a station");
+    let station = Station::<L>::new(unopened).ok().expect(rt, "a station");
     let mut first = station.seat(rt, alloc).ok().expect(rt, "a seat");
     let idle = station.seat(rt, alloc).ok().expect(rt, "another");
-    let second = beside::<L, Brand, R>(rt, alloc, &station, &mut first, Blank::new(2), two, out);
+    let unopened = with_seats(alloc, two, 2).expect(rt, "memory");
+    let second = beside::<L, Brand, R>(rt, alloc, &station, &mut first, unopened, out);
     [closed(rt, alloc, station, first, idle), second]
 }
 
@@ -118,7 +108,8 @@ fn two_stations_that_told_each_other_close(rt: HostRuntime) {
     let one = opened(&rt, alloc, 1, 2).expect(&rt, "a site");
     let two = opened(&rt, alloc, 2, 2).expect(&rt, "another");
     let mut out = Vec::new(alloc);
-    let histories = both::<Brand, _>(&rt, alloc, Blank::new(2), one, two, &mut out);
+    let unopened = with_seats(alloc, one, 2).expect(&rt, "memory");
+    let histories = both::<Brand, _>(&rt, alloc, unopened, two, &mut out);
     assert_eq!(rt; out.as_slice(), ANSWERS);
     let mut steps = Vec::new(alloc);
     for history in &histories {

@@ -1,43 +1,38 @@
 //! Rounds of gossip between two stations.
-ghost use Rattle.std.specs.Prelude.{◌≡◌, ℕ, []};
-ghost use Rattle.geo_history.specs.Keeping.{opened_with};
-ghost use Rattle.geo_history.specs.Stories.{story_in};
+ghost use Rattle.std.specs.Prelude.{◌≡◌};
+ghost use Rattle.geo_history.specs.Stories.{IsNew};
 
+use crate::stations::with_seats;
 use geo_fixtures::opened;
 use geo_gossip::{Peer, receive, round};
 use geo_grammar::{Reply, Request, ValueBytes, Verb};
 use geo_history::Kept;
 use geo_lattice::Items;
 use geo_link::{MemoryLink, memory_link};
-use geo_station::{Seat, Station};
+use geo_station::{Room, Seat, Station, Unopened};
 use geo_versions::Key;
 use std::alloc::Global;
 use std::marker::Brand;
 use std::process::Abort;
 use std::sync::Wait;
-use std::sync::ledger::{Blank, Ledger};
 
 /// A station and a seat at it.
-pub fn station_of<L: Ledger>(
+pub fn station_of<L: Room>(
     rt: &(impl Wait + Abort),
     alloc: Global,
-    blank: Blank,
-    kept: Kept,
+    unopened: Unopened,
 ) -> (Station<L>, Seat<L>)
-    requires name { blank.name ≡ L.name }
-    requires parts { blank.parts ≡ L.parts }
-    requires two { blank.parts ≡ 2 }
-    requires steps { (story_in kept).steps ≡ [] }
-    requires opening { (seat : ℕ) → opened_with (story_in kept).opening seat ≡ 0 }
+    requires name { unopened.name ≡ L.name }
+    requires parts { unopened.parts ≡ L.parts }
+    requires table { unopened.table ≡ L.table }
+    requires two { unopened.parts ≡ 2 }
 {
-    let station = Station::<L>::new(blank, kept, 2)
-        .ok()
-        .expect(rt, "a station");
+    let station = Station::<L>::new(unopened).ok().expect(rt, "a station");
     let seat = station.seat(rt, alloc).ok().expect(rt, "a seat");
     (station, seat)
 }
 
-pub fn set<L: Ledger>(
+pub fn set<L: Room>(
     rt: &impl Wait,
     alloc: Global,
     station: &Station<L>,
@@ -60,7 +55,7 @@ pub fn set<L: Ledger>(
 }
 
 /// A round to one peer, whose link is then dropped: how many parcels were put.
-fn tell<L: Ledger>(
+fn tell<L: Room>(
     rt: &impl Wait,
     alloc: Global,
     station: &Station<L>,
@@ -74,7 +69,7 @@ fn tell<L: Ledger>(
 }
 
 /// The number of what a site names for the one key that it tells a third site of.
-fn named<L: Ledger>(
+fn named<L: Room>(
     rt: &impl Wait,
     alloc: Global,
     station: &Station<L>,
@@ -91,7 +86,7 @@ fn named<L: Ledger>(
 }
 
 /// How many values a get finds.
-pub fn found<L: Ledger>(
+pub fn found<L: Room>(
     rt: &impl Wait,
     alloc: Global,
     station: &Station<L>,
@@ -113,7 +108,7 @@ pub fn found<L: Ledger>(
 type Seen = (usize, usize, u64, usize);
 
 /// What a site names and finds.
-fn seen<L: Ledger>(
+fn seen<L: Room>(
     rt: &impl Wait,
     alloc: Global,
     station: &Station<L>,
@@ -124,7 +119,7 @@ fn seen<L: Ledger>(
 }
 
 /// Both tell each other, and then both take what came.
-fn exchange<L: Ledger, M: Ledger>(
+fn exchange<L: Room, M: Room>(
     rt: &(impl Wait + Abort),
     alloc: Global,
     one: &Station<L>,
@@ -147,50 +142,42 @@ fn exchange<L: Ledger, M: Ledger>(
 }
 
 /// A second site beside the first.
-fn beside<L: Ledger, M: Ledger, R: Wait + Abort>(
+fn beside<L: Room, M: Room, R: Wait + Abort>(
     rt: &R,
     alloc: Global,
     station: &Station<L>,
     seat: &mut Seat<L>,
-    blank: Blank,
-    kept: Kept,
+    unopened: Unopened,
 ) -> [Seen; 2]
-    requires name { blank.name ≡ M.name }
-    requires parts { blank.parts ≡ M.parts }
-    requires two { blank.parts ≡ 2 }
-    requires steps { (story_in kept).steps ≡ [] }
-    requires opening { (seat : ℕ) → opened_with (story_in kept).opening seat ≡ 0 }
+    requires name { unopened.name ≡ M.name }
+    requires parts { unopened.parts ≡ M.parts }
+    requires table { unopened.table ≡ M.table }
+    requires two { unopened.parts ≡ 2 }
 {
-    let (other, mut second) = station_of::<M>(rt, alloc, blank, kept);
+    let (other, mut second) = station_of::<M>(rt, alloc, unopened);
     set(rt, alloc, &other, &mut second, b"yo").expect(rt, "it is stored");
     exchange(rt, alloc, station, seat, &other, &mut second)
 }
 
 /// Two sites that set one key, and tell each other in one round each.
-fn both<L: Ledger, R: Wait + Abort>(
-    rt: &R,
-    alloc: Global,
-    blank: Blank,
-    one: Kept,
-    two: Kept,
-) -> [Seen; 2]
-    requires name { blank.name ≡ L.name }
-    requires parts { blank.parts ≡ L.parts }
-    requires two { blank.parts ≡ 2 }
-    requires steps_of_one { (story_in one).steps ≡ [] }
-    requires opening_of_one { (seat : ℕ) → opened_with (story_in one).opening seat ≡ 0 }
-    requires steps_of_two { (story_in two).steps ≡ [] }
-    requires opening_of_two { (seat : ℕ) → opened_with (story_in two).opening seat ≡ 0 }
+fn both<L: Room, R: Wait + Abort>(rt: &R, alloc: Global, unopened: Unopened, two: Kept) -> [Seen; 2]
+    requires name { unopened.name ≡ L.name }
+    requires parts { unopened.parts ≡ L.parts }
+    requires table { unopened.table ≡ L.table }
+    requires two { unopened.parts ≡ 2 }
+    requires new { IsNew two }
 {
-    let (station, mut seat) = station_of::<L>(rt, alloc, blank, one);
+    let (station, mut seat) = station_of::<L>(rt, alloc, unopened);
     set(rt, alloc, &station, &mut seat, b"hi").expect(rt, "it is stored");
-    beside::<L, Brand, R>(rt, alloc, &station, &mut seat, Blank::new(2), two)
+    let unopened = with_seats(alloc, two, 2).expect(rt, "memory");
+    beside::<L, Brand, R>(rt, alloc, &station, &mut seat, unopened)
 }
 
 #[test]
 fn a_round_each_makes_two_sites_name_the_same(rt: HostRuntime) {
     let one = opened(&rt, rt.alloc(), 1, 3).expect(&rt, "a site");
     let two = opened(&rt, rt.alloc(), 2, 3).expect(&rt, "another");
-    let seen = both::<Brand, _>(&rt, rt.alloc(), Blank::new(2), one, two);
+    let unopened = with_seats(rt.alloc(), one, 2).expect(&rt, "memory");
+    let seen = both::<Brand, _>(&rt, rt.alloc(), unopened, two);
     assert_eq!(rt; seen, [(1, 1, 258, 0), (1, 1, 258, 1)]);
 }

@@ -1,7 +1,6 @@
 //! What no clause says of stations: that their calls succeed where there is memory, what they answer, and the steps that are kept.
-ghost use Rattle.std.specs.Prelude.{◌≡◌, ◌≤◌, ◌^◌, ℕ, [], IfSome};
-ghost use Rattle.geo_history.specs.Keeping.{opened_with};
-ghost use Rattle.geo_history.specs.Stories.{story_in};
+ghost use Rattle.std.specs.Prelude.{◌≡◌, [], IfSome};
+ghost use Rattle.geo_history.specs.Stories.{IsNew};
 
 use crate::audits::{Told, check};
 use crate::calls::request;
@@ -10,7 +9,7 @@ use geo_fixtures::{opened, setup_of};
 use geo_grammar::{ValueBytes, push_reply};
 use geo_history::{History, Kept};
 use geo_site::Site;
-use geo_station::{Missing, Seat, Station, StationError, Unclosed};
+use geo_station::{Missing, Room, Seat, Station, StationError, Unclosed, Unopened};
 use geo_versions::{Digest, Key};
 use std::alloc::Global;
 use std::fmt::Debug;
@@ -18,23 +17,30 @@ use std::marker::Brand;
 use std::process::Abort;
 use std::random::RandomSource;
 use std::sync::Wait;
-use std::sync::ledger::{Blank, Ledger};
 
 /// Whether a station of one seat is refused.
-fn refuses_one<L: Ledger>(blank: Blank, kept: Kept) -> bool
-    requires name { blank.name ≡ L.name }
-    requires parts { blank.parts ≡ L.parts }
-    requires one { blank.parts ≡ 1 }
-    requires steps { (story_in kept).steps ≡ [] }
-    requires opening { (seat : ℕ) → opened_with (story_in kept).opening seat ≡ 0 }
+fn refuses_one<L: Room>(unopened: Unopened) -> bool
+    requires name { unopened.name ≡ L.name }
+    requires parts { unopened.parts ≡ L.parts }
+    requires table { unopened.table ≡ L.table }
+    requires one { unopened.parts ≡ 1 }
 {
-    Station::<L>::new(blank, kept, 1).err() == Some(StationError::SeatCount)
+    Station::<L>::new(unopened).err() == Some(StationError::SeatCount)
+}
+
+/// A station of so many seats round a site, which no type stands for yet.
+pub fn with_seats(alloc: Global, kept: Kept, seats: u64) -> Option<Unopened>
+    requires { IsNew kept }
+    ensures { IfSome result (λ unopened. unopened.parts ≡ seats) }
+{
+    Unopened::new(alloc, kept, seats).ok()
 }
 
 #[test]
 fn one_seat_is_too_few(rt: HostRuntime) {
     let kept = opened(&rt, rt.alloc(), 1, 1).expect(&rt, "a site");
-    assert!(rt; refuses_one::<Brand>(Blank::new(1), kept));
+    let unopened = with_seats(rt.alloc(), kept, 1).expect(&rt, "memory");
+    assert!(rt; refuses_one::<Brand>(unopened));
 }
 
 /// A call by a station's first seat.
@@ -64,7 +70,7 @@ pub enum Call {
 }
 
 /// A request's answer in the text of the protocol, unless the seat is spent.
-pub fn act<L: Ledger>(
+pub fn act<L: Room>(
     rt: &impl Wait,
     alloc: Global,
     station: &Station<L>,
@@ -77,7 +83,7 @@ pub fn act<L: Ledger>(
     push_reply(out, &reply).ok()
 }
 
-fn exchange<L: Ledger>(
+fn exchange<L: Room>(
     rt: &impl Wait,
     alloc: Global,
     station: &Station<L>,
@@ -116,7 +122,7 @@ fn say_missing(alloc: Global, out: &mut Vec<u8>, missing: &Missing) -> Option<()
 }
 
 /// Writes what a site lacks above a key.
-fn miss<L: Ledger>(
+fn miss<L: Room>(
     rt: &impl Wait,
     alloc: Global,
     station: &Station<L>,
@@ -134,7 +140,7 @@ fn miss<L: Ledger>(
 }
 
 /// Writes of how many keys a site lacks bytes, so many at most, and of which.
-fn miss_first<L: Ledger>(
+fn miss_first<L: Room>(
     rt: &impl Wait,
     alloc: Global,
     station: &Station<L>,
@@ -150,7 +156,7 @@ fn miss_first<L: Ledger>(
 }
 
 /// Offers a site bytes, and writes what came of them.
-fn fill<L: Ledger>(
+fn fill<L: Room>(
     rt: &impl Wait,
     alloc: Global,
     station: &Station<L>,
@@ -164,7 +170,7 @@ fn fill<L: Ledger>(
 }
 
 /// Writes what a site offers for the SHA-256 of these bytes.
-fn offer<L: Ledger>(
+fn offer<L: Room>(
     rt: &impl Wait,
     alloc: Global,
     station: &Station<L>,
@@ -177,7 +183,7 @@ fn offer<L: Ledger>(
 }
 
 /// Carries out a call, and writes what it answers.
-pub fn answer<L: Ledger>(
+pub fn answer<L: Room>(
     rt: &impl Wait,
     alloc: Global,
     station: &Station<L>,
@@ -202,7 +208,7 @@ pub fn answer<L: Ledger>(
 }
 
 /// The history of a station that is closed with its two seats.
-pub fn closed<L: Ledger>(
+pub fn closed<L: Room>(
     rt: &impl Abort,
     alloc: Global,
     station: Station<L>,
@@ -216,7 +222,7 @@ pub fn closed<L: Ledger>(
 }
 
 /// The history of a station that isn't closed with one of its seats, and why not, but with both.
-fn closed_at_last<L: Ledger>(
+fn closed_at_last<L: Room>(
     rt: &impl Abort,
     alloc: Global,
     station: Station<L>,
@@ -242,7 +248,7 @@ fn closed_at_last<L: Ledger>(
 }
 
 /// Writes how many calls a seat keeps, and whether there is another seat.
-pub fn show_seats<L: Ledger>(
+pub fn show_seats<L: Room>(
     rt: &impl Wait,
     alloc: Global,
     station: &Station<L>,
@@ -255,22 +261,20 @@ pub fn show_seats<L: Ledger>(
 }
 
 /// Carries out calls by the first of two seats, counts those that it keeps, asks for a third seat, and closes the station.
-fn carried<L: Ledger, R: Wait + Abort>(
+fn carried<L: Room, R: Wait + Abort>(
     rt: &R,
     alloc: Global,
-    blank: Blank,
-    kept: Kept,
+    unopened: Unopened,
     other: &mut Site,
     calls: &[Call],
     out: &mut Vec<u8>,
 ) -> History
-    requires name { blank.name ≡ L.name }
-    requires parts { blank.parts ≡ L.parts }
-    requires two { blank.parts ≡ 2 }
-    requires steps { (story_in kept).steps ≡ [] }
-    requires opening { (seat : ℕ) → opened_with (story_in kept).opening seat ≡ 0 }
+    requires name { unopened.name ≡ L.name }
+    requires parts { unopened.parts ≡ L.parts }
+    requires table { unopened.table ≡ L.table }
+    requires two { unopened.parts ≡ 2 }
 {
-    let Ok(station) = Station::<L>::new(blank, kept, 2) else {
+    let Ok(station) = Station::<L>::new(unopened) else {
         panic!(rt; "a station");
     };
     let mut one = station.seat(rt, alloc).ok().expect(rt, "a seat");
@@ -284,8 +288,7 @@ fn carried<L: Ledger, R: Wait + Abort>(
 
 /// A site alone, the steps of whose eras may keep so many bytes.
 fn bounded(rt: &impl RandomSource, alloc: Global, most_bytes: u64) -> Option<Kept>
-    ensures steps { IfSome result (λ kept. (story_in kept).steps ≡ []) }
-    ensures opening { IfSome result (λ kept. (seat : ℕ) → opened_with (story_in kept).opening seat ≡ 0) }
+    ensures { IfSome result IsNew }
 {
     let kept = opened(rt, alloc, 1, 1)?;
     Some(kept.bounded(most_bytes))
@@ -336,7 +339,8 @@ fn history_of<R: Wait + Abort + RandomSource>(
 ) -> History {
     let mut other = other_site(rt, alloc).expect(rt, "another site");
     let kept = opened(rt, alloc, 1, sites).expect(rt, "a site");
-    carried::<Brand, _>(rt, alloc, Blank::new(2), kept, &mut other, calls, out)
+    let unopened = with_seats(alloc, kept, 2).expect(rt, "memory");
+    carried::<Brand, _>(rt, alloc, unopened, &mut other, calls, out)
 }
 
 /// What the calls answer and leave, the seat's share, and the steps.
@@ -532,15 +536,8 @@ fn the_call_that_fills_an_era_ends_it(rt: HostRuntime) {
     let mut out = Vec::new(alloc);
     let mut other = other_site(&rt, alloc).expect(&rt, "another site");
     let kept = bounded(&rt, alloc, 700).expect(&rt, "a site");
-    let history = carried::<Brand, _>(
-        &rt,
-        alloc,
-        Blank::new(2),
-        kept,
-        &mut other,
-        FILLING,
-        &mut out,
-    );
+    let unopened = with_seats(alloc, kept, 2).expect(&rt, "memory");
+    let history = carried::<Brand, _>(&rt, alloc, unopened, &mut other, FILLING, &mut out);
     show_share(&mut out, &history).expect(&rt, "memory");
     show_steps(&mut out, &history.steps).expect(&rt, "memory");
     assert_eq!(rt;

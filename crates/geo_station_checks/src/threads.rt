@@ -1,20 +1,17 @@
 //! Two threads at one station.
-ghost use Rattle.std.specs.Prelude.{◌≡◌, ◌≤◌, ◌^◌, ℕ, []};
-ghost use Rattle.geo_history.specs.Keeping.{opened_with};
-ghost use Rattle.geo_history.specs.Stories.{story_in};
+ghost use Rattle.std.specs.Prelude.{◌≡◌};
 
-use crate::stations::{act, closed};
+use crate::stations::{act, closed, with_seats};
 use geo_fixtures::opened;
 use geo_grammar::{Reply, Request};
 use geo_history::{History, Kept};
 use geo_site::{Answer, Event};
-use geo_station::{Call, Seat, Station};
+use geo_station::{Call, Room, Seat, Station, Unopened};
 use std::alloc::Global;
 use std::marker::Brand;
 use std::process::Abort;
 use std::random::RandomSource;
 use std::sync::Wait;
-use std::sync::ledger::{Blank, Ledger};
 use std::thread::{Threads, join};
 
 /// What a thread asks, and what is found then.
@@ -37,7 +34,7 @@ const TWO: Row = Row {
 };
 
 /// Whether a request is answered so.
-fn is_answered<L: Ledger>(
+fn is_answered<L: Room>(
     rt: &impl Wait,
     alloc: Global,
     station: &Station<L>,
@@ -53,7 +50,7 @@ fn is_answered<L: Ledger>(
 }
 
 /// Sets a key and gets it, and tells whether both were answered as they should be.
-fn is_right<L: Ledger>(
+fn is_right<L: Room>(
     rt: &impl Wait,
     alloc: Global,
     station: &Station<L>,
@@ -65,7 +62,7 @@ fn is_right<L: Ledger>(
 }
 
 /// Sets and gets a hundred times, and tells how often that was answered as it should be.
-fn work<L: Ledger>(
+fn work<L: Room>(
     rt: &impl Wait,
     alloc: Global,
     station: &Station<L>,
@@ -116,7 +113,7 @@ fn is_get(call: &Call) -> bool {
     )
 }
 
-fn told_of<L: Ledger>(seat: &Seat<L>, right: usize) -> Told {
+fn told_of<L: Room>(seat: &Seat<L>, right: usize) -> Told {
     let calls = seat.calls();
     Told {
         right,
@@ -127,7 +124,7 @@ fn told_of<L: Ledger>(seat: &Seat<L>, right: usize) -> Told {
 }
 
 /// Lets go of a seat's calls and gets once more, and tells whether that was answered as it should be.
-fn forgets_and_gets<L: Ledger>(
+fn forgets_and_gets<L: Room>(
     rt: &impl Wait,
     alloc: Global,
     station: &Station<L>,
@@ -139,22 +136,18 @@ fn forgets_and_gets<L: Ledger>(
 }
 
 /// What two threads are told, of whose seats each may forget its calls at the end and get once more; and the history.
-fn day<L: Ledger + Send + Sync, R: Threads + Wait + Abort + Sync>(
+fn day<L: Room + Send + Sync, R: Threads + Wait + Abort + Sync>(
     rt: &R,
     alloc: Global,
-    blank: Blank,
-    kept: Kept,
+    unopened: Unopened,
     forgetful: bool,
 ) -> ([Told; 2], History)
-    requires name { blank.name ≡ L.name }
-    requires parts { blank.parts ≡ L.parts }
-    requires two { blank.parts ≡ 2 }
-    requires steps { (story_in kept).steps ≡ [] }
-    requires opening { (seat : ℕ) → opened_with (story_in kept).opening seat ≡ 0 }
+    requires name { unopened.name ≡ L.name }
+    requires parts { unopened.parts ≡ L.parts }
+    requires table { unopened.table ≡ L.table }
+    requires two { unopened.parts ≡ 2 }
 {
-    let station = Station::<L>::new(blank, kept, 2)
-        .ok()
-        .expect(rt, "a station");
+    let station = Station::<L>::new(unopened).ok().expect(rt, "a station");
     let one = station.seat(rt, alloc).ok().expect(rt, "a seat");
     let two = station.seat(rt, alloc).ok().expect(rt, "another");
     let shared = &station;
@@ -180,7 +173,8 @@ fn shared<R: Threads + Wait + Abort + RandomSource + Sync>(
     forgetful: bool,
 ) -> ([Told; 2], usize) {
     let kept = opened(rt, alloc, 1, 1).expect(rt, "a site");
-    let (told, history) = day::<Brand, _>(rt, alloc, Blank::new(2), kept, forgetful);
+    let unopened = with_seats(alloc, kept, 2).expect(rt, "memory");
+    let (told, history) = day::<Brand, _>(rt, alloc, unopened, forgetful);
     (told, history.steps.len())
 }
 

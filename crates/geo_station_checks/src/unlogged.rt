@@ -1,24 +1,21 @@
 //! A station whose history proofs alone have answers as any other, keeps nothing, and isn't closed.
-ghost use Rattle.std.specs.Prelude.{◌≡◌, ℕ, [], IfSome};
-ghost use Rattle.geo_history.specs.Keeping.{opened_with};
-ghost use Rattle.geo_history.specs.Stories.{story_in};
+ghost use Rattle.std.specs.Prelude.{◌≡◌, IfSome};
+ghost use Rattle.geo_history.specs.Stories.{IsNew};
 
-use crate::stations::{Call, answer, other_site, say, show_seats};
+use crate::stations::{Call, answer, other_site, say, show_seats, with_seats};
 use geo_fixtures::setup_of;
 use geo_history::Kept;
 use geo_site::Site;
-use geo_station::{Seat, Station, Unclosed};
+use geo_station::{Room, Seat, Station, Unclosed, Unopened};
 use std::alloc::Global;
 use std::marker::Brand;
 use std::process::Abort;
 use std::random::RandomSource;
 use std::sync::Wait;
-use std::sync::ledger::{Blank, Ledger};
 
 /// The first of two sites, which logs no step.
 fn opened(rt: &impl RandomSource, alloc: Global) -> Option<Kept>
-    ensures steps { IfSome result (λ kept. (story_in kept).steps ≡ []) }
-    ensures opening { IfSome result (λ kept. (seat : ℕ) → opened_with (story_in kept).opening seat ≡ 0) }
+    ensures { IfSome result IsNew }
 {
     let setup = setup_of(rt, 1, 2)?;
     Kept::opened(alloc, setup, false).ok()
@@ -26,15 +23,14 @@ fn opened(rt: &impl RandomSource, alloc: Global) -> Option<Kept>
 
 /// The same, whose eras may keep one byte alone.
 fn unlogged(rt: &impl RandomSource, alloc: Global) -> Option<Kept>
-    ensures steps { IfSome result (λ kept. (story_in kept).steps ≡ []) }
-    ensures opening { IfSome result (λ kept. (seat : ℕ) → opened_with (story_in kept).opening seat ≡ 0) }
+    ensures { IfSome result IsNew }
 {
     let kept = opened(rt, alloc)?;
     Some(kept.bounded(1))
 }
 
 /// Writes why a station isn't closed with one of its seats, and why not with both.
-fn stays_open<L: Ledger>(
+fn stays_open<L: Room>(
     rt: &impl Abort,
     alloc: Global,
     station: Station<L>,
@@ -63,22 +59,20 @@ fn stays_open<L: Ledger>(
 }
 
 /// Carries out calls by the first of two seats, counts those that it keeps, asks for a third seat, and tries to close the station.
-fn carried<L: Ledger, R: Wait + Abort>(
+fn carried<L: Room, R: Wait + Abort>(
     rt: &R,
     alloc: Global,
-    blank: Blank,
-    kept: Kept,
+    unopened: Unopened,
     other: &mut Site,
     calls: &[Call],
     out: &mut Vec<u8>,
 )
-    requires name { blank.name ≡ L.name }
-    requires parts { blank.parts ≡ L.parts }
-    requires two { blank.parts ≡ 2 }
-    requires steps { (story_in kept).steps ≡ [] }
-    requires opening { (seat : ℕ) → opened_with (story_in kept).opening seat ≡ 0 }
+    requires name { unopened.name ≡ L.name }
+    requires parts { unopened.parts ≡ L.parts }
+    requires table { unopened.table ≡ L.table }
+    requires two { unopened.parts ≡ 2 }
 {
-    let Ok(station) = Station::<L>::new(blank, kept, 2) else {
+    let Ok(station) = Station::<L>::new(unopened) else {
         panic!(rt; "a station");
     };
     let mut one = station.seat(rt, alloc).ok().expect(rt, "a seat");
@@ -127,6 +121,7 @@ fn a_station_that_logs_nothing_answers_and_stays_open(rt: HostRuntime) {
     let mut out = Vec::new(alloc);
     let mut other = other_site(&rt, alloc).expect(&rt, "another site");
     let kept = unlogged(&rt, alloc).expect(&rt, "a site");
-    carried::<Brand, _>(&rt, alloc, Blank::new(2), kept, &mut other, CALLS, &mut out);
+    let unopened = with_seats(alloc, kept, 2).expect(&rt, "memory");
+    carried::<Brand, _>(&rt, alloc, unopened, &mut other, CALLS, &mut out);
     assert_eq!(rt; out.as_slice(), TOLD);
 }

@@ -1,14 +1,13 @@
 //! Sessions at one station.
-ghost use Rattle.std.specs.Prelude.{◌≡◌, ℕ, []};
-ghost use Rattle.geo_history.specs.Keeping.{opened_with};
-ghost use Rattle.geo_history.specs.Stories.{story_in};
+ghost use Rattle.std.specs.Prelude.{◌≡◌, IfSome};
+ghost use Rattle.geo_history.specs.Stories.{IsNew};
 
 use super::{each, run_by};
 use geo_fixtures::opened;
 use geo_history::Kept;
 use geo_session::clock::Clock;
 use geo_session::{Counted, Gate, OpenGate, SessionEnd};
-use geo_station::Station;
+use geo_station::{Room, Station, Unopened};
 use geo_tally::{Counter, Tally, TallySeat};
 use std::alloc::Global;
 use std::marker::Brand;
@@ -16,7 +15,6 @@ use std::process::Abort;
 use std::rt;
 use std::sync::Wait;
 use std::sync::atomic::{AtomicU64, Ordering};
-use std::sync::ledger::{Blank, Ledger};
 use std::thread::{self, Threads, join};
 use std::time::Duration;
 
@@ -25,6 +23,10 @@ use std::time::Duration;
 struct Noon;
 
 impl Clock for Noon {
+    ghost use Rattle.std.specs.Prelude.{◌≡◌};
+
+    ghost shows = { λ _ moment. moment ≡ 100 };
+
     fn now<R: rt::Clock>(&self, _rt: &R) -> u64 {
         100
     }
@@ -64,7 +66,7 @@ fn tallied(rt: &impl Abort, alloc: Global) -> (Tally, TallySeat, TallySeat)
 }
 
 /// Whether a client that asks for the version and quits is answered so.
-fn talk<L: Ledger, R: Wait + rt::Clock>(
+fn talk<L: Room, R: Wait + rt::Clock>(
     rt: &R,
     alloc: Global,
     gate: &Meeting,
@@ -76,22 +78,18 @@ fn talk<L: Ledger, R: Wait + rt::Clock>(
 }
 
 /// Whether two clients are, each by a thread of its own.
-fn both<L: Ledger + Send + Sync, R: Threads + Wait + Abort + rt::Clock + Sync>(
+fn both<L: Room + Send + Sync, R: Threads + Wait + Abort + rt::Clock + Sync>(
     rt: &R,
     alloc: Global,
-    blank: Blank,
-    kept: Kept,
+    unopened: Unopened,
     gate: &Meeting,
 ) -> (bool, bool)
-    requires name { blank.name ≡ L.name }
-    requires parts { blank.parts ≡ L.parts }
-    requires two { blank.parts ≡ 2 }
-    requires steps { (story_in kept).steps ≡ [] }
-    requires opening { (seat : ℕ) → opened_with (story_in kept).opening seat ≡ 0 }
+    requires name { unopened.name ≡ L.name }
+    requires parts { unopened.parts ≡ L.parts }
+    requires table { unopened.table ≡ L.table }
+    requires two { unopened.parts ≡ 2 }
 {
-    let station = Station::<L>::new(blank, kept, 2)
-        .ok()
-        .expect(rt, "a station");
+    let station = Station::<L>::new(unopened).ok().expect(rt, "a station");
     let one = station.seat(rt, alloc).ok().expect(rt, "a seat");
     let two = station.seat(rt, alloc).ok().expect(rt, "another");
     let (tally, first, second) = tallied(rt, alloc);
@@ -104,6 +102,14 @@ fn both<L: Ledger + Send + Sync, R: Threads + Wait + Abort + rt::Clock + Sync>(
     )
 }
 
+/// A station of two seats round a site, which no type stands for yet.
+fn with_two_seats(alloc: Global, kept: Kept) -> Option<Unopened>
+    requires { IsNew kept }
+    ensures { IfSome result (λ unopened. unopened.parts ≡ 2) }
+{
+    Unopened::new(alloc, kept, 2).ok()
+}
+
 #[test]
 fn two_sessions_run_at_once(rt: HostRuntime) {
     let gate = Meeting {
@@ -111,27 +117,24 @@ fn two_sessions_run_at_once(rt: HostRuntime) {
         missed: AtomicU64::new(0),
     };
     let kept = opened(&rt, rt.alloc(), 1, 1).expect(&rt, "a site");
-    let right = both::<Brand, _>(&rt, rt.alloc(), Blank::new(2), kept, &gate);
+    let unopened = with_two_seats(rt.alloc(), kept).expect(&rt, "memory");
+    let right = both::<Brand, _>(&rt, rt.alloc(), unopened, &gate);
     assert_eq!(rt; right, (true, true));
     assert_eq!(rt; gate.missed.load(Ordering::SeqCst), 0);
 }
 
 /// What a client reads, and how many requests and sessions are counted then.
-fn counted<L: Ledger, R: Wait + Abort + rt::Clock>(
+fn counted<L: Room, R: Wait + Abort + rt::Clock>(
     rt: &R,
     alloc: Global,
-    blank: Blank,
-    kept: Kept,
+    unopened: Unopened,
 ) -> (Vec<u8>, u64, u64)
-    requires name { blank.name ≡ L.name }
-    requires parts { blank.parts ≡ L.parts }
-    requires two { blank.parts ≡ 2 }
-    requires steps { (story_in kept).steps ≡ [] }
-    requires opening { (seat : ℕ) → opened_with (story_in kept).opening seat ≡ 0 }
+    requires name { unopened.name ≡ L.name }
+    requires parts { unopened.parts ≡ L.parts }
+    requires table { unopened.table ≡ L.table }
+    requires two { unopened.parts ≡ 2 }
 {
-    let station = Station::<L>::new(blank, kept, 2)
-        .ok()
-        .expect(rt, "a station");
+    let station = Station::<L>::new(unopened).ok().expect(rt, "a station");
     let seat = station.seat(rt, alloc).ok().expect(rt, "a seat");
     let (tally, first, mut second) = tallied(rt, alloc);
     let mut backend = Counted::new(&station, seat, &Noon, &tally, first);
@@ -146,7 +149,8 @@ fn counted<L: Ledger, R: Wait + Abort + rt::Clock>(
 #[test]
 fn requests_are_counted(rt: HostRuntime) {
     let kept = opened(&rt, rt.alloc(), 1, 1).expect(&rt, "a site");
-    let (written, requests, sessions) = counted::<Brand, _>(&rt, rt.alloc(), Blank::new(2), kept);
+    let unopened = with_two_seats(rt.alloc(), kept).expect(&rt, "memory");
+    let (written, requests, sessions) = counted::<Brand, _>(&rt, rt.alloc(), unopened);
     assert_eq!(rt;
         written.as_slice(),
         b"ERROR\r\nVALUE a 0 2\r\nhi\r\nEND\r\n".as_slice()

@@ -1,4 +1,7 @@
 use Rattle.geo_station_checks.proofs.rounds.a_round_each_makes_two_sites_name_the_same.Given as goal
 
-abbrev pub ghosts-both : goal.ghosts-both
-ghosts-both g a = record { name = a.blank.name; parts = a.blank.parts }
+abbrev pub ghosts-both-L-Ledger : goal.ghosts-both-L-Ledger
+ghosts-both-L-Ledger g a = record { name = a.unopened.name; parts = a.unopened.parts }
+
+abbrev pub ghosts-both-L-Room : goal.ghosts-both-L-Room
+ghosts-both-L-Room g a = record { table = a.unopened.table }

@@ -1,4 +1,7 @@
 use Rattle.geo_station_checks.proofs.unlogged.a_station_that_logs_nothing_answers_and_stays_open.Given as goal
 
-abbrev pub ghosts-carried : goal.ghosts-carried
-ghosts-carried g a = record { name = a.blank.name; parts = a.blank.parts }
+abbrev pub ghosts-carried-L-Ledger : goal.ghosts-carried-L-Ledger
+ghosts-carried-L-Ledger g a = record { name = a.unopened.name; parts = a.unopened.parts }
+
+abbrev pub ghosts-carried-L-Room : goal.ghosts-carried-L-Room
+ghosts-carried-L-Room g a = record { table = a.unopened.table }
