@@ -326,9 +326,16 @@ def with_a_clock_of_its_own(serve, folder):
 @test
 def a_clock_that_is_set_back_and_forth_changes_no_order(serve):
     with tempfile.TemporaryDirectory() as folder, Apart(serve, 2, started=[2], more="fills = true") as sites:
-        sites.start(1, environment=with_a_clock_of_its_own(serve, folder))
+        environment = with_a_clock_of_its_own(serve, folder)
+        moved(folder, -3600)
+        sites.start(1, environment=environment)
         sites.until_joined()
         clients = one, two = [sites[number].client() for number in (1, 2)]
+        # by a clock that is behind, what ends soon has ended elsewhere before
+        one.ask(b"set short 0 100 1\r\na\r\n", b"STORED\r\n")
+        assert one.get(b"short") == b"a"
+        moved(folder, 0)
+        assert [client.get(b"short") for client in clients] == [None, None]
         one.ask(b"set long 0 5000 1\r\na\r\n", b"STORED\r\n")
         stamps = []
         for number, seconds in enumerate((0, -3600, 3600, 0)):
@@ -341,12 +348,10 @@ def a_clock_that_is_set_back_and_forth_changes_no_order(serve):
                 stamps.append(int(stamp))
             assert one.get(b"long") == b"a", seconds
         assert stamps == sorted(set(stamps)), stamps
-        # by a clock that is behind, what ends soon has ended elsewhere before
-        moved(folder, -3600)
+        # where a clock has gone back, its site goes on at the last moment that it was shown
         one.ask(b"set short 0 100 1\r\na\r\n", b"STORED\r\n")
+        moved(folder, 3600)
         assert one.get(b"short") == b"a"
-        moved(folder, 0)
-        assert [client.get(b"short") for client in clients] == [None, None]
         for client in clients:
             client.quit()
         for number in (1, 2):
