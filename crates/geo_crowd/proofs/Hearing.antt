@@ -1,12 +1,13 @@
 -- Those that were told to be ready are listed, one after the other.
-use Rattle.std.proofs.Common.{◌≡◌, ℕ, ◌+◌, ◌<◌, ◌≤◌, List, [], ◌∷◌, ◌++◌, Option, is_some, IsSome, zero, suc, ◌⊎◌, inl, inr, refl, sym, ap, subst, ◌∙◌, length, get_or, take, arith, append_assoc, append-nil, Contains}
+use Rattle.std.proofs.Common.{◌≡◌, ℕ, ◌+◌, ◌<◌, ◌≤◌, List, [], ◌∷◌, ◌++◌, Option, is_some, IsSome, zero, suc, ◌⊎◌, inl, inr, refl, sym, ap, subst, ◌∙◌, length, get_or, take, drop, arith, append_assoc, append-nil, Contains}
 use Rattle.std.proofs.lemmas.List.{take_more, take_all, length-take}
+use Rattle.std.proofs.Math.Seq.{drop-append_seam, take-append_seam}
 use Rattle.std.proofs.lemmas.List.Elements.{Contains-append_cases}
 use Rattle.geo_crowd.specs.Carrying.{Carriage}
 use Rattle.geo_crowd.specs.Crowds.{AllHeard, Stand}
 use Rattle.geo_crowd.specs.Listing.{StandsIn}
 use Rattle.geo_crowd.specs.declared.polling.Ready.{Ready}
-use Rattle.geo_crowd.proofs.Listed.{stands_left}
+use Rattle.geo_crowd.proofs.Listed.{stands_left, stands_turned}
 
 -- of these the first were heard
 pub record Heard (items : List Ready) (index : ℕ) (first now : List ℕ) (old mid : ℕ → Option Carriage) : Type 0 where
@@ -53,3 +54,13 @@ same_item (item ∷ items) (suc i) x y lt = same_item items i x y (omega (arith,
 
 pub heard_all : (items : List Ready) (index : ℕ) (first now : List ℕ) (old mid : ℕ → Option Carriage) (h : Heard items index first now old mid) → length items ≤ index → AllHeard items old now
 heard_all items index first now old mid h all = subst (λ (l : List Ready). AllHeard l old now) (take_all index items all) h.heard
+
+-- those that were due come last
+pub heard_turned : (items : List Ready) (old : ℕ → Option Carriage) (first more : List ℕ) → AllHeard items old (first ++ more) → AllHeard items old (more ++ first)
+heard_turned items old first more h = λ ready among there. stands_turned first more ready.number (h ready among there)
+
+pub turned : (count : ℕ) (first more now next : List ℕ) → count ≡ length first → now ≡ first ++ more → next ≡ drop count now ++ take count now → next ≡ more ++ first
+turned count first more now next is due rotated =
+    let all : drop count now ++ take count now ≡ drop (length first) (first ++ more) ++ take (length first) (first ++ more) =
+    ap (λ (n : ℕ). drop n now ++ take n now) is ∙ ap (λ (l : List ℕ). drop (length first) l ++ take (length first) l) due in
+    rotated ∙ all ∙ ap (λ (l : List ℕ). l ++ take (length first) (first ++ more)) (drop-append_seam first more) ∙ ap (λ (l : List ℕ). more ++ l) (take-append_seam first more)

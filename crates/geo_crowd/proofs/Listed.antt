@@ -1,7 +1,8 @@
 -- Which connections are listed, while they are put in, woken, and given their turns.
 use Rattle.std.proofs.Common.{◌≡◌, ◌≢◌, ℕ, zero, suc, ◌+◌, ◌<◌, ◌≤◌, Bool, true, false, not, cond, ◌||◌, eqb, List, [], ◌∷◌, ◌++◌, Option, None, Some, is_some, option_map, Result, Ok, Err, is_ok, if◌then◌else◌, IsOk, refl, sym, ap, subst, ◌∙◌, length, take, drop, arith, sum_by, count_by, eqb-true, eq-eqb, true≢false}
 use Rattle.std.proofs.Math.ListN.{set, get_or}
-use Rattle.std.proofs.lemmas.List.{take_more_set, drop_more, drop_all, drop-set-lt, length-set, length-take}
+use Rattle.std.proofs.lemmas.List.{take_more_set, drop_more, drop_all, drop-set-lt, length-append, length-set, length-take, take-append-drop}
+use Rattle.std.proofs.Math.Bool.{or_comm}
 use Rattle.std.proofs.lemmas.List.Folds.{list_any-append}
 use Rattle.std.proofs.lemmas.List.Sums.{sum_by-cons}
 use Rattle.std.proofs.lemmas.Bool.{eqb-false}
@@ -116,6 +117,22 @@ when_ok (Err e) were are now h ok = absurd (true≢false (sym ok))
 
 pub stands_left : (numbers more : List ℕ) (number : ℕ) → StandsIn numbers number → StandsIn (numbers ++ more) number
 stands_left numbers more number h = list_any-append (eqb number) numbers more ∙ ap (λ b. b || list_any (eqb number) more) h
+
+pub stands_turned : (a b : List ℕ) (number : ℕ) → StandsIn (a ++ b) number → StandsIn (b ++ a) number
+stands_turned a b number h =
+    list_any-append (eqb number) b a ∙ or_comm (list_any (eqb number) b) (list_any (eqb number) a) ∙ sym (list_any-append (eqb number) a b) ∙ h
+
+-- behind the first so many stand the others, or before them
+pub stands_rotated : (count : ℕ) (now next : List ℕ) (number : ℕ) → next ≡ drop count now ++ take count now → StandsIn now number → StandsIn next number
+stands_rotated count now next number is h =
+    let whole : StandsIn (take count now ++ drop count now) number = subst (λ l. StandsIn l number) (sym (take-append-drop count now)) h in
+    subst (λ l. StandsIn l number) (sym is) (stands_turned (take count now) (drop count now) number whole)
+
+pub length_rotated : (count : ℕ) (now next : List ℕ) → next ≡ drop count now ++ take count now → length next ≡ length now
+length_rotated count now next is =
+    let whole : length (take count now) + length (drop count now) ≡ length now = sym (length-append (take count now) (drop count now)) ∙ ap (λ (l : List ℕ). length l) (take-append-drop count now) in
+    let turned : length next ≡ length (drop count now) + length (take count now) = ap (λ (l : List ℕ). length l) is ∙ length-append (drop count now) (take count now) in
+    omega (arith, whole, turned)
 
 decide : (t : Bool) (P : Type 0) → (t ≡ true → P) → (t ≡ false → P) → P
 decide true P same apart = same refl

@@ -71,12 +71,12 @@ Passes {S = S} answers refuses (number ∷ numbers) sums old new before after =
 abbrev pub AllHeard : List Ready → (ℕ → Option Carriage) → List ℕ → Type 0
 AllHeard told old turns = (ready : Ready) → Contains told ready → IsSome (old ready.number) → StandsIn turns ready.number
 
--- a round: those that were due have their turns, and behind them those that were told to be ready, each of which is there
+-- a round: those that were told to be ready have their turns, each of which is there, and behind them those that were due
 pub record Rounds {S : Type 0} (answers : S → Request → Reply → S → Type 0) (refuses : S → Request → S → Type 0) (told : List Ready)
     (due : List ℕ) (sums : Sums) (old new : ℕ → Option Carriage) (before after : S) : Type 0 where
   pub more : List ℕ
-  pub heard : AllHeard told old (due ++ more)
-  pub passes : Passes answers refuses (due ++ more) sums old new before after
+  pub heard : AllHeard told old (more ++ due)
+  pub passes : Passes answers refuses (more ++ due) sums old new before after
 
 -- the sums of a pass, as it tells them
 abbrev pub sums_of : {S : Type 0} {g : Ghosts S} → Crowd S g → Passed → Sums

@@ -1,5 +1,5 @@
 //! The connections of one thread.
-ghost use Rattle.std.specs.Prelude.{◌≡◌, ◌≢◌, ◌++◌, ◌∷◌, ◌⊎◌, [], length, vec_capacity, IfOk, OnErr, IsSome, MatchBool, None, Some};
+ghost use Rattle.std.specs.Prelude.{◌≡◌, ◌≢◌, ◌≤◌, ◌++◌, ◌∷◌, ◌⊎◌, [], drop, length, take, vec_capacity, IfOk, OnErr, IsSome, MatchBool, None, Some};
 ghost use Rattle.geo_crowd.specs.Listing.{AllListed, HasRoomForAll, StandsIn, is_listed_at};
 
 use crate::carried::Carried;
@@ -113,7 +113,17 @@ impl<S: Stream + Drop> Crowd<S> {
         pass_over(rt, &mut self.roster, &mut self.listed, backend, gate)
     }
 
-    /// One round: waits until some connection is ready, or not at all where some can go on, and gives each that can one turn.
+    /// Those that are listed behind the first so many come first from now on.
+    fn put_first(&mut self, count: usize)
+        requires { count ≤ length (due self.old) }
+        ensures stand { Stand (at self.old) (at self.new) }
+        ensures due { due self.new ≡ drop count (due self.old) ++ take count (due self.old) }
+    {
+        self.listed.rotate_left(count);
+    }
+
+    /// One round: waits until some connection is ready, or not at all where some can go on, and gives each that can one turn. Who asks
+    /// anew comes first, and doesn't wait for those that have much to be told.
     pub fn round<R: Wait + Clock, P: Polling, B: Backend, G: Gate>(
         &mut self,
         rt: &R,
@@ -125,12 +135,14 @@ impl<S: Stream + Drop> Crowd<S> {
             backend.old backend.new }
         ensures goes_on { MatchBool result.goes_on (due self.new ≢ []) (due self.new ≡ []) }
     {
-        polling.wait(!self.listed.is_empty());
+        let count = self.listed.len();
+        polling.wait(count > 0);
         let told = polling.ready();
         for at in 0..told.len() {
             let ready = told[at];
             self.is_ready(ready);
         }
+        self.put_first(count);
         self.pass(rt, backend, gate)
     }
 }
