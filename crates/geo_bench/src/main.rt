@@ -2,15 +2,19 @@
 //! third how much of it. It prints a sum of all results. With the word `small` it does a little of each.
 #![tactic(auto)]
 
+mod audits;
 mod client;
 mod clients;
 mod ends;
 mod full;
 mod hall;
 mod lines;
+mod place;
 mod random;
 mod requests;
 mod script;
+mod sites;
+mod spread;
 mod sum;
 mod tables;
 
@@ -22,7 +26,12 @@ use std::rt::Clock;
 use std::sync::Wait;
 
 /// All that there is.
-const ALL: &[&str] = &["clients", "full", "ends", "script", "unlogged"];
+const ALL: &[&str] = &[
+    "clients", "full", "spread", "ends", "script", "audit", "unlogged", "prefixes",
+];
+
+/// How keys begin as users name them: with more than a comparison by numbers sees.
+const PREFIX: &str = "session:user:profile:of";
 
 /// The sum of what came of one.
 fn sum_of<R: Wait + Clock + AllocGlobal + RandomSource>(
@@ -37,8 +46,11 @@ fn sum_of<R: Wait + Clock + AllocGlobal + RandomSource>(
         "clients" => clients::run(rt, alloc, &hasher, true, seed, scale),
         "unlogged" => clients::run(rt, alloc, &hasher, false, seed, scale),
         "full" => full::run(rt, alloc, &hasher, seed, scale),
+        "spread" => spread::run(rt, alloc, &hasher, "it", seed, scale),
+        "prefixes" => spread::run(rt, alloc, &hasher, PREFIX, seed, scale),
         "ends" => ends::run(rt, alloc, &hasher, seed, scale),
         "script" => script::run(alloc, hasher, seed, scale),
+        "audit" => audits::run(rt, alloc, &hasher, seed, scale),
         _ => Err(anyhow!("there is no such workload")),
     }
 }
