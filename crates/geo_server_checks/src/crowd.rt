@@ -1,5 +1,5 @@
 //! What no clause says: that turns succeed where there is memory, how a connection stands after them, and that each gets its own.
-use geo_crowd::{Accepted, Carried, Crowd, Given, Passed, Polling, Ready, Standing, Stream};
+use geo_crowd::{Accepted, Carried, Crowd, Given, Passed, Ready, Standing, Stream};
 use geo_grammar::{Reply, Request};
 use geo_session::{Backend, OpenGate, SessionEnd, SessionFault};
 use std::alloc::Global;
@@ -250,109 +250,5 @@ fn an_end_that_is_told_with_the_last_bytes_is_read(rt: HostRuntime) -> Result<()
     let Passed { ended: early, .. } = crowd.pass(&rt, &mut Idle, &OpenGate);
     let Passed { ended, .. } = crowd.pass(&rt, &mut Idle, &OpenGate);
     assert_eq!(rt; (early, ended), (0, 1));
-    Ok(())
-}
-
-/// A connection that gives a line of seven bytes a read, after so many reads that give none, and takes all.
-#[derive(Drop)]
-struct Lines {
-    input: &'static [u8],
-    late: usize,
-}
-
-impl Stream for Lines {
-    ghost use Rattle.std.specs.Prelude.{Some, None};
-
-    ghost remaining = { λ s. Some s.input.now };
-
-    ghost contents = { λ _. None };
-
-    fn read(&mut self, buffer: &mut [u8]) -> Given {
-        if self.late > 0 {
-            self.late -= 1;
-            return Given::Later;
-        }
-        let count = self.input.len().min(buffer.len()).min(7);
-        if count == 0 {
-            return Given::Later;
-        }
-        let (piece, rest) = self.input.split_at(count);
-        let (front, _) = buffer.split_at_mut(count);
-        front.copy_from_slice(piece);
-        self.input = rest;
-        Given::Bytes(count)
-    }
-
-    fn write(&mut self, bytes: &[u8]) -> Accepted {
-        if bytes.is_empty() {
-            return Accepted::Later;
-        }
-        Accepted::Bytes(bytes.len())
-    }
-}
-
-/// A backend that answers each request so, and notes the keys that gets ask for.
-#[derive(Drop)]
-struct Noting {
-    asked: Vec<u8>,
-}
-
-impl Backend for Noting {
-    ghost answers = { λ old request reply new. Unit {0} };
-
-    ghost refuses = { λ old request new. Unit {0} };
-
-    fn act<R: Wait + Clock>(&mut self, _rt: &R, _alloc: Global, request: Request) -> Option<Reply> {
-        if let Request::Fetch { keys, .. } = &request {
-            for key in keys.as_slice().iter() {
-                if self.asked.extend_from_slice(key.bytes()).is_err() {
-                    return None;
-                }
-            }
-        }
-        Some(Reply::Stored)
-    }
-}
-
-/// What tells of the same connections each time.
-#[derive(Drop)]
-struct Told {
-    ready: Vec<Ready>,
-}
-
-impl Polling for Told {
-    ghost told = { λ t. t.ready.items };
-
-    fn wait(&mut self, _at_once: bool) {}
-
-    fn ready(&self) -> &[Ready] {
-        self.ready.as_slice()
-    }
-}
-
-#[test]
-fn who_asks_anew_comes_before_those_that_go_on(rt: HostRuntime) -> Result<(), Fail> {
-    let alloc = rt.alloc();
-    let mut crowd = Crowd::new(alloc)?;
-    let long = Lines {
-        input: b"get a\r\nget a\r\nget a\r\n",
-        late: 0,
-    };
-    let _goes_on = crowd.add(Carried::new(alloc, long))?;
-    let short = Lines {
-        input: b"get b\r\n",
-        late: 1,
-    };
-    let anew = crowd.add(Carried::new(alloc, short))?;
-    let mut backend = Noting {
-        asked: Vec::new(alloc),
-    };
-    let mut told = Told {
-        ready: Vec::new(alloc),
-    };
-    let _none = crowd.round(&rt, &mut told, &mut backend, &OpenGate);
-    told.ready.push(ready(anew, false))?;
-    let _one = crowd.round(&rt, &mut told, &mut backend, &OpenGate);
-    assert_eq!(rt; backend.asked.as_slice(), b"aba".as_slice());
     Ok(())
 }
