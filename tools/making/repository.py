@@ -8,7 +8,7 @@ from making.definitions import Definitions
 from making.sources import Crate
 
 # Crates of tests, benchmarks and examples: nobody stands on their calls.
-BESIDE = re.compile(r"geo_\w+_checks|geo_bench|geo_worked|geo_fixtures|geo_scenes|geo_refusals\w*")
+BESIDE = re.compile(r"geo_\w+_checks|geo_bench|geo_worked|geo_fixtures|geo_plain|geo_scenes|geo_refusals\w*")
 CALLS = "docs/words/calls"
 ROWS = "docs/words/reading_order.md"
 # What a caller sees of a type's values; the rest of what it looks like is for whoever names the type.

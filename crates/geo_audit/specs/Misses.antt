@@ -3,6 +3,7 @@ use Rattle.std.specs.Prelude.{◌≡◌, ◌≢◌, ◌⊎◌, ◌↔◌, IsTrue
 use Rattle.geo_slabs.specs.Storage.{IsClassOf}
 use Rattle.geo_stamp.specs.Vectors.{vector_joined}
 use Rattle.geo_records.specs.Operations.{version_of}
+use Rattle.geo_requests.specs.Limits.{longest_value}
 use Rattle.geo_records.specs.declared.version.Version.{Version}
 use Rattle.geo_delta.specs.declared.parcel.Parcel.{Parcel}
 use Rattle.geo_world.specs.declared.event.Event.{Event as Happening}
@@ -53,11 +54,8 @@ pub record TwoClasses (one two : ℕ) : Type 0 where
   pub is_two : IsClassOf two of_two
   pub other : of_one ≢ of_two
 
-abbrev pub most_bytes : ℕ
-most_bytes = 1048576
-
 abbrev pub OtherClass : ℕ → ℕ → Type 0
-OtherClass one two = (most_bytes < one) ⊎ ((most_bytes < two) ⊎ TwoClasses one two)
+OtherClass one two = (longest_value < one) ⊎ ((longest_value < two) ⊎ TwoClasses one two)
 
 abbrev pub NamedUnlike : Option Version → Option Version → Type 0
 NamedUnlike (Some one) (Some two) = OtherClass one.length two.length

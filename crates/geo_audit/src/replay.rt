@@ -9,9 +9,9 @@ ghost use Rattle.geo_audit.specs.Misses.{OtherBeside, OtherClass, NamedUnlike, U
 ghost use Rattle.geo_audit.specs.Playing.{Rises, Sees, versions_at};
 
 use geo_equal::Equal;
-use geo_grammar::{Reply, Request, Verb};
 use geo_history::Step;
 use geo_lattice::Lattice;
+use geo_requests::{LONGEST_VALUE, Reply, Request, Verb};
 use geo_site::{Answer, Event, LAST_MOMENT, ReapError, RetireError, SendError, Site, TakeError};
 use geo_slabs::class_of;
 use geo_versions::{Digest, Key, Version};
@@ -222,17 +222,14 @@ fn made_at(site: &Site, request: &Request, reply: &Reply) -> Option<(Digest, u32
     }
 }
 
-/// The most bytes of a value.
-const MOST_BYTES: u32 = 1 << 20;
-
 /// Whether values of so many bytes are of one slab class.
 fn is_one_class(one: u32, two: u32) -> bool
     ensures { MatchBool result (IsOneClass one two) (OtherClass one two) }
 {
-    if one > MOST_BYTES {
+    if one as usize > LONGEST_VALUE {
         return false;
     }
-    if two > MOST_BYTES {
+    if two as usize > LONGEST_VALUE {
         return false;
     }
     class_of(one as usize) == class_of(two as usize)

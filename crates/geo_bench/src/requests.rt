@@ -1,7 +1,7 @@
 //! Requests of one key.
 use anyhow::{Result, anyhow};
-use geo_grammar::{Request, ValueBytes, Verb};
 use geo_lattice::Items;
+use geo_requests::{Request, ValueBytes, Verb};
 use geo_versions::Key;
 use std::alloc::Global;
 

@@ -3,9 +3,9 @@ use Rattle.std.proofs.Common.{◌≡◌, ◌≢◌, ℕ, Bool, true, false, true
 use Rattle.geo_grammar.specs.Replies.{answer_bytes}
 use Rattle.geo_grammar.specs.declared.item.Item.{Item}
 use Rattle.geo_grammar.specs.declared.item.Item.TheVariants.{Request, Fault}
-use Rattle.geo_grammar.specs.declared.request.Request as asked
-use Rattle.geo_grammar.specs.declared.reply.Reply.{Reply}
-use Rattle.geo_grammar.specs.declared.reply.Reply.TheVariants.{OutOfMemory}
+use Rattle.geo_requests.specs.declared.request.Request as asked
+use Rattle.geo_requests.specs.declared.reply.Reply.{Reply}
+use Rattle.geo_requests.specs.declared.reply.Reply.TheVariants.{OutOfMemory}
 use Rattle.geo_world.specs.declared.event.Event.TheVariants.{Command}
 use Rattle.geo_world.specs.declared.event.Trace.{Trace}
 use Rattle.geo_world.specs.declared.event.Trace.TheVariants.{Replied}

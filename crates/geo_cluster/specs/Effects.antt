@@ -5,9 +5,9 @@ use Rattle.std.specs.Map.{lookup}
 use Rattle.geo_grammar.specs.Replies.{answer_bytes, fault_bytes}
 use Rattle.geo_grammar.specs.declared.item.Item.{Item}
 use Rattle.geo_grammar.specs.declared.item.Item.TheVariants.{Request, Fault}
-use Rattle.geo_grammar.specs.declared.request.Request as asked
-use Rattle.geo_grammar.specs.declared.reply.Reply.{Reply}
-use Rattle.geo_grammar.specs.declared.reply.Reply.TheVariants.{OutOfMemory}
+use Rattle.geo_requests.specs.declared.request.Request as asked
+use Rattle.geo_requests.specs.declared.reply.Reply.{Reply}
+use Rattle.geo_requests.specs.declared.reply.Reply.TheVariants.{OutOfMemory}
 use Rattle.geo_records.specs.Keys.{same_key}
 use Rattle.geo_versions.specs.Maps.{Rising}
 use Rattle.geo_records.specs.Operations.{Operation, floor_of, version_of}

@@ -2,7 +2,7 @@
 use Rattle.std.specs.Prelude.{ℕ, ◌==◌, Bool, true, List, [], ◌∷◌, Option, Some, None, if◌then◌else◌, codes}
 use Rattle.std.specs.Option.{option_map, option_and_then}
 use Rattle.std.specs.Str.{bytes_eq}
-use Rattle.geo_grammar.specs.Words.{number_of}
+use Rattle.geo_requests.specs.Numbers.{number_of}
 use Rattle.geo_records.specs.Keys.{is_key}
 use Rattle.geo_cluster.specs.Numbers.{ranged_of}
 use Rattle.geo_cluster.specs.Escapes.{unescaped}

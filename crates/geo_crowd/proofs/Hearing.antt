@@ -58,9 +58,3 @@ heard_all items index first now old mid h all = subst (λ (l : List Ready). AllH
 -- those that were due come last
 pub heard_turned : (items : List Ready) (old : ℕ → Option Carriage) (first more : List ℕ) → AllHeard items old (first ++ more) → AllHeard items old (more ++ first)
 heard_turned items old first more h = λ ready among there. stands_turned first more ready.number (h ready among there)
-
-pub turned : (count : ℕ) (first more now next : List ℕ) → count ≡ length first → now ≡ first ++ more → next ≡ drop count now ++ take count now → next ≡ more ++ first
-turned count first more now next is due rotated =
-    let all : drop count now ++ take count now ≡ drop (length first) (first ++ more) ++ take (length first) (first ++ more) =
-    ap (λ (n : ℕ). drop n now ++ take n now) is ∙ ap (λ (l : List ℕ). drop (length first) l ++ take (length first) l) due in
-    rotated ∙ all ∙ ap (λ (l : List ℕ). l ++ take (length first) (first ++ more)) (drop-append_seam first more) ∙ ap (λ (l : List ℕ). more ++ l) (take-append_seam first more)

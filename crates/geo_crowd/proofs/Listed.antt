@@ -8,7 +8,7 @@ use Rattle.std.proofs.lemmas.List.Sums.{sum_by-cons}
 use Rattle.std.proofs.lemmas.Bool.{eqb-false}
 use Rattle.std.specs.List.{list_any}
 use Rattle.slab.specs.Slab.{Slab, get, slab_len}
-use Rattle.geo_crowd.specs.Listing.{AllListed, HasRoomForAll, OthersKeep, Same, StandsIn, is_listed, is_listed_at, is_unlisted}
+use Rattle.geo_crowd.specs.Listing.{AllListed, HasRoomForAll, OthersKeep, Same, SameFlags, StandsIn, is_listed, is_listed_at, is_unlisted}
 use Rattle.geo_crowd.specs.declared.roster.Member.{Member}
 
 suc_not_zero : (n : ℕ) → suc n ≢ 0
@@ -83,6 +83,20 @@ module _ {S : Type 0} where
   pub unlisted_same : (old new : Slab (Member S)) → Same old new → count_by is_unlisted new.slots ≡ count_by is_unlisted old.slots
   unlisted_same old new same =
       sum_same (λ (slot : Option (Member S)). cond (is_unlisted slot) 1 0) refl old.slots new.slots (λ j. ap (λ (slot : Option (Member S)). cond (is_unlisted slot) 1 0) (same j))
+
+  -- where each is listed as before, as many are unlisted, and the same stand in a list
+  pub unlisted_kept : (old new : Slab (Member S)) → SameFlags old new → count_by is_unlisted new.slots ≡ count_by is_unlisted old.slots
+  unlisted_kept old new same =
+      sum_same (λ (slot : Option (Member S)). cond (is_unlisted slot) 1 0) refl old.slots new.slots (λ j. ap (λ (b : Bool). cond {A = ℕ} b 1 0) (same j).1)
+
+  pub listed_kept : (old new : Slab (Member S)) (numbers : List ℕ) → SameFlags old new → AllListed (is_listed_at old) numbers → AllListed (is_listed_at new) numbers
+  listed_kept old new numbers same lists other h = lists other (sym (same other).0 ∙ h)
+
+  pub room_kept : (old new : Slab (Member S)) (count capacity : ℕ) → SameFlags old new → HasRoomForAll old count capacity → HasRoomForAll new count capacity
+  room_kept old new count capacity same room = omega (arith, unlisted_kept old new same, room)
+
+  pub same_flags : (members : Slab (Member S)) → SameFlags members members
+  same_flags members = λ k. (refl, refl)
 
   slot_few : (slot : Option (Member S)) → cond (is_unlisted slot) 1 0 ≤ cond (is_some slot) 1 0
   slot_few None = omega arith
@@ -194,6 +208,22 @@ module _ {S : Type 0} where
   pub listed_same : (old new : Slab (Member S)) (numbers : List ℕ) → Same old new → AllListed (is_listed_at old) numbers → AllListed (is_listed_at new) numbers
   listed_same old new numbers same lists other h = lists other (sym (ap is_listed (same other)) ∙ h)
 
+  -- one more is touched, and stays listed or not
+  pub flags_next : (number : ℕ) (first old new : Slab (Member S)) → SameFlags first old → is_listed_at new number ≡ is_listed_at old number
+      → is_unlisted (get new number) ≡ is_unlisted (get old number) → OthersKeep number old new → SameFlags first new
+  flags_next number first old new same listed unlisted others other =
+      decide
+      (eqb other number)
+      ((is_listed_at new other ≡ is_listed_at first other) × (is_unlisted (get new other) ≡ is_unlisted (get first other)))
+      (λ is. subst (λ (n : ℕ). (is_listed_at new n ≡ is_listed_at first n) × (is_unlisted (get new n) ≡ is_unlisted (get first n))) (sym (eqb-true other number is))
+      (listed ∙ (same number).0, unlisted ∙ (same number).1))
+      (λ apart.
+      let kept = others other (eqb-false other number apart) in
+      (ap is_listed kept ∙ (same other).0, ap is_unlisted kept ∙ (same other).1))
+
+  pub flags_then : (first mid last : Slab (Member S)) → SameFlags first mid → SameFlags mid last → SameFlags first last
+  flags_then first mid last one two = λ k. ((two k).0 ∙ (one k).0, (two k).1 ∙ (one k).1)
+
   -- ---- a pass
 
   -- of the listed numbers the first have had their turns, and those that go on stand in front; there is room for each
@@ -250,8 +280,11 @@ module _ {S : Type 0} where
           room = omega (arith, moved, few_more, keeps.room);
         }
 
-  pub keeps_start : (members : Slab (Member S)) (now : List ℕ) (capacity : ℕ) → AllListed (is_listed_at members) now → HasRoomForAll members (length now) capacity → Keeps members now 0 0 capacity
-  keeps_start members now capacity lists room = record { lists = lists; room = omega (arith, room) }
+  pub keeps_start : (members : Slab (Member S)) (from : ℕ) (now : List ℕ) (capacity : ℕ) → AllListed (is_listed_at members) now → HasRoomForAll members (length now) capacity → Keeps members now from from capacity
+  keeps_start members from now capacity lists room = record {
+    lists = subst (λ (l : List ℕ). AllListed (is_listed_at members) l) (sym (take-append-drop from now)) lists;
+    room = omega (arith, room);
+  }
 
   pub keeps_end : (members : Slab (Member S)) (now : List ℕ) (place kept capacity : ℕ) → Keeps members now place kept capacity → length now ≤ place → AllListed (is_listed_at members) (take kept now)
   keeps_end members now place kept capacity keeps all other h =

@@ -3,24 +3,24 @@ use Rattle.std.proofs.Common.{◌≡◌, ℕ, ◌≤◌, true, false, List, [], 
 use Rattle.std.proofs.KnownBytes.{Appends-nil, Appends-trans}
 use Rattle.geo_grammar.specs.Protocol.{items_of}
 use Rattle.geo_grammar.specs.declared.item.Item.{Item}
-use Rattle.geo_grammar.specs.declared.reply.Reply.{Reply}
-use Rattle.geo_grammar.specs.declared.request.Request.{Request}
+use Rattle.geo_requests.specs.declared.reply.Reply.{Reply}
+use Rattle.geo_requests.specs.declared.request.Request.{Request}
 use Rattle.geo_grammar.specs.Quitting.{until_quit}
-use Rattle.geo_session.specs.Closings.{StaysOpen}
-use Rattle.geo_session.specs.Connections.{Connection, Comes, GoesOn, GoesFar, BreaksFor, BreaksOff, IsEnd, IsSettled, new_connection}
-use Rattle.geo_session.specs.Exchanges.{Exchange, items_in, text_of}
-use Rattle.geo_session.specs.Sessions.{Sends}
-use Rattle.geo_session.specs.declared.end.SessionEnd.{SessionEnd}
-use Rattle.geo_session.specs.declared.fault.SessionFault.{SessionFault}
-use Rattle.geo_session.specs.declared.fault.SessionFault.TheVariants.{Read, Write, Memory, TooManyReads, Spent}
-use Rattle.geo_session.proofs.Pieces.{no_items, none_stays}
-use Rattle.geo_session.proofs.Talks.{items_in-append, text_of-append, until_quit-none}
+use Rattle.geo_dialogue.specs.Closings.{StaysOpen}
+use Rattle.geo_dialogue.specs.Connections.{Connection, Comes, GoesOn, GoesFar, BreaksFor, BreaksOff, IsEnd, IsSettled, new_connection}
+use Rattle.geo_dialogue.specs.Exchanges.{Exchange, items_in, text_of}
+use Rattle.geo_dialogue.specs.Sessions.{Sends}
+use Rattle.geo_dialogue.specs.declared.end.SessionEnd.{SessionEnd}
+use Rattle.geo_dialogue.specs.declared.fault.SessionFault.{SessionFault}
+use Rattle.geo_dialogue.specs.declared.fault.SessionFault.TheVariants.{Read, Write, Memory, TooManyReads, Spent}
+use Rattle.geo_dialogue.proofs.Pieces.{no_items, none_stays}
+use Rattle.geo_dialogue.proofs.Talks.{items_in-append, text_of-append, until_quit-none}
 use Rattle.geo_crowd.specs.Carrying.{Carriage, Outcome, IsWhole, IsBroken, IsCarried, Brings, Reads, IsGoneOn, IsBrokenOff, outcome_by, outcome_after, outcome_gone}
 use Rattle.geo_crowd.specs.declared.carried.Came.{Came}
 use Rattle.geo_crowd.specs.declared.carried.Came.TheVariants as came
 use Rattle.geo_crowd.specs.declared.carried.Sent.{Sent}
 use Rattle.geo_crowd.specs.declared.carried.Sent.TheVariants as sent
-use Rattle.geo_crowd.specs.declared.stream.Given.{Given}
+use Rattle.geo_socket.specs.declared.stream.Given.{Given}
 
 -- ---- a new connection
 

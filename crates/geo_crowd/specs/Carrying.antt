@@ -3,28 +3,28 @@ use Rattle.std.specs.Prelude.{◌≡◌, ◌≢◌, ℕ, ◌≤◌, true, false,
 use Rattle.std.specs.Io.KnownBytes.{Appends, Consumes, IsAtEnd}
 use Rattle.geo_grammar.specs.Protocol.{items_of}
 use Rattle.geo_grammar.specs.declared.item.Item.{Item}
-use Rattle.geo_grammar.specs.declared.reply.Reply.{Reply}
-use Rattle.geo_grammar.specs.declared.request.Request.{Request}
+use Rattle.geo_requests.specs.declared.reply.Reply.{Reply}
+use Rattle.geo_requests.specs.declared.request.Request.{Request}
 use Rattle.geo_grammar.specs.Quitting.{until_quit}
-use Rattle.geo_session.specs.Closings.{StaysOpen}
-use Rattle.geo_session.specs.Connections.{Connection, Comes, GoesOn, GoesFar, BreaksOff, IsEnd, IsSettled, new_connection}
-use Rattle.geo_session.specs.Exchanges.{Exchange, items_in, text_of}
-use Rattle.geo_session.specs.Sessions.{Sends}
-use Rattle.geo_session.specs.declared.end.SessionEnd.{SessionEnd}
-use Rattle.geo_session.specs.declared.end.SessionEnd.TheVariants.{EndOfInput}
-use Rattle.geo_session.specs.declared.fault.SessionFault.{SessionFault}
-use Rattle.geo_session.specs.declared.fault.SessionFault.TheVariants.{Read, Write, Memory}
-use Rattle.geo_crowd.specs.Streams.{Was}
+use Rattle.geo_dialogue.specs.Closings.{StaysOpen}
+use Rattle.geo_dialogue.specs.Connections.{Connection, Comes, GoesOn, GoesFar, BreaksOff, IsEnd, IsSettled, new_connection}
+use Rattle.geo_dialogue.specs.Exchanges.{Exchange, items_in, text_of}
+use Rattle.geo_dialogue.specs.Sessions.{Sends}
+use Rattle.geo_dialogue.specs.declared.end.SessionEnd.{SessionEnd}
+use Rattle.geo_dialogue.specs.declared.end.SessionEnd.TheVariants.{EndOfInput}
+use Rattle.geo_dialogue.specs.declared.fault.SessionFault.{SessionFault}
+use Rattle.geo_dialogue.specs.declared.fault.SessionFault.TheVariants.{Read, Write, Memory}
+use Rattle.geo_socket.specs.Streams.{Was}
 use Rattle.geo_crowd.specs.declared.carried.Came.{Came}
 use Rattle.geo_crowd.specs.declared.carried.Came.TheVariants as came
 use Rattle.geo_crowd.specs.declared.carried.Sent.{Sent}
 use Rattle.geo_crowd.specs.declared.carried.Sent.TheVariants as sent
 use Rattle.geo_crowd.specs.declared.standing.Standing.{Standing}
 use Rattle.geo_crowd.specs.declared.standing.Standing.TheVariants.{Again, Waits, Over}
-use Rattle.geo_crowd.specs.declared.stream.Given.{Given}
-use Rattle.geo_crowd.specs.declared.stream.Given.TheVariants as given
-use Rattle.geo_crowd.specs.declared.stream.Accepted.{Accepted}
-use Rattle.geo_crowd.specs.declared.stream.Accepted.TheVariants as accepted
+use Rattle.geo_socket.specs.declared.stream.Given.{Given}
+use Rattle.geo_socket.specs.declared.stream.Given.TheVariants as given
+use Rattle.geo_socket.specs.declared.stream.Accepted.{Accepted}
+use Rattle.geo_socket.specs.declared.stream.Accepted.TheVariants as accepted
 
 -- how a connection ended, or by which fault
 abbrev pub Outcome : Type 0
@@ -202,6 +202,12 @@ MayHear old new = (new ≡ old) ⊎ Hears old new
 abbrev pub MayGoOn : {S : Type 0} → (S → Request → Reply → S → Type 0) → (S → Request → S → Type 0) → Carriage → Carriage → S → S → Type 0
 MayGoOn answers refuses old new before after =
     (IsStill old × (new ≡ old) × (after ≡ before)) ⊎ Proceeds answers refuses old new before after
+
+-- a turn begins: what is owed is written as far as it goes, and a piece comes
+pub record Begins (old new : Carriage) : Type 0 where
+  pub mid : Carriage
+  pub first : MayWrite old mid
+  pub hears : MayHear mid new
 
 -- a turn: what is owed is written as far as it goes, a piece comes, what waits is answered until much is owed, and what is owed then
 -- is written

@@ -1,4 +1,3 @@
-pub mod Streams
 pub mod Carrying
 pub mod Standings
 pub mod Listing

@@ -25,6 +25,11 @@ module _ {S : Type 0} where
   abbrev pub Same : Slab (Member S) → Slab (Member S) → Type 0
   Same old new = (number : ℕ) → get new number ≡ get old number
 
+  -- whoever is listed, or not, stays so
+  abbrev pub SameFlags : Slab (Member S) → Slab (Member S) → Type 0
+  SameFlags old new = (number : ℕ) → (is_listed_at new number ≡ is_listed_at old number)
+      × (is_unlisted (get new number) ≡ is_unlisted (get old number))
+
   -- beside so many numbers there is room for that of each that is not listed
   abbrev pub HasRoomForAll : Slab (Member S) → ℕ → ℕ → Type 0
   HasRoomForAll members count capacity = count + count_by is_unlisted members.slots ≤ capacity

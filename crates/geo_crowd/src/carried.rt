@@ -1,12 +1,12 @@
 //! A connection with its session.
 ghost use Rattle.std.specs.Prelude.{◌≡◌, ◌≢◌, true, MatchBool};
-ghost use Rattle.geo_session.specs.Connections.{IsSettled};
-ghost use Rattle.geo_session.specs.Sessions.{Sends};
+ghost use Rattle.geo_dialogue.specs.Connections.{IsSettled};
+ghost use Rattle.geo_dialogue.specs.Sessions.{Sends};
 ghost use Rattle.geo_crowd.specs.Carrying.{Reads, SendEnds, outcome_by, outcome_after, outcome_gone};
 
 use crate::standing::Standing;
-use crate::stream::{Accepted, Given, Stream};
-use geo_session::{Backend, Gate, Session, SessionEnd, SessionFault};
+use geo_dialogue::{Backend, Gate, Session, SessionEnd, SessionFault};
+use geo_socket::{Accepted, Given, Stream};
 use std::alloc::Global;
 use std::marker::Model;
 use std::rt::Clock;
@@ -172,7 +172,7 @@ impl<S: Stream> Model for Carried<S> {
 
 impl<S: Stream> Carried<S> {
     ghost use Rattle.std.specs.Prelude.{◌≡◌};
-    ghost use Rattle.geo_crowd.specs.Carrying.{CanGoOn, IsCarried, IsDone, IsStill, MayGoOn, MayHear, MayRead, MayWrite};
+    ghost use Rattle.geo_crowd.specs.Carrying.{Begins, CanGoOn, IsCarried, IsDone, IsStill, MayGoOn, MayHear, MayRead, MayWrite};
     ghost use Rattle.geo_crowd.specs.Carrying.{Stands, Turns, new_carriage};
 
     /// A connection on which nothing came and nothing was written, and of which it is not known whether it is ready.
@@ -256,14 +256,27 @@ impl<S: Stream> Carried<S> {
         self.outcome = came.outcome();
     }
 
-    /// Has what waits answered, as far as the session goes.
-    fn go_on<R: Wait + Clock, B: Backend, G: Gate>(&mut self, rt: &R, backend: &mut B, gate: &G)
+    /// Begins a turn: writes what is owed, and reads once where nothing waits and not too much is owed.
+    pub(crate) fn begin(&mut self, buffer: &mut [u8])
+        ensures { Begins self.old self.new }
+    {
+        self.write();
+        self.read(buffer);
+    }
+
+    /// Has what waits answered, until much is owed. The backend may keep to itself what it asks.
+    pub(crate) fn go_on<R: Wait + Clock, B: Backend, G: Gate>(
+        &mut self,
+        rt: &R,
+        backend: &mut B,
+        gate: &G,
+    )
         ensures { MayGoOn B.answers B.refuses self.old self.new backend.old backend.new }
     {
         if !self.may_go_on() {
             return;
         }
-        let gone = self.session.go_on(rt, backend, gate);
+        let gone = self.session.go_along(rt, backend, gate);
         self.outcome = outcome_behind(gone, self.outcome);
     }
 
@@ -291,6 +304,16 @@ impl<S: Stream> Carried<S> {
         }
     }
 
+    /// Ends a turn: writes what is owed then.
+    pub(crate) fn end(&mut self) -> Standing
+        ensures last { MayWrite self.old self.new }
+        ensures carries { IsCarried self.new.written self.new.session self.new.outcome }
+        ensures stands { Stands result self.new }
+    {
+        self.write();
+        self.standing()
+    }
+
     /// One turn: writes what is owed, reads once where nothing waits and not too much is owed, has what waits answered until it is
     /// owed much, and writes again.
     pub fn turn<R: Wait + Clock, B: Backend, G: Gate>(
@@ -304,10 +327,9 @@ impl<S: Stream> Carried<S> {
         ensures carries { IsCarried self.new.written self.new.session self.new.outcome }
         ensures stands { Stands result self.new }
     {
-        self.write();
-        self.read(buffer);
+        self.begin(buffer);
         self.go_on(rt, backend, gate);
-        self.write();
-        self.standing()
+        backend.rest();
+        self.end()
     }
 }

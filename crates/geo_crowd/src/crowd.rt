@@ -1,14 +1,14 @@
 //! The connections of one thread.
-ghost use Rattle.std.specs.Prelude.{◌≡◌, ◌≢◌, ◌≤◌, ◌++◌, ◌∷◌, ◌⊎◌, [], drop, length, take, vec_capacity, IfOk, OnErr, IsSome, MatchBool, None, Some};
+ghost use Rattle.std.specs.Prelude.{◌≡◌, ◌≢◌, ◌≤◌, ◌<◌, ◌+◌, ◌++◌, ◌∷◌, ◌⊎◌, [], drop, length, take, vec_capacity, IfOk, OnErr, IsSome, MatchBool, None, Some};
 ghost use Rattle.geo_crowd.specs.Listing.{AllListed, HasRoomForAll, StandsIn, is_listed_at};
 
 use crate::carried::Carried;
 use crate::passed::Passed;
 use crate::polling::{Polling, Ready};
 use crate::roster::Roster;
-use crate::stream::Stream;
 use crate::turns::pass_over;
-use geo_session::{Backend, Gate};
+use geo_dialogue::{Backend, Gate};
+use geo_socket::Stream;
 use std::alloc::{AllocError, Global};
 use std::rt::Clock;
 use std::sync::Wait;
@@ -24,7 +24,7 @@ pub struct Crowd<S: Stream + Drop> {
 }
 
 impl<S: Stream + Drop> Crowd<S> {
-    ghost use Rattle.geo_crowd.specs.Crowds.{at, due, Stand, OthersStand, Passes, Rounds, sums_of};
+    ghost use Rattle.geo_crowd.specs.Crowds.{at, due, Stand, OthersStand, HasNext, Passes, Rounds, sums_behind, sums_of};
 
     /// No connections.
     pub fn new(alloc: Global) -> Result<Crowd<S>, AllocError>
@@ -110,7 +110,27 @@ impl<S: Stream + Drop> Crowd<S> {
         ensures passes { Passes B.answers B.refuses (due self.old) (sums_of self.new result) (at self.old) (at self.new) backend.old backend.new }
         ensures goes_on { MatchBool result.goes_on (due self.new ≢ []) (due self.new ≡ []) }
     {
-        pass_over(rt, &mut self.roster, &mut self.listed, backend, gate)
+        self.pass_behind(rt, 0, backend, gate)
+    }
+
+    /// One pass over those that are listed behind the first so many, which wait on.
+    fn pass_behind<R: Wait + Clock, B: Backend, G: Gate>(
+        &mut self,
+        rt: &R,
+        from: usize,
+        backend: &mut B,
+        gate: &G,
+    ) -> Passed
+        requires place { from ≤ length (due self.old) }
+        ensures passes { Passes B.answers B.refuses (drop from (due self.old)) (sums_behind from self.new result) (at self.old)
+            (at self.new) backend.old backend.new }
+        ensures front { take from (due self.new) ≡ take from (due self.old) }
+        ensures few_ended { from + result.ended ≤ length (due self.old) }
+        ensures few_faults { from + result.faults ≤ length (due self.old) }
+        ensures within { length (due self.old) ≤ usize.MAX }
+        ensures goes_on { MatchBool result.goes_on (due self.new ≢ []) (due self.new ≡ []) }
+    {
+        pass_over(rt, &mut self.roster, &mut self.listed, from, backend, gate)
     }
 
     /// Those that are listed behind the first so many come first from now on.
@@ -122,8 +142,34 @@ impl<S: Stream + Drop> Crowd<S> {
         self.listed.rotate_left(count);
     }
 
-    /// One round: waits until some connection is ready, or not at all where some can go on, and gives each that can one turn. Who asks
-    /// anew comes first, and doesn't wait for those that have much to be told.
+    /// The one that waited longest has a turn, behind others that had theirs.
+    fn pass_next<R: Wait + Clock, B: Backend, G: Gate>(
+        &mut self,
+        rt: &R,
+        before: Passed,
+        backend: &mut B,
+        gate: &G,
+    ) -> Passed
+        requires some { 1 ≤ length (due self.old) }
+        requires ended { before.ended < usize.MAX }
+        requires faults { before.faults < usize.MAX }
+        ensures next { HasNext B.answers B.refuses (due self.old) before (sums_of self.new result) (at self.old) (at self.new)
+            backend.old backend.new }
+        ensures goes_on { MatchBool result.goes_on (due self.new ≢ []) (due self.new ≡ []) }
+    {
+        self.put_first(1);
+        let last = self.listed.len() - 1;
+        let passed = self.pass_behind(rt, last, backend, gate);
+        Passed {
+            ended: before.ended + passed.ended,
+            faults: before.faults + passed.faults,
+            goes_on: passed.goes_on,
+        }
+    }
+
+    /// One round: waits until some connection is ready, or not at all where some can go on. Who asks anew has a turn, and waits for nobody
+    /// who has much to be told: of those that can go on the one that waited longest has one behind them, and the others wait for the next
+    /// round.
     pub fn round<R: Wait + Clock, P: Polling, B: Backend, G: Gate>(
         &mut self,
         rt: &R,
@@ -142,7 +188,10 @@ impl<S: Stream + Drop> Crowd<S> {
             let ready = told[at];
             self.is_ready(ready);
         }
-        self.put_first(count);
-        self.pass(rt, backend, gate)
+        let before = self.pass_behind(rt, count, backend, gate);
+        if count == 0 {
+            return before;
+        }
+        self.pass_next(rt, before, backend, gate)
     }
 }

@@ -13,12 +13,11 @@ mod passed;
 mod polling;
 mod roster;
 mod standing;
-mod stream;
 mod turns;
 
 pub use carried::Carried;
 pub use crowd::Crowd;
+pub use geo_socket::{Accepted, Given, Stream};
 pub use passed::Passed;
 pub use polling::{Polling, Ready};
 pub use standing::Standing;
-pub use stream::{Accepted, Given, Stream};

@@ -1,12 +1,12 @@
 //! Connections under their numbers.
-ghost use Rattle.std.specs.Prelude.{◌≡◌, ◌∷◌, [], true, false, is_some, IfOk, OnErr, None, Some};
+ghost use Rattle.std.specs.Prelude.{◌≡◌, ◌∷◌, [], true, false, is_some, IfOk, OnErr, MatchBool, None, Some};
 ghost use Rattle.slab.specs.Slab.{get, slab_len};
 
 use crate::carried::Carried;
 use crate::polling::Ready;
 use crate::standing::Standing;
-use crate::stream::Stream;
-use geo_session::{Backend, Gate};
+use geo_dialogue::{Backend, Gate};
+use geo_socket::Stream;
 use slab::Slab;
 use std::alloc::{AllocError, Global};
 use std::mem;
@@ -33,7 +33,7 @@ pub(crate) struct Roster<S: Stream + Drop> {
 }
 
 impl<S: Stream + Drop> Roster<S> {
-    ghost use Rattle.geo_crowd.specs.Crowds.{carried_in, Stand, Visits};
+    ghost use Rattle.geo_crowd.specs.Crowds.{carried_in, BeginsThere, EndsAt, GoesOnThere, IsNotThere, Stand};
     ghost use Rattle.geo_crowd.specs.Listing.{OthersKeep, Same, is_listed_at, is_unlisted};
     ghost use Rattle.geo_crowd.specs.Standings.{goes_on};
 
@@ -99,23 +99,51 @@ impl<S: Stream + Drop> Roster<S> {
         is_fresh
     }
 
-    /// Gives a connection its turn, and lets go of it where that was the last. One that goes on is to be listed.
-    pub(crate) fn visit<R: Wait + Clock, B: Backend, G: Gate>(
+    /// Begins a connection's turn. Whether it is there.
+    pub(crate) fn begin(&mut self, number: usize) -> bool
+        ensures begins { MatchBool result (BeginsThere number (carried_in self.old.members) (carried_in self.new.members))
+            (IsNotThere number (carried_in self.old.members) (carried_in self.new.members)) }
+        ensures listed { is_listed_at self.new.members number ≡ is_listed_at self.old.members number }
+        ensures unlisted { is_unlisted (get self.new.members number) ≡ is_unlisted (get self.old.members number) }
+        ensures others { OthersKeep number self.old.members self.new.members }
+    {
+        let Some(member) = self.members.get_mut(number) else {
+            return false;
+        };
+        member.carried.begin(self.buffer.as_mut_slice());
+        true
+    }
+
+    /// Has what waits at a connection answered. Whether it is there.
+    pub(crate) fn go_on<R: Wait + Clock, B: Backend, G: Gate>(
         &mut self,
         rt: &R,
         backend: &mut B,
         gate: &G,
         number: usize,
-    ) -> Option<Standing>
-        ensures visits { Visits B.answers B.refuses number result (carried_in self.old.members) (carried_in self.new.members) backend.old
-            backend.new }
+    ) -> bool
+        ensures goes { MatchBool result
+            (GoesOnThere B.answers B.refuses number (carried_in self.old.members) (carried_in self.new.members) backend.old backend.new)
+            (IsNotThere number (carried_in self.old.members) (carried_in self.new.members) × (backend.new ≡ backend.old)) }
+        ensures listed { is_listed_at self.new.members number ≡ is_listed_at self.old.members number }
+        ensures unlisted { is_unlisted (get self.new.members number) ≡ is_unlisted (get self.old.members number) }
+        ensures others { OthersKeep number self.old.members self.new.members }
+    {
+        let Some(member) = self.members.get_mut(number) else {
+            return false;
+        };
+        member.carried.go_on(rt, backend, gate);
+        true
+    }
+
+    /// Ends a connection's turn, and lets go of it where that was the last. One that goes on is to be listed.
+    pub(crate) fn end(&mut self, number: usize) -> Option<Standing>
+        ensures ends { EndsAt number result (carried_in self.old.members) (carried_in self.new.members) }
         ensures listed { is_listed_at self.new.members number ≡ goes_on result }
         ensures others { OthersKeep number self.old.members self.new.members }
     {
         let member = self.members.get_mut(number)?;
-        let standing = member
-            .carried
-            .turn(rt, backend, gate, self.buffer.as_mut_slice());
+        let standing = member.carried.end();
         member.is_listed = standing == Standing::Again;
         if matches!(standing, Standing::Over(_)) {
             if let Some(member) = self.members.try_remove(number) {

@@ -1,5 +1,5 @@
 //! How a connection stands after a turn.
-use geo_session::{SessionEnd, SessionFault};
+use geo_dialogue::{SessionEnd, SessionFault};
 
 /// How a connection stands after a turn.
 #[derive(Clone, Copy, Debug, PartialEq, Eq)]

@@ -6,3 +6,5 @@ pub mod News
 pub mod Heads
 pub mod Recent
 pub mod Facts
+pub mod Trailing
+pub mod Told

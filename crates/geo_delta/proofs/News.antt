@@ -7,8 +7,8 @@ use Rattle.std.specs.List.{All, AllByRecursion, list_any}
 use Rattle.std.specs.List.Sorted.{IsStrictlySortedBy}
 use Rattle.std.proofs.lemmas.List.Elements.{All-nil, All-cons}
 use Rattle.std.proofs.lemmas.Map.Keys.{sorted_head, sorted_tail}
-use Rattle.geo_lattice.specs.Maps.{meaning_or}
-use Rattle.geo_lattice.proofs.Listing.{before}
+use Rattle.geo_maps.specs.Maps.{meaning_or}
+use Rattle.geo_maps.proofs.Listing.{before}
 use Rattle.geo_records.proofs.Above.{joined_none, record_same}
 use Rattle.geo_records.specs.Keys.{same_key}
 use Rattle.geo_records.specs.Operations.{Record, record_joined}

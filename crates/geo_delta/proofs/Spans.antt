@@ -1,11 +1,11 @@
 -- The changes from one on, and what was known before each.
 use Rattle.std.proofs.Common.{◌≡◌, ℕ, zero, suc, ◌+◌, ◌-◌, ◌<◌, ◌≤◌, ◌||◌, List, [], ◌∷◌, ◌++◌, length, map, take, drop, None, Some, refl, sym, ap, ◌∙◌, arith, slice_get}
 use Rattle.std.specs.List.{list_any}
-use Rattle.geo_lattice.proofs.Entries.{some_same, some_none}
+use Rattle.geo_maps.proofs.Entries.{some_same, some_none}
 use Rattle.geo_records.specs.Keys.{same_key}
-use Rattle.geo_delta.specs.Changes.{Noted, has_change, known_after}
+use Rattle.geo_delta.specs.Changes.{Noted, known_after}
 
-abbrev pub key_of : Noted → List ℕ
+abbrev pub key_of : {V : Type 0} → List ℕ × V → List ℕ
 key_of c = c.0
 
 -- a change's vector is what was known after it
@@ -38,18 +38,18 @@ from_more zero (suc i) (y ∷ ys) x le at = ap (λ zs. y ∷ zs) (from_more zero
 from_more (suc n) zero (y ∷ ys) x le at = absurd (omega (arith, le))
 from_more (suc n) (suc i) (y ∷ ys) x le at = from_more n i ys x (omega (arith, le)) at
 
-map_more : (xs : List Noted) (c : Noted) → map key_of (xs ++ c ∷ []) ≡ map key_of xs ++ c.0 ∷ []
+map_more : {V : Type 0} (xs : List (List ℕ × V)) (c : List ℕ × V) → map key_of (xs ++ c ∷ []) ≡ map key_of xs ++ c.0 ∷ []
 map_more [] c = refl
 map_more (x ∷ xs) c = ap (λ ks. x.0 ∷ ks) (map_more xs c)
 
 -- the key of one more change
-pub keys_more : (n i : ℕ) (changes : List Noted) (c : Noted) (keys more : List (List ℕ)) → n ≤ i → slice_get changes i ≡ Some c → keys ≡ map key_of (drop n (take i changes)) → more ≡ keys ++ c.0 ∷ []
+pub keys_more : {V : Type 0} (n i : ℕ) (changes : List (List ℕ × V)) (c : List ℕ × V) (keys more : List (List ℕ)) → n ≤ i → slice_get changes i ≡ Some c → keys ≡ map key_of (drop n (take i changes)) → more ≡ keys ++ c.0 ∷ []
     → more ≡ map key_of (drop n (take (i + 1) changes))
 keys_more n i changes c keys more le at is pushed =
     let next : i + 1 ≡ suc i = omega arith in
     pushed ∙ ap (λ ks. ks ++ c.0 ∷ []) is ∙ sym (map_more (drop n (take i changes)) c) ∙ ap (map key_of) (sym (from_more n i changes c le at)) ∙ ap (λ j. map key_of (drop n (take j changes))) (sym next)
 
 -- a key is among those of the changes where one of them is of it
-pub has_key : (changes : List Noted) (q : List ℕ) → list_any (same_key q) (map key_of changes) ≡ has_change changes q
+pub has_key : {V : Type 0} (changes : List (List ℕ × V)) (q : List ℕ) → list_any (same_key q) (map key_of changes) ≡ list_any (λ (c : List ℕ × V). same_key q c.0) changes
 has_key [] q = refl
 has_key (c ∷ changes) q = ap (λ b. same_key q c.0 || b) (has_key changes q)

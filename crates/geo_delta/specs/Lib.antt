@@ -1,3 +1,5 @@
 pub mod Changes
 pub mod Heads
 pub mod Ranges
+pub mod Trails
+pub mod Telling

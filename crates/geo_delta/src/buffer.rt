@@ -4,7 +4,7 @@ ghost use Rattle.std.specs.List.{All, list_any};
 ghost use Rattle.std.specs.List.Sorted.{IsStrictlySortedBy};
 ghost use Rattle.std.specs.Ordering.{nat_cmp};
 ghost use Rattle.std.specs.Cmp.Lexicographic.{slice_cmp};
-ghost use Rattle.geo_lattice.specs.Maps.{meaning_or};
+ghost use Rattle.geo_maps.specs.Maps.{meaning_or};
 ghost use Rattle.geo_stamp.specs.Vectors.{vector_joined};
 ghost use Rattle.geo_records.specs.Keys.{IsShortKey, same_key};
 ghost use Rattle.geo_versions.specs.Maps.{Rising, is_unknown, listed_at, rec_means, since};
@@ -12,7 +12,8 @@ ghost use Rattle.geo_records.specs.Operations.{Record, Register};
 ghost use Rattle.geo_delta.specs.Changes.{Noted, Traced, KnowsBut, emptied, first_ring, has_change, known_after, noted, nothing_pending};
 ghost use Rattle.geo_delta.specs.Heads.{IsBehind, keys_under};
 
-use crate::headed::{Headed, shared};
+use crate::begin::{Changed, begin_from};
+use crate::headed::Headed;
 use crate::lookup::Lookup;
 use circular_buffer::HeapCircularBuffer;
 use geo_lattice::{Exact, Lattice, Lww, Pair};
@@ -23,15 +24,6 @@ use std::marker::Model;
 
 /// The most changes that are kept.
 pub const MOST_CHANGES: usize = 4096;
-
-/// So few are soon sorted, whatever their keys begin with.
-const FEW_CHANGES: usize = 32;
-
-/// Where keys share fewer bytes, their first sixteen tell most of them apart.
-const LEAST_SHARED: usize = 14;
-
-/// A prime above the most changes, so that steps of it come to each kind of changes that follow one another in turn.
-const STRIDE: usize = 2_654_435_761;
 
 /// The newest changes of a site, its own or taken in a parcel: of each the key, and what the site knew after it. The oldest of
 /// more than 4,096 falls out; [`Buffer::reach`] is what was known after it. What a vector lacks that covers the reach is found
@@ -53,6 +45,19 @@ impl Model for Buffer {
     ghost view = { λ c. record { changes = c.ring.items; reach = c.reach } };
 
     ghost invariant = { λ c. c.ring.capacity ≡ most_changes };
+}
+
+impl Changed for Buffer {
+    fn count(&self) -> usize {
+        self.ring.len()
+    }
+
+    fn bytes_at(&self, place: usize) -> &[u8] {
+        match self.ring.get(place) {
+            Some(change) => change.0.bytes(),
+            None => &[],
+        }
+    }
 }
 
 impl Buffer {
@@ -159,36 +164,6 @@ impl Buffer {
         Some(0)
     }
 
-    fn bytes_at(&self, place: usize) -> &[u8] {
-        match self.ring.get(place) {
-            Some(change) => change.0.bytes(),
-            None => &[],
-        }
-    }
-
-    /// With which bytes the keys of the changes from this one on begin, as far as a few of them tell; none where that are too few to
-    /// leave out, or a whole key. Keys that begin otherwise take more time, and are sorted as well.
-    fn begin_from(&self, first: usize) -> &[u8] {
-        let count = self.ring.len().saturating_sub(first);
-        if count < FEW_CHANGES {
-            return &[];
-        }
-        let key = self.bytes_at(first);
-        let mut begin = key;
-        for sample in 1..8 + count / 128 {
-            let place = first.saturating_add(sample.wrapping_mul(STRIDE) % count);
-            begin = &begin[..shared(begin, self.bytes_at(place))];
-            if begin.len() < LEAST_SHARED {
-                return &[];
-            }
-        }
-        // One key that changes over and over leaves nothing to go by behind it.
-        if begin.len() == key.len() {
-            return &[];
-        }
-        begin
-    }
-
     /// The keys of the changes from this one on, by reference: a key may have changed often, and a copy of a long one takes memory.
     fn keys_from<'a>(&'a self, alloc: Global, first: usize) -> Result<Vec<Headed<'a>>, AllocError>
         requires { first ≤ length self.now.changes }
@@ -196,7 +171,7 @@ impl Buffer {
         ensures heads { IfOk result (λ keys. (begin : List ℕ) × All (IsBehind begin) keys.items) }
     {
         let mut keys = Vec::with_capacity(alloc, self.ring.len() - first)?;
-        let begin = self.begin_from(first);
+        let begin = begin_from(self, first);
         for i in first..self.ring.len() {
             if let Some(change) = self.ring.get(i) {
                 keys.push(Headed::new(begin, &change.0))?;
@@ -207,7 +182,7 @@ impl Buffer {
 }
 
 /// The keys by their order, each once.
-fn sorted(mut keys: Vec<Headed>) -> Vec<Headed>
+pub(crate) fn sorted(mut keys: Vec<Headed>) -> Vec<Headed>
     requires { (begin : List ℕ) × All (IsBehind begin) keys.items }
     ensures rising { IsStrictlySortedBy (slice_cmp nat_cmp) (keys_under result.items) }
     ensures same { (q : List ℕ) → list_any (same_key q) (keys_under result.items) ≡ list_any (same_key q) (keys_under keys.entry.items) }
@@ -241,7 +216,7 @@ fn news_of<T: Lookup>(versions: &T, base: &Vector, key: &Key) -> Option<Rec>
 }
 
 /// The records of these keys of which the vector does not know all, each with a copy of its key. No other key is copied.
-fn looked_up<T: Lookup>(
+pub(crate) fn looked_up<T: Lookup>(
     alloc: Global,
     versions: &T,
     base: &Vector,

@@ -2,9 +2,10 @@
 ghost use Rattle.std.specs.Prelude.{◌≡◌, ℕ, List, IfOk, None};
 ghost use Rattle.std.specs.List.{All};
 ghost use Rattle.geo_versions.specs.Maps.{Rising, floor_in, listed_at, rec_means, record_in, since};
-ghost use Rattle.geo_delta.specs.Changes.{Traced, nothing_pending};
+ghost use Rattle.geo_delta.specs.Changes.{nothing_pending};
+ghost use Rattle.geo_delta.specs.Telling.{Tells};
 
-use crate::buffer::Buffer;
+use crate::changes::Changes;
 use crate::parcel::Parcel;
 use geo_lattice::Items;
 use geo_stamp::{Retired, Vector};
@@ -16,10 +17,10 @@ use std::alloc::{AllocError, Global};
 fn lacking(
     alloc: Global,
     versions: &Versions,
-    changes: &Buffer,
+    changes: &Changes,
     base: &Vector,
 ) -> Result<Vec<(Key, Rec)>, AllocError>
-    requires traced { Traced nothing_pending (record_in versions.now) changes.now }
+    requires told { Tells nothing_pending (record_in versions.now) changes.now }
     ensures rising { IfOk result (λ all. Rising all.items) }
     ensures records { IfOk result (λ all. (q : List ℕ) → listed_at all.items q ≡ since base.now (record_in versions.now q)) }
     ensures filled { IfOk result (λ all. All (λ e. rec_means e.1 ≡ (None, None) → ⊥) all.items) }
@@ -35,14 +36,14 @@ fn lacking(
 pub fn cut(
     alloc: Global,
     versions: &Versions,
-    changes: &Buffer,
+    changes: &Changes,
     from: u8,
     to: u8,
     base: &Vector,
     upto: &Vector,
     retired: &Retired,
 ) -> Result<Parcel, AllocError>
-    requires traced { Traced nothing_pending (record_in versions.now) changes.now }
+    requires told { Tells nothing_pending (record_in versions.now) changes.now }
     ensures sites { IfOk result (λ p. (p.from ≡ from) × (p.to ≡ to)) }
     ensures vectors { IfOk result (λ p. (p.base ≡ base.now) × (p.upto ≡ upto.now)) }
     ensures retired { IfOk result (λ p. p.retired ≡ retired.now) }

@@ -4,15 +4,20 @@
 //! stands on versions and stamps, and knows nothing of held values, requests or links.
 #![tactic(auto)]
 
+mod begin;
 mod buffer;
+mod changes;
 mod cutting;
 mod headed;
 mod lookup;
 mod parcel;
 mod ranges;
+mod trail;
 
 pub use buffer::{Buffer, MOST_CHANGES};
+pub use changes::Changes;
 pub use cutting::cut;
 pub use lookup::Lookup;
 pub use parcel::Parcel;
 pub use ranges::stays_in_range;
+pub use trail::Trail;

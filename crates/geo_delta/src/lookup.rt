@@ -1,6 +1,6 @@
 //! What tells the record of a key.
 ghost use Rattle.std.specs.Prelude.{◌≡◌, ◌↔◌, None, IsSome, List, ℕ, option_copied};
-ghost use Rattle.geo_lattice.specs.Maps.{meaning_or};
+ghost use Rattle.geo_maps.specs.Maps.{meaning_or};
 ghost use Rattle.geo_versions.specs.Maps.{rec_means};
 ghost use Rattle.geo_records.specs.Operations.{Record};
 

@@ -11,8 +11,8 @@ mod parcels;
 mod replies;
 mod requests;
 
-use geo_grammar::{Shared, Shown, ValueBytes};
 use geo_lattice::{Exact, Items};
+use geo_requests::{Shared, Shown, ValueBytes};
 use geo_versions::Key;
 use std::cmp::Ordering;
 

@@ -1,6 +1,6 @@
 //! Replies.
 use crate::Equal;
-use geo_grammar::{Found, Reply};
+use geo_requests::{Found, Reply};
 
 impl Equal for Found {
     fn equals(&self, other: &Self) -> bool {

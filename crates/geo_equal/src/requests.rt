@@ -1,6 +1,6 @@
 //! Requests.
 use crate::Equal;
-use geo_grammar::Request;
+use geo_requests::Request;
 
 impl Equal for Request {
     fn equals(&self, other: &Self) -> bool {

@@ -8,8 +8,8 @@ ghost use Rattle.geo_link.specs.declared.fault.LinkError.TheVariants as link_err
 
 use crate::rounds::Peer;
 use geo_frame::{Message, fits};
-use geo_grammar::ValueBytes;
 use geo_link::{Link, LinkError};
+use geo_requests::ValueBytes;
 use geo_site::Filled;
 use geo_station::{Missing, Room, Seat, Station};
 use geo_versions::{Digest, Key};

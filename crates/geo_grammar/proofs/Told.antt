@@ -5,8 +5,8 @@ use Rattle.std.proofs.lemmas.Bool.{ltb-true}
 use Rattle.std.proofs.lemmas.List.{drop-drop, drop_more, take-append-drop}
 use Rattle.geo_grammar.specs.Replies.{found_bytes, reply_bytes}
 use Rattle.geo_grammar.specs.Tellings.{IsBegun, bytes_left, text_left, value_left}
-use Rattle.geo_grammar.specs.declared.reply.Found.{Found}
-use Rattle.geo_grammar.specs.declared.reply.Reply.TheVariants.{Values}
+use Rattle.geo_requests.specs.declared.reply.Found.{Found}
+use Rattle.geo_requests.specs.declared.reply.Reply.TheVariants.{Values}
 
 pub some_to_tell : (found : List Found) → reply_bytes (Values found) ≢ []
 some_to_tell found h =

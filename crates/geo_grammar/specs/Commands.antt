@@ -5,13 +5,15 @@ use Rattle.std.specs.List.{list_all}
 use Rattle.std.specs.Option.{option_map, option_or}
 use Rattle.std.specs.Str.{bytes_eq}
 use Rattle.geo_records.specs.Keys.{is_key}
-use Rattle.geo_grammar.specs.Limits.{longest_value, most_bytes, most_flags, most_number}
-use Rattle.geo_grammar.specs.Words.{line_text, words_of, number_of, signed_of}
+use Rattle.geo_requests.specs.Limits.{longest_value, most_number}
+use Rattle.geo_grammar.specs.Limits.{most_bytes, most_flags}
+use Rattle.geo_requests.specs.Numbers.{number_of}
+use Rattle.geo_grammar.specs.Words.{line_text, words_of, signed_of}
 use Rattle.geo_grammar.specs.declared.fault.LineFault.TheVariants.{Unknown, BadLine, BadNumber}
-use Rattle.geo_grammar.specs.declared.request.Verb.{Verb}
-use Rattle.geo_grammar.specs.declared.request.Verb.TheVariants.{Set, Add, Replace, Append, Prepend, Cas}
-use Rattle.geo_grammar.specs.declared.request.Request.{Request}
-use Rattle.geo_grammar.specs.declared.request.Request.TheVariants as request
+use Rattle.geo_requests.specs.declared.request.Verb.{Verb}
+use Rattle.geo_requests.specs.declared.request.Verb.TheVariants.{Set, Add, Replace, Append, Prepend, Cas}
+use Rattle.geo_requests.specs.declared.request.Request.{Request}
+use Rattle.geo_requests.specs.declared.request.Request.TheVariants as request
 use Rattle.geo_grammar.specs.declared.command.Command.{Command}
 use Rattle.geo_grammar.specs.declared.command.Command.TheVariants.{Storage, Fetch, FetchTouch, Delete, Touch, Arith, FlushAll, Version, Verbosity, Stats, Quit}
 use Rattle.geo_grammar.specs.declared.head.Head.{Head}

@@ -7,8 +7,6 @@ pub mod Places
 pub mod Lines
 pub mod Blocks
 pub mod States
-pub mod Requests
 pub mod Replies
-pub mod Holdings
 pub mod Tellings
 pub mod Quitting

@@ -3,12 +3,12 @@ use Rattle.std.specs.Prelude.{ℕ, ◌<◌, Bool, true, false, List, [], ◌∷�
 use Rattle.std.specs.List.{flat_map}
 use Rattle.geo_grammar.specs.declared.fault.Fault.{Fault}
 use Rattle.geo_grammar.specs.declared.fault.Fault.TheVariants as fault
-use Rattle.geo_grammar.specs.declared.request.Request.{Request}
-use Rattle.geo_grammar.specs.declared.request.Request.TheVariants as request
-use Rattle.geo_grammar.specs.declared.reply.Found.{Found}
-use Rattle.geo_grammar.specs.declared.stats.Stats as stats
-use Rattle.geo_grammar.specs.declared.reply.Reply.{Reply}
-use Rattle.geo_grammar.specs.declared.reply.Reply.TheVariants.{Stored, NotStored, Exists, NotFound, Deleted, Touched, Done, Number, Values, Version, Stats, Closed, NotANumber, TooLarge, MapFull, ClockEnded, OutOfMemory}
+use Rattle.geo_requests.specs.declared.request.Request.{Request}
+use Rattle.geo_requests.specs.Requests.{is_noreply}
+use Rattle.geo_requests.specs.declared.reply.Found.{Found}
+use Rattle.geo_requests.specs.declared.stats.Stats as stats
+use Rattle.geo_requests.specs.declared.reply.Reply.{Reply}
+use Rattle.geo_requests.specs.declared.reply.Reply.TheVariants.{Stored, NotStored, Exists, NotFound, Deleted, Touched, Done, Number, Values, Version, Stats, Closed, NotANumber, TooLarge, MapFull, ClockEnded, OutOfMemory}
 
 abbrev pub fault_bytes : Fault → List ℕ
 fault_bytes fault.Unknown = codes "ERROR\r\n"
@@ -60,26 +60,6 @@ reply_bytes MapFull = codes "SERVER_ERROR version map full\r\n"
 reply_bytes ClockEnded = codes "SERVER_ERROR clock ended\r\n"
 reply_bytes OutOfMemory = codes "SERVER_ERROR out of memory\r\n"
 
--- a reply that shows no values
-abbrev pub is_short : Reply → Bool
-is_short Stored = true
-is_short NotStored = true
-is_short Exists = true
-is_short NotFound = true
-is_short Deleted = true
-is_short Touched = true
-is_short Done = true
-is_short (Number number) = true
-is_short (Values found) = false
-is_short Version = true
-is_short (Stats s) = true
-is_short Closed = true
-is_short NotANumber = true
-is_short TooLarge = true
-is_short MapFull = true
-is_short ClockEnded = true
-is_short OutOfMemory = true
-
 -- values that are told piece by piece: several, or a long one
 abbrev pub IsMuch : List Found → Type 0
 IsMuch [] = ⊥
@@ -105,20 +85,6 @@ ShowsMuch TooLarge = ⊥
 ShowsMuch MapFull = ⊥
 ShowsMuch ClockEnded = ⊥
 ShowsMuch OutOfMemory = ⊥
-
--- the client wants no answer
-abbrev pub is_noreply : Request → Bool
-is_noreply (request.Store verb key flags exptime unique bytes noreply) = noreply
-is_noreply (request.Fetch keys numbers) = false
-is_noreply (request.FetchTouch exptime keys numbers) = false
-is_noreply (request.Delete key noreply) = noreply
-is_noreply (request.Touch key exptime noreply) = noreply
-is_noreply (request.Arith up key by noreply) = noreply
-is_noreply (request.FlushAll delay noreply) = noreply
-is_noreply request.ShowVersion = false
-is_noreply (request.Verbosity noreply) = noreply
-is_noreply request.Stats = false
-is_noreply request.Quit = false
 
 -- a request with noreply is answered by no bytes, whatever the reply
 abbrev pub answer_bytes : Request → Reply → List ℕ

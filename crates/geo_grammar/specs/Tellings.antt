@@ -1,8 +1,8 @@
 -- A reply of values that is told piece by piece.
 use Rattle.std.specs.Prelude.{◌≤◌, ℕ, List, [], ◌∷◌, ◌++◌, length, drop, codes, Option, None, Some}
 use Rattle.geo_grammar.specs.Replies.{found_bytes, reply_bytes}
-use Rattle.geo_grammar.specs.declared.reply.Found.{Found}
-use Rattle.geo_grammar.specs.declared.reply.Reply.TheVariants.{Values}
+use Rattle.geo_requests.specs.declared.reply.Found.{Found}
+use Rattle.geo_requests.specs.declared.reply.Reply.TheVariants.{Values}
 
 -- the text that is left of a value's bytes, of which so many are told
 abbrev pub bytes_left : List ℕ → ℕ → List ℕ

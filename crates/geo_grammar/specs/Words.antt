@@ -1,6 +1,7 @@
 -- The words of a line and the numbers that they write (memcached's protocol.txt).
 use Rattle.std.specs.Prelude.{ℕ, ℤ, pos, neg_ℤ, ◌-◌, ◌==◌, nat_le, ◌&&◌, Bool, true, false, List, [], ◌∷◌, length, take, filter, slice_index, Option, Some, None, if◌then◌else◌}
 use Rattle.std.specs.Option.{option_map}
+use Rattle.geo_requests.specs.Numbers.{is_filled, number_of}
 use Rattle.std.specs.List.{slice_split}
 use Rattle.std.specs.Str.{all_ascii_digits}
 use Rattle.std.specs.Str.Parse.{digits_value_after}
@@ -12,22 +13,9 @@ line_text line = if slice_index line (length line - 1) == 13 then take (length l
 abbrev pub is_space : ℕ → Bool
 is_space byte = byte == 32
 
-abbrev pub is_filled : List ℕ → Bool
-is_filled [] = false
-is_filled (byte ∷ bytes) = true
-
 -- what stands between spaces, but for what is empty
 abbrev pub words_of : List ℕ → List (List ℕ)
 words_of line = filter is_filled (slice_split is_space line)
-
--- the number that decimal digits write behind those that wrote n, if it is at most `most`
-abbrev pub number_after : ℕ → ℕ → List ℕ → Option ℕ
-number_after most n digits =
-    if all_ascii_digits digits && nat_le (digits_value_after 10 n digits) most then Some (digits_value_after 10 n digits) else None
-
--- the number that decimal digits write, leading zeros allowed, if it is at most `most`
-abbrev pub number_of : ℕ → List ℕ → Option ℕ
-number_of most word = if is_filled word then number_after most 0 word else None
 
 -- a number from -2^63 to 2^63 - 1, which may begin with a minus
 abbrev pub signed_of : List ℕ → Option ℤ

@@ -2,7 +2,7 @@
 ghost use Rattle.std.specs.Prelude.{◌≡◌};
 ghost use Rattle.geo_grammar.specs.Commands.{verb_of, found_in, keyed, command_of};
 
-use crate::request::Verb;
+use geo_requests::Verb;
 
 /// What a line's first word asks for.
 #[derive(Clone, Copy)]

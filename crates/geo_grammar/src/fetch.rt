@@ -8,10 +8,10 @@ ghost use Rattle.geo_grammar.specs.Commands.{NoKeys, fetch_line, fetch_touch_lin
 use crate::fault::LineFault;
 use crate::keys::is_key;
 use crate::line::Line;
-use crate::request::Request;
 use crate::words::{first_word, next_word, signed};
 use geo_lattice::Items;
-use geo_versions::Key;
+use geo_records::Key;
+use geo_requests::Request;
 use std::alloc::{AllocError, Global};
 
 /// How many words a line has, where all are keys; None where one is none.

@@ -2,9 +2,8 @@
 ghost use Rattle.std.specs.Prelude.{◌≡◌};
 ghost use Rattle.geo_grammar.specs.Commands.{stored};
 
-use crate::request::{Request, Verb};
-use crate::value::ValueBytes;
-use geo_versions::Key;
+use geo_records::Key;
+use geo_requests::{Request, ValueBytes, Verb};
 
 /// What a storage line announces: a store whose data, of `size` bytes, is still to come.
 #[derive(Drop)]

@@ -3,7 +3,7 @@ ghost use Rattle.std.specs.Prelude.{◌≡◌};
 ghost use Rattle.geo_grammar.specs.Quitting.{is_quit};
 
 use crate::fault::Fault;
-use crate::request::Request;
+use geo_requests::Request;
 
 /// What a reader gives: a request, or the fault of bytes that are none.
 #[derive(Drop)]

@@ -5,7 +5,7 @@ ghost use Rattle.geo_records.specs.Keys.{is_key, is_key_byte};
 
 use crate::limits::LONGEST_KEY;
 use crate::words::Word;
-use geo_versions::Key;
+use geo_records::Key;
 use std::alloc::{AllocError, Global};
 
 /// Whether a word is a key, by what was seen of it when its end was looked for.

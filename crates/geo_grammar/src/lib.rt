@@ -14,7 +14,6 @@ mod fault;
 mod feed;
 mod fetch;
 mod head;
-mod holding;
 mod item;
 mod keys;
 mod laws;
@@ -22,34 +21,24 @@ mod limits;
 mod line;
 mod lines;
 mod reader;
-mod reply;
-mod request;
 mod runs;
-mod shared;
-mod shown;
 mod split;
 mod state;
-mod stats;
 mod step;
 mod storage;
 mod telling;
 mod texts;
 mod transcript;
-mod value;
 mod words;
 
 pub use device::Device;
 pub use fault::{Fault, fault_text};
+pub use geo_requests::{
+    Found, LONGEST_VALUE, MOST_NUMBER, Reply, Request, Shared, Shown, Stats, ValueBytes, Verb,
+    number,
+};
 pub use item::Item;
 pub use laws::{items_of_longer, read_all, silent_behind_long_line};
-pub use limits::{LONGEST_VALUE, MOST_NUMBER};
 pub use reader::Reader;
-pub use reply::{Found, Reply};
-pub use request::{Request, Verb};
-pub use shared::Shared;
-pub use shown::Shown;
-pub use stats::Stats;
 pub use telling::{Telling, begin_reply};
 pub use texts::{push_answer, push_reply, render};
-pub use value::ValueBytes;
-pub use words::number;

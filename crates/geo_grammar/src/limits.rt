@@ -6,14 +6,8 @@ pub const LONGEST_LINE: usize = 65_536;
 /// The most bytes of a key.
 pub const LONGEST_KEY: usize = 250;
 
-/// The most bytes of a value.
-pub const LONGEST_VALUE: usize = 1_048_576;
-
 /// The most bytes that a storage line announces.
 pub const MOST_BYTES: u64 = 2_147_483_647;
 
 /// The greatest flags, and the greatest level of verbosity.
 pub const MOST_FLAGS: u64 = 4_294_967_295;
-
-/// The greatest unique number, and the most that is added or taken away.
-pub const MOST_NUMBER: u64 = 18_446_744_073_709_551_615;

@@ -8,12 +8,10 @@ use crate::fault::LineFault;
 use crate::fetch::{fetch_line, fetch_touch_line};
 use crate::head::Head;
 use crate::keys::key_of;
-use crate::limits::{MOST_FLAGS, MOST_NUMBER};
-use crate::request::Request;
+use crate::limits::MOST_FLAGS;
 use crate::storage::storage_line;
-use crate::words::{
-    first_word, next_word, noreply as read_noreply, number, signed, without_return,
-};
+use crate::words::{first_word, next_word, noreply as read_noreply, signed, without_return};
+use geo_requests::{MOST_NUMBER, Request, number};
 use std::alloc::{AllocError, Global};
 
 /// What a command line says.

@@ -10,7 +10,7 @@ use crate::item::Item;
 use crate::line::{Line, read_line};
 use crate::split::{LineSplit, split_seen};
 use crate::state::State;
-use crate::value::{DataBlock, ValueBytes};
+use geo_requests::{DataBlock, ValueBytes};
 use std::alloc::{AllocError, Global};
 
 /// Whether a state is the front of a line.

@@ -4,7 +4,7 @@ ghost use Rattle.geo_grammar.specs.declared.state.State.TheVariants.{Skip};
 
 use crate::fault::BlockFault;
 use crate::head::Head;
-use crate::value::DataBlock;
+use geo_requests::DataBlock;
 
 /// Where a reader stands between two pieces.
 #[derive(Drop)]

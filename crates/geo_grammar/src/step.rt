@@ -13,7 +13,7 @@ use crate::line::{Line, read_line};
 use crate::lines::read_lines;
 use crate::split::{LineSplit, split_line, split_seen};
 use crate::state::State;
-use crate::value::DataBlock;
+use geo_requests::DataBlock;
 use std::alloc::{AllocError, Global};
 
 /// What a part of a piece does: an item or none, the state behind it, and the rest of the piece.

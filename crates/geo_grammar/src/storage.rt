@@ -8,12 +8,10 @@ ghost use Rattle.geo_grammar.specs.Commands.{ending_of, storage_head, storage_li
 use crate::fault::LineFault;
 use crate::head::Head;
 use crate::keys::key_of;
-use crate::limits::{LONGEST_VALUE, MOST_BYTES, MOST_FLAGS, MOST_NUMBER};
+use crate::limits::{MOST_BYTES, MOST_FLAGS};
 use crate::line::Line;
-use crate::request::Verb;
-use crate::words::{
-    Word, first_word, next_word, noreply as read_noreply, number, signed as read_signed,
-};
+use crate::words::{Word, first_word, next_word, noreply as read_noreply, signed as read_signed};
+use geo_requests::{LONGEST_VALUE, MOST_NUMBER, Verb, number};
 use std::alloc::{AllocError, Global};
 
 /// What stands behind the size of the data.

@@ -3,11 +3,10 @@ ghost use Rattle.std.specs.Prelude.{◌≡◌, ◌≢◌, ◌++◌, ◌<◌, ◌
 ghost use Rattle.std.specs.Io.{StartsWith};
 ghost use Rattle.geo_grammar.specs.Replies.{IsMuch, ShowsMuch, reply_bytes};
 ghost use Rattle.geo_grammar.specs.Tellings.{bytes_left, value_left};
-ghost use Rattle.geo_grammar.specs.declared.reply.Reply.TheVariants.{Closed, Values};
+ghost use Rattle.geo_requests.specs.declared.reply.Reply.TheVariants.{Closed, Values};
 
-use crate::reply::{Found, Reply};
-use crate::shared::Shared;
 use crate::texts::{push_found, push_line, push_reply};
+use geo_requests::{Found, Reply, Shared};
 use std::alloc::AllocError;
 use std::marker::Model;
 

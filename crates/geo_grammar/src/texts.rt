@@ -2,12 +2,11 @@
 ghost use Rattle.std.specs.Prelude.{◌≡◌, ◌≢◌, ◌++◌, false, List, codes, decimal, length, IfOk, OnOk, OnErr};
 ghost use Rattle.std.specs.List.{flat_map};
 ghost use Rattle.std.specs.Io.{StartsWith};
-ghost use Rattle.geo_grammar.specs.Replies.{answer_bytes, is_noreply, reply_bytes, found_bytes, found_line, unique_bytes, stat_bytes, stats_bytes};
-ghost use Rattle.geo_grammar.specs.declared.reply.Reply.TheVariants.{Closed};
+ghost use Rattle.geo_requests.specs.Requests.{is_noreply};
+ghost use Rattle.geo_grammar.specs.Replies.{answer_bytes, reply_bytes, found_bytes, found_line, unique_bytes, stat_bytes, stats_bytes};
+ghost use Rattle.geo_requests.specs.declared.reply.Reply.TheVariants.{Closed};
 
-use crate::reply::{Found, Reply};
-use crate::request::Request;
-use crate::stats::Stats;
+use geo_requests::{Found, Reply, Request, Stats};
 use itoa::Buffer;
 use std::alloc::{AllocError, Global};
 

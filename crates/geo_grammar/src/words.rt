@@ -2,10 +2,11 @@
 ghost use Rattle.std.specs.Prelude.{◌≡◌, ◌≢◌, ℕ, ◌∷◌, [], ◌<◌, ◌≤◌, length, slice_index, MatchOption, IfSome};
 ghost use Rattle.std.specs.List.{list_all, prefix_len};
 ghost use Rattle.geo_records.specs.Keys.{is_key_byte};
-ghost use Rattle.geo_grammar.specs.Words.{words_of, number_of, signed_of, line_text};
+ghost use Rattle.geo_grammar.specs.Words.{words_of, signed_of, line_text};
 ghost use Rattle.geo_grammar.specs.Commands.{noreply_of};
 
 use crate::runs::key_run;
+use geo_requests::number;
 
 /// The first word of a line, and what follows it.
 #[derive(Clone, Copy)]
@@ -86,34 +87,6 @@ pub fn next_word(line: &[u8]) -> Option<(&[u8], &[u8])>
         return None;
     };
     Some((bytes, rest))
-}
-
-/// The number that a word of decimal digits writes, None where it is none or above `most`.
-pub fn number(word: &[u8], most: u64) -> Option<u64>
-    ensures value { result ≡ number_of most word.now }
-    ensures within { IfSome result (λ n. n ≤ most) }
-{
-    if word.is_empty() {
-        return None;
-    }
-    let mut value: u64 = 0;
-    for byte in word {
-        if !byte.is_ascii_digit() {
-            return None;
-        }
-        let digit = (*byte - b'0') as u64;
-        let Some(tens) = value.checked_mul(10) else {
-            return None;
-        };
-        let Some(next) = tens.checked_add(digit) else {
-            return None;
-        };
-        if next > most {
-            return None;
-        }
-        value = next;
-    }
-    Some(value)
 }
 
 /// The number from -2^63 to 2^63 - 1 that a word of decimal digits writes, which may begin with a minus.

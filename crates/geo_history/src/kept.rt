@@ -9,7 +9,7 @@ use crate::parts::Parts;
 use crate::step::Step;
 use geo_chunks::Chunks;
 use geo_delta::Parcel;
-use geo_grammar::{Reply, Request, ValueBytes};
+use geo_requests::{Reply, Request, ValueBytes};
 use geo_site::{
     BoxedParcel, Filled, ReapError, Refused, RetireError, SendError, Setup, SetupError, Site,
     SiteState, TakeError, Taken,

@@ -9,8 +9,8 @@ use crate::history::{History, Opening};
 use crate::log::Log;
 use crate::step::Step;
 use geo_delta::Parcel;
-use geo_grammar::{Reply, Request, ValueBytes};
 use geo_lattice::Twin;
+use geo_requests::{Reply, Request, ValueBytes};
 use geo_site::{
     Acted, Answer, BoxedParcel, Event, Filled, ReapError, Refused, RetireError, SendError, Setup,
     Site, TakeError, Taken,

@@ -5,7 +5,7 @@ ghost use Rattle.geo_history.specs.Sizes.{answer_bytes, capped, event_bytes, fou
 
 use crate::step::Step;
 use geo_delta::Parcel;
-use geo_grammar::{Found, Reply, Request};
+use geo_requests::{Found, Reply, Request};
 use geo_site::{Answer, Event};
 use geo_versions::{Key, Rec};
 

@@ -1,7 +1,7 @@
 -- A request about one key: the key, and what is asked of it.
 use Rattle.std.specs.Prelude.{ℕ, Bool, List, [], ◌∷◌}
-use Rattle.geo_grammar.specs.declared.request.Request.{Request}
-use Rattle.geo_grammar.specs.declared.request.Request.TheVariants as request
+use Rattle.geo_requests.specs.declared.request.Request.{Request}
+use Rattle.geo_requests.specs.declared.request.Request.TheVariants as request
 use Rattle.geo_memcache.specs.declared.ask.Ask.{Ask}
 use Rattle.geo_memcache.specs.declared.ask.Ask.TheVariants.{Store, Fetch, FetchTouch, Delete, Touch, Arith}
 

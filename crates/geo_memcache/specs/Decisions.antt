@@ -1,11 +1,11 @@
 -- Plain memcached on one entry: what it answers, and what becomes of the entry (memcached's protocol.txt, by command).
 use Rattle.std.specs.Prelude.{ℕ, ℤ, ◌+◌, ◌-◌, ◌%◌, ◌^◌, Bool, true, false, cond, ◌==◌, nat_lt, nat_le, List, ◌++◌, length, decimal, Option, None, Some, if◌then◌else◌}
-use Rattle.geo_grammar.specs.Limits.{longest_value, most_number}
-use Rattle.geo_grammar.specs.Words.{number_of}
-use Rattle.geo_grammar.specs.declared.request.Verb.{Verb}
-use Rattle.geo_grammar.specs.declared.request.Verb.TheVariants.{Set, Add, Replace, Append, Prepend, Cas}
-use Rattle.geo_grammar.specs.declared.reply.Reply.{Reply}
-use Rattle.geo_grammar.specs.declared.reply.Reply.TheVariants.{Stored, NotStored, Exists, NotFound, Deleted, Touched, Number, NotANumber, TooLarge}
+use Rattle.geo_requests.specs.Limits.{longest_value, most_number}
+use Rattle.geo_requests.specs.Numbers.{number_of}
+use Rattle.geo_requests.specs.declared.request.Verb.{Verb}
+use Rattle.geo_requests.specs.declared.request.Verb.TheVariants.{Set, Add, Replace, Append, Prepend, Cas}
+use Rattle.geo_requests.specs.declared.reply.Reply.{Reply}
+use Rattle.geo_requests.specs.declared.reply.Reply.TheVariants.{Stored, NotStored, Exists, NotFound, Deleted, Touched, Number, NotANumber, TooLarge}
 use Rattle.geo_memcache.specs.Entries.{Entry, expiry_at}
 use Rattle.geo_memcache.specs.declared.ask.Ask.{Ask}
 use Rattle.geo_memcache.specs.declared.ask.Ask.TheVariants as ask

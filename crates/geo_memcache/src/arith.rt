@@ -5,7 +5,7 @@ ghost use Rattle.geo_memcache.specs.Decisions.{becomes, counted, counts, decisio
 
 use crate::decision::{Answer, Decision, Effect};
 use crate::entry::Entry;
-use geo_grammar::{MOST_NUMBER, Reply, ValueBytes, number};
+use geo_requests::{MOST_NUMBER, Reply, ValueBytes, number};
 use itoa::Buffer;
 use std::alloc::{AllocError, Global};
 

@@ -1,11 +1,10 @@
 //! One key's part of a request.
 ghost use Rattle.std.specs.Prelude.{◌≡◌, is_some, IfSome};
-ghost use Rattle.geo_grammar.specs.Replies.{is_noreply};
-ghost use Rattle.geo_grammar.specs.Requests.{is_of_one_key};
+ghost use Rattle.geo_requests.specs.Requests.{is_noreply, is_of_one_key};
 ghost use Rattle.geo_memcache.specs.Asks.{request_of};
 
-use geo_grammar::{Request, ValueBytes, Verb};
-use geo_versions::Key;
+use geo_records::Key;
+use geo_requests::{Request, ValueBytes, Verb};
 
 /// What a request asks of one key.
 #[derive(Clone, Copy)]

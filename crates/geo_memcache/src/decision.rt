@@ -3,7 +3,7 @@ ghost use Rattle.std.specs.Prelude.{◌≡◌};
 ghost use Rattle.geo_memcache.specs.Decisions.{decision_of};
 ghost use Rattle.geo_memcache.specs.declared.decision.Effect.TheVariants as effect;
 
-use geo_grammar::{Reply, ValueBytes};
+use geo_requests::{Reply, ValueBytes};
 
 /// What is answered for one key.
 #[derive(Drop)]

@@ -1,14 +1,14 @@
 //! The storage commands, for one key.
 ghost use Rattle.std.specs.Prelude.{◌≡◌, ◌≤◌, ◌^◌, ◌++◌, true, IfOk, IfErr};
-ghost use Rattle.geo_grammar.specs.declared.request.Verb.TheVariants as verb;
-ghost use Rattle.geo_grammar.specs.declared.reply.Reply.TheVariants as reply;
+ghost use Rattle.geo_requests.specs.declared.request.Verb.TheVariants as verb;
+ghost use Rattle.geo_requests.specs.declared.reply.Reply.TheVariants as reply;
 ghost use Rattle.geo_memcache.specs.Entries.{entry_of, present_of};
 ghost use Rattle.geo_memcache.specs.Decisions.{decision_of, is_made, keeps, makes, stores};
 
 use crate::decision::{Answer, Decision, Effect};
 use crate::entry::Entry;
 use crate::expiry::expiry_of;
-use geo_grammar::{LONGEST_VALUE, Reply, ValueBytes, Verb};
+use geo_requests::{LONGEST_VALUE, Reply, ValueBytes, Verb};
 use std::alloc::{AllocError, Global};
 
 /// The bytes of the request become the value.

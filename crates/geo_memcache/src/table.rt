@@ -10,7 +10,7 @@ use crate::decision::{Answer, Decision, Effect};
 use crate::entry::Entry;
 use crate::expiry::expiry_of;
 use crate::storage::store;
-use geo_grammar::Reply;
+use geo_requests::Reply;
 use std::alloc::{AllocError, Global};
 
 /// A delete leaves a tombstone even where there is nothing to delete.

@@ -3,9 +3,10 @@ use geo_delta::Parcel;
 use geo_equal::Equal;
 use geo_fixtures::opened;
 use geo_frame::{EncodeFault, FrameFault, Message, decode, encode, fits};
-use geo_grammar::{Request, ValueBytes, Verb, push_reply};
+use geo_grammar::push_reply;
 use geo_history::Kept;
 use geo_lattice::Twin;
+use geo_requests::{Request, ValueBytes, Verb};
 use geo_scenes::shown::{
     name_of_take, push_number, push_parcel, push_state, push_steps, push_versions,
 };

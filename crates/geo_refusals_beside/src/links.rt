@@ -2,9 +2,9 @@
 use geo_delta::Parcel;
 use geo_fixtures::setup_of;
 use geo_frame::{Message, fits};
-use geo_grammar::Reply;
 use geo_lattice::Twin;
 use geo_link::{Link, LinkError, MemoryLink, StreamLink, memory_link};
+use geo_requests::Reply;
 use geo_scenes::shown::push_parcel;
 use geo_scenes::texts::{request, word};
 use geo_scenes::{Fused, Scene, Stop};

@@ -4,7 +4,8 @@ ghost use Rattle.geo_world.specs.There.{is_in_time};
 
 use geo_delta::Parcel;
 use geo_fixtures::setup_of;
-use geo_grammar::{Reply, ValueBytes, push_reply};
+use geo_grammar::push_reply;
+use geo_requests::{Reply, ValueBytes};
 use geo_scenes::shown::{name_of_fill, name_of_take, push_parcel, push_state, push_versions};
 use geo_scenes::texts::{key, request, word};
 use geo_scenes::{Scene, Stop};

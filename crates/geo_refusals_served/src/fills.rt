@@ -1,8 +1,8 @@
 //! Fills of what a station's site lacks: by the hand of a seat, and by fetches from a second site.
 use geo_frame::Message;
 use geo_gossip::{Peer, fetch};
-use geo_grammar::ValueBytes;
 use geo_link::{Link, LinkError};
+use geo_requests::ValueBytes;
 use geo_scenes::Stop;
 use geo_scenes::texts::word;
 use geo_site::{Filled, Site};

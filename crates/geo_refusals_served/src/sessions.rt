@@ -1,6 +1,6 @@
 //! Sessions, and what stands of requests whose answers were lost.
 use geo_fixtures::setup_of;
-use geo_grammar::{Reply, Request};
+use geo_requests::{Reply, Request};
 use geo_scenes::shown::push_state;
 use geo_scenes::{Fused, Scene, Stop};
 use geo_session::{Backend, Bare, OpenGate, Session, SessionEnd, SessionFault, serve};

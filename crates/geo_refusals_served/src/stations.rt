@@ -7,9 +7,10 @@ use crate::rows::Rows;
 use geo_delta::Parcel;
 use geo_equal::Equal;
 use geo_fixtures::{opened, setup_of};
-use geo_grammar::{Reply, push_reply};
+use geo_grammar::push_reply;
 use geo_history::{History, Kept};
 use geo_lattice::Twin;
+use geo_requests::Reply;
 use geo_scenes::shown::{
     name_of_take, push_answer, push_each_step, push_event, push_number, push_parcel, push_state,
 };

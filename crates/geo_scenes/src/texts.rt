@@ -1,6 +1,7 @@
 //! Requests, keys and numbers out of texts and into them.
 use crate::scene::Stop;
-use geo_grammar::{Item, Reader, Request};
+use geo_grammar::{Item, Reader};
+use geo_requests::Request;
 use geo_versions::Key;
 use std::alloc::{AllocError, Global};
 

@@ -1,2 +1,1 @@
-pub mod Roads
 pub mod Moments

@@ -1,7 +1,7 @@
 //! Letting clients in.
 use crate::mailbox::{Mailbox, least};
 use crate::registrar::Registrar;
-use crate::site::{Door, Shared};
+use crate::site::{Course, Door};
 use geo_station::Room;
 use std::alloc::Global;
 use std::net::{OpenListener, TcpListener, TcpStream};
@@ -52,7 +52,7 @@ impl Door for Entrance {
         self,
         rt: &R,
         _alloc: Global,
-        _shared: &Shared<'_, G>,
+        _course: &Course<'_, G>,
         _registrar: &mut Registrar<'_, L>,
         mailboxes: &[Mailbox],
     ) {

@@ -2,22 +2,18 @@
 ghost use Rattle.std.specs.Prelude.{◌≤◌, length};
 ghost use Rattle.geo_config.specs.Lawful.{IsLawful};
 
+use crate::adding::add;
 use crate::attended::{Attended, Watch};
 use crate::cluster::{audited, listen, opened, total};
-use crate::fault::{ClusterFault, add};
 use crate::operator::Operator;
-use crate::outbound::{Outbound, Route};
-use crate::porter::{Apart, Porter, Visit};
-use crate::putting::Way;
 use crate::report::{SKIPPED, report, verdict_word};
-use crate::site::{Crew, Ended, Job, Shared, made_posts, run_site};
+use crate::site::{Course, Crew, Job, Summary, made_posts, run_site};
 use crate::start::Start;
-use crate::tcp::Getting;
-use crate::telling::tell;
 use geo_config::{ApartConfig, Config, SiteConfig};
 use geo_gossip::Peer;
 use geo_grammar::Device;
 use geo_session::Gate;
+use geo_wires::{Apart, ClusterFault, Getting, Outbound, Porter, Route, Visit, Way, tell};
 use std::alloc::Global;
 use std::io::{Read, Write};
 use std::net::{Net, TcpListener, TcpStream};
@@ -125,7 +121,7 @@ fn crew_of<'a, R: Net<Stream = TcpStream, Listener = TcpListener> + Clock + Epri
 fn word_of(
     alloc: Global,
     config: &Config,
-    ended: Vec<Ended>,
+    ended: Vec<Summary>,
 ) -> Result<&'static str, ClusterFault> {
     let told = ended.iter().all(|site| site.history.is_some());
     if config.audit && !told {
@@ -187,12 +183,12 @@ fn run<
     gate: &G,
     operator: Operator<I>,
     writer: &mut Device<W>,
-) -> Result<Ended, ClusterFault>
+) -> Result<Summary, ClusterFault>
     requires { IsLawful config.now.config }
 {
     let ApartConfig { config, sessions } = config;
     let stop = AtomicU64::new(0);
-    let shared = Shared {
+    let course = Course {
         gate,
         start: Start::new(threads_of(config, site)),
         working: AtomicU64::new(site.workers as u64),
@@ -218,7 +214,7 @@ fn run<
         posts,
         door,
     };
-    run_site(rt, alloc, &shared, job)
+    run_site(rt, alloc, &course, job)
 }
 
 /// Runs one site of a configuration, by its number: it listens for clients and for the other sites, which run elsewhere, and tells each of

@@ -1,14 +1,13 @@
 //! Letting clients in at a site that an operator may stop.
-use crate::keepalive::keep_alive;
 use crate::mailbox::{Mailbox, least};
 use crate::operator::{OPERATOR, Operator, Order};
-use crate::porter::watched;
 use crate::registrar::Registrar;
 use crate::report::write_all;
-use crate::site::{Door, Shared};
-use crate::telling::tell;
+use crate::site::{Course, Door};
 use geo_grammar::Device;
+use geo_socket::keep_alive;
 use geo_station::Room;
+use geo_wires::{ClusterFault, tell, watched};
 use mio::net::TcpListener as Listener;
 use mio::{Events, Poll};
 use std::alloc::Global;
@@ -84,10 +83,10 @@ impl<'a, N: Net + Clock + Eprint, I: Read + Drop, W: Write + Drop> Attended<'a, 
         watch: Watch,
         operator: Operator<I>,
         writer: &'a mut Device<W>,
-    ) -> Result<Attended<'a, N, I, W>, crate::fault::ClusterFault> {
+    ) -> Result<Attended<'a, N, I, W>, ClusterFault> {
         let (listener, poll) = match watched(net, &port) {
             Ok(watched) => watched,
-            Err(error) => return Err(crate::fault::ClusterFault::of_socket(&error)),
+            Err(error) => return Err(ClusterFault::of_socket(&error)),
         };
         let Watch {
             site,
@@ -197,23 +196,23 @@ impl<'a, N: Net + Clock + Eprint, I: Read + Drop, W: Write + Drop> Attended<'a, 
         &mut self,
         rt: &R,
         alloc: Global,
-        shared: &Shared<'_, G>,
+        course: &Course<'_, G>,
         mailboxes: &[Mailbox],
     ) {
         let site = self.site;
         tell(self.net, format!(in alloc; "site {site} stops\n"));
         let _came = self.lets_in(rt, mailboxes, LAST_TURNS);
-        shared.closes();
+        course.closes();
         self.shuts(rt, mailboxes);
         let since = Instant::now(rt).ok();
         for _look in rt.forever() {
-            if shared.stops() {
+            if course.stops() {
                 return;
             }
             if is_over(rt, since, self.drain) {
-                shared.cuts_off();
+                course.cuts_off();
             }
-            shared.waits_for_the_end(rt, Duration::from_millis(PAUSE));
+            course.waits_for_the_end(rt, Duration::from_millis(PAUSE));
         }
     }
 }
@@ -234,7 +233,7 @@ impl<N: Net + Clock + Eprint, I: Read + Drop, W: Write + Drop> Door for Attended
         self,
         rt: &R,
         alloc: Global,
-        shared: &Shared<'_, G>,
+        course: &Course<'_, G>,
         registrar: &mut Registrar<'_, L>,
         mailboxes: &[Mailbox],
     ) {
@@ -244,11 +243,11 @@ impl<N: Net + Clock + Eprint, I: Read + Drop, W: Write + Drop> Door for Attended
         for _turn in rt.forever() {
             let came = door.lets_in(rt, mailboxes, TURNS);
             let is_told = door.waits(came);
-            if shared.stops() {
+            if course.stops() {
                 return;
             }
             if door.is_to_stop(rt, alloc, registrar, is_told) {
-                door.stops(rt, alloc, shared, mailboxes);
+                door.stops(rt, alloc, course, mailboxes);
                 return;
             }
         }

@@ -5,13 +5,11 @@ ghost use Rattle.geo_config.specs.Lawful.{IsLawful};
 ghost use Rattle.geo_history.specs.Stories.{is_logged, most_bytes_in, setup_in};
 
 use crate::accept::Entrance;
-use crate::fault::{ClusterFault, add};
-use crate::putting::Way;
+use crate::adding::add;
 use crate::report::{SKIPPED, report, verdict_word};
-use crate::site::{Crew, Ended, Fresh, Job, Shared, made_posts, run_site};
+use crate::site::{Course, Crew, Fresh, Job, Summary, made_posts, run_site};
 use crate::start::Start;
 use crate::threads::run_all;
-use crate::wires::{Memory, Tcp, Wires};
 use geo_audit::audit;
 use geo_config::{Config, LinkKind, SiteConfig};
 use geo_gossip::Peer;
@@ -19,6 +17,7 @@ use geo_grammar::Device;
 use geo_history::{History, Kept};
 use geo_session::Gate;
 use geo_site::Setup;
+use geo_wires::{ClusterFault, Memory, Tcp, Way, Wires};
 use std::alloc::{AllocError, Global};
 use std::hash::RandomState;
 use std::io::Write;
@@ -206,10 +205,10 @@ fn run_sites<
     rt: &R,
     alloc: Global,
     config: &Config,
-    shared: &Shared<'_, G>,
+    course: &Course<'_, G>,
     listeners: Vec<TcpListener>,
     wires: &W,
-) -> Result<Vec<Ended>, ClusterFault>
+) -> Result<Vec<Summary>, ClusterFault>
 where
     W::Put: Send,
     W::Get: Send,
@@ -220,11 +219,11 @@ where
     let ended = run_all(
         rt,
         alloc,
-        &shared.start,
-        shared.stop,
+        &course.start,
+        course.stop,
         jobs,
-        &|job: Job<W::Put, W::Get, Entrance>| -> Result<Ended, ClusterFault> {
-            run_site(rt, alloc, shared, job)
+        &|job: Job<W::Put, W::Get, Entrance>| -> Result<Summary, ClusterFault> {
+            run_site(rt, alloc, course, job)
         },
         || {},
     )?;
@@ -245,11 +244,11 @@ fn run<
         + Eprint
         + Sync,
     G: Gate,
->(rt: &R, alloc: Global, config: &Config, gate: &G) -> Result<Vec<Ended>, ClusterFault>
+>(rt: &R, alloc: Global, config: &Config, gate: &G) -> Result<Vec<Summary>, ClusterFault>
     requires { IsLawful config.now }
 {
     let stop = AtomicU64::new(0);
-    let shared = Shared {
+    let course = Course {
         gate,
         start: Start::new(threads_of(config)),
         working: AtomicU64::new(workers_of(config)),
@@ -268,7 +267,7 @@ fn run<
         }
     }
     match config.link {
-        LinkKind::Memory => run_sites(rt, alloc, config, &shared, clients, &Memory),
+        LinkKind::Memory => run_sites(rt, alloc, config, &course, clients, &Memory),
         LinkKind::Tcp => {
             let wires = Tcp {
                 net: rt,
@@ -276,13 +275,13 @@ fn run<
                 stop: &stop,
                 patience: Duration::from_millis(config.patience),
             };
-            run_sites(rt, alloc, config, &shared, clients, &wires)
+            run_sites(rt, alloc, config, &course, clients, &wires)
         }
     }
 }
 
 /// The sums over all sites, in the counters' order.
-pub(crate) fn total(ended: &[Ended]) -> [u64; 5] {
+pub(crate) fn total(ended: &[Summary]) -> [u64; 5] {
     let mut all = [0u64; 5];
     for site in ended {
         for (sum, more) in all.iter_mut().zip(site.sums) {
@@ -293,7 +292,7 @@ pub(crate) fn total(ended: &[Ended]) -> [u64; 5] {
 }
 
 /// The histories of all sites, or none where one site's seats tell another story.
-fn histories(alloc: Global, ended: Vec<Ended>) -> Result<Option<Vec<History>>, AllocError> {
+fn histories(alloc: Global, ended: Vec<Summary>) -> Result<Option<Vec<History>>, AllocError> {
     let mut all = Vec::new(alloc);
     for site in ended {
         let Some(history) = site.history else {
@@ -320,7 +319,7 @@ fn are_in_order(histories: &[History]) -> bool
 pub(crate) fn audited(
     alloc: Global,
     config: &Config,
-    ended: Vec<Ended>,
+    ended: Vec<Summary>,
 ) -> Result<&'static str, ClusterFault> {
     if !config.audit {
         return Ok(SKIPPED);

@@ -6,9 +6,9 @@ ghost use Rattle.geo_session.specs.Seats.{AnswersCounted, RefusesCounted, asker}
 ghost use Rattle.geo_station.specs.declared.refusal.SeatSpent.{SeatSpent};
 
 use crate::clock::SystemClock;
-use geo_grammar::{Reply, Request};
+use geo_requests::{Reply, Request};
 use geo_session::{Backend, Counted};
-use geo_station::{Room, Seat, Station};
+use geo_station::{Hold, Room, Seat, Station};
 use geo_tally::{Counter, Tally, TallySeat};
 use std::alloc::Global;
 use std::marker::{Brand, PhantomData};
@@ -82,11 +82,12 @@ impl<L: Room, N: Named> Rested<L, N> {
     }
 }
 
-/// Asks by a seat at a station. Its seat of a tally stays one of that tally.
-fn asked<R: Wait + rt::Clock, L: Room>(
+/// Asks by a seat at a station, which may be held then. Its seat of a tally stays one of that tally.
+fn asked<'a, R: Wait + rt::Clock, L: Room>(
     rt: &R,
     alloc: Global,
-    counted: &mut Counted<'_, L, SystemClock>,
+    counted: &mut Counted<'a, L, SystemClock>,
+    hold: &mut Hold<'a, L>,
     request: Request,
 ) -> Option<Reply>
     ensures some { IfSome result (λ reply. AnswersCounted IsMoment
@@ -95,7 +96,7 @@ fn asked<R: Wait + rt::Clock, L: Room>(
         (asker counted.old.seat counted.old.last counted.old.counts) (asker counted.new.seat counted.new.last counted.new.counts) request spent) }
     ensures tally { counted.new.counts.tally ≡ counted.old.counts.tally }
 {
-    counted.act(rt, alloc, request)
+    counted.act_by(rt, alloc, hold, request)
 }
 
 /// Adds one to a counter. The seat of a tally stays one of that tally.
@@ -105,7 +106,7 @@ fn add_one<L: Room>(counted: &mut Counted<'_, L, SystemClock>, counter: Counter)
     counted.count(counter);
 }
 
-/// A worker's backend, whose seat of a tally stays one of the site's.
+/// Who asks for a worker, and whose seat of a tally stays one of the site's.
 #[derive(Drop)]
 pub(crate) struct Clerk<'a, L: Room, N: Named> {
     counted: Counted<'a, L, SystemClock>,
@@ -143,16 +144,45 @@ impl<'a, L: Room, N: Named> Clerk<'a, L, N> {
     }
 }
 
-impl<L: Room, N: Named> Backend for Clerk<'_, L, N> {
+/// A worker's backend: its clerk, and how it holds the station. A hold stays in its thread.
+#[derive(Drop)]
+pub(crate) struct Holder<'a, L: Room, N: Named> {
+    clerk: Clerk<'a, L, N>,
+    hold: Hold<'a, L>,
+}
+
+impl<'a, L: Room, N: Named> Holder<'a, L, N> {
+    pub(crate) fn new(clerk: Clerk<'a, L, N>) -> Holder<'a, L, N> {
+        Holder {
+            clerk,
+            hold: Hold::none(),
+        }
+    }
+
+    /// Adds one to a counter.
+    pub(crate) fn count(&mut self, counter: Counter) {
+        self.clerk.count(counter);
+    }
+
+    /// Both seats, as the sessions have left them.
+    pub(crate) fn into_rested(self) -> Rested<L, N> {
+        let Holder { clerk, .. } = self;
+        clerk.into_rested()
+    }
+}
+
+impl<L: Room, N: Named> Backend for Holder<'_, L, N> {
     ghost use Rattle.geo_station.specs.declared.refusal.SeatSpent.{SeatSpent};
     ghost use Rattle.geo_session.specs.Seats.{AnswersCounted, RefusesCounted, asker};
     ghost use Rattle.geo_server.specs.Moments.{IsMoment};
 
-    ghost answers = { λ old request reply new. AnswersCounted IsMoment (asker old.counted.seat old.counted.last old.counted.counts)
-        (asker new.counted.seat new.counted.last new.counted.counts) request reply };
+    ghost answers = { λ old request reply new. AnswersCounted IsMoment
+        (asker old.clerk.counted.seat old.clerk.counted.last old.clerk.counted.counts)
+        (asker new.clerk.counted.seat new.clerk.counted.last new.clerk.counted.counts) request reply };
 
     ghost refuses = { λ old request new. (spent : SeatSpent) × RefusesCounted IsMoment
-        (asker old.counted.seat old.counted.last old.counted.counts) (asker new.counted.seat new.counted.last new.counted.counts) request spent };
+        (asker old.clerk.counted.seat old.clerk.counted.last old.clerk.counted.counts)
+        (asker new.clerk.counted.seat new.clerk.counted.last new.clerk.counted.counts) request spent };
 
     fn act<R: Wait + rt::Clock>(
         &mut self,
@@ -160,6 +190,22 @@ impl<L: Room, N: Named> Backend for Clerk<'_, L, N> {
         alloc: Global,
         request: Request,
     ) -> Option<Reply> {
-        asked(rt, alloc, &mut self.counted, request)
+        let reply = self.act_on(rt, alloc, request);
+        self.rest();
+        reply
+    }
+
+    fn act_on<R: Wait + rt::Clock>(
+        &mut self,
+        rt: &R,
+        alloc: Global,
+        request: Request,
+    ) -> Option<Reply> {
+        let Holder { clerk, hold } = self;
+        asked(rt, alloc, &mut clerk.counted, hold, request)
+    }
+
+    fn rest(&mut self) {
+        self.hold.rest();
     }
 }

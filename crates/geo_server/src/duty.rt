@@ -1,11 +1,9 @@
 //! What each thread of a site does.
 ghost use Rattle.std.specs.Prelude.{◌≡◌};
 
-use crate::answering::Answering;
 use crate::clock::SystemClock;
-use crate::counting::{Clerk, Counting, Named, Rested};
-use crate::lead::Lead;
-use crate::site::Shared;
+use crate::counting::{Clerk, Counting, Holder, Named, Rested};
+use crate::site::Course;
 use crate::worker::Worker;
 use geo_crowd::Passed;
 use geo_gossip::{Peer, fetch, receive, round};
@@ -14,6 +12,7 @@ use geo_session::Gate;
 use geo_session::clock::Clock;
 use geo_station::{Room, Seat, Station};
 use geo_tally::{Counter, TallySeat};
+use geo_wires::{Answering, Lead};
 use std::alloc::Global;
 use std::rt;
 use std::sync::Wait;
@@ -33,7 +32,7 @@ pub(crate) enum Duty<'a, L: Room, N: Named, P: Lead + Drop, Q: Link + Drop> {
 }
 
 /// Counts sessions that ended.
-fn count_sessions<L: Room, N: Named>(backend: &mut Clerk<'_, L, N>, passed: Passed) {
+fn count_sessions<L: Room, N: Named>(backend: &mut Holder<'_, L, N>, passed: Passed) {
     for _session in 0..passed.ended {
         backend.count(Counter::Sessions);
     }
@@ -46,18 +45,19 @@ fn count_sessions<L: Room, N: Named>(backend: &mut Clerk<'_, L, N>, passed: Pass
 fn serve_clients<R: Wait + rt::Clock, L: Room, N: Named, G: Gate>(
     rt: &R,
     alloc: Global,
-    shared: &Shared<'_, G>,
-    mut backend: Clerk<'_, L, N>,
+    course: &Course<'_, G>,
+    clerk: Clerk<'_, L, N>,
     mut worker: Worker<'_>,
 ) -> Rested<L, N> {
-    if !shared.comes(rt) {
-        return backend.into_rested();
+    if !course.comes(rt) {
+        return clerk.into_rested();
     }
+    let mut backend = Holder::new(clerk);
     for _ in rt.forever() {
-        let passed = worker.turn(rt, alloc, &mut backend, shared.gate);
+        let passed = worker.turn(rt, alloc, &mut backend, course.gate);
         count_sessions(&mut backend, passed);
         if worker.is_done() {
-            shared.worker_ends();
+            course.worker_ends();
             return backend.into_rested();
         }
     }
@@ -86,13 +86,13 @@ fn rest_of<K: Lead>(peers: &[Peer<K>], every: Duration) -> Duration {
 fn go_round<R: Wait + rt::Clock, L: Room, K: Lead, G: Gate>(
     rt: &R,
     alloc: Global,
-    shared: &Shared<'_, G>,
+    course: &Course<'_, G>,
     station: &Station<L>,
     seat: &mut Seat<L>,
     peers: &mut [Peer<K>],
 ) {
     let _ = round(rt, alloc, station, seat, peers);
-    if shared.fills {
+    if course.fills {
         let now = SystemClock.now(rt);
         let _filled = fetch(rt, alloc, station, seat, now, peers);
     }
@@ -124,21 +124,21 @@ fn go_round_at_last<R: Wait, L: Room, K: Lead>(
 fn gossip<R: Wait + rt::Clock, L: Room, N: Named, K: Lead + Drop, G: Gate>(
     rt: &R,
     alloc: Global,
-    shared: &Shared<'_, G>,
+    course: &Course<'_, G>,
     station: &Station<L>,
     mut seat: Seat<L>,
     mut counting: Counting<'_, N>,
     mut peers: Vec<Peer<K>>,
 ) -> Rested<L, N> {
-    if !shared.comes(rt) {
+    if !course.comes(rt) {
         return counting.into_rested(seat);
     }
     for _ in rt.forever() {
         if is_any_ready(rt, alloc, peers.as_mut_slice()) {
-            go_round(rt, alloc, shared, station, &mut seat, peers.as_mut_slice());
+            go_round(rt, alloc, course, station, &mut seat, peers.as_mut_slice());
             counting.count(Counter::Rounds);
         }
-        if shared.stops_within(rt, rest_of(peers.as_slice(), shared.every)) {
+        if course.stops_within(rt, rest_of(peers.as_slice(), course.every)) {
             if go_round_at_last(rt, alloc, station, &mut seat, peers.as_mut_slice()) {
                 counting.count(Counter::Rounds);
             }
@@ -152,17 +152,17 @@ fn gossip<R: Wait + rt::Clock, L: Room, N: Named, K: Lead + Drop, G: Gate>(
 fn maintain<R: Wait + rt::Clock, L: Room, G: Gate>(
     rt: &R,
     alloc: Global,
-    shared: &Shared<'_, G>,
+    course: &Course<'_, G>,
     station: &Station<L>,
     mut seat: Seat<L>,
 ) -> Seat<L> {
-    if !shared.comes(rt) {
+    if !course.comes(rt) {
         return seat;
     }
     for _ in rt.forever() {
         let _ = station.maintain(rt, alloc, &mut seat, SystemClock.now(rt));
-        let _ = station.renew(rt, alloc, shared.era);
-        if shared.stops_within(rt, shared.every) {
+        let _ = station.renew(rt, alloc, course.era);
+        if course.stops_within(rt, course.every) {
             return seat;
         }
     }
@@ -206,13 +206,13 @@ fn hear_all<R: Wait, L: Room, K: Link + Drop>(
 fn hear_out<R: Wait, L: Room, N: Named, K: Link + Drop, G: Gate>(
     rt: &R,
     alloc: Global,
-    shared: &Shared<'_, G>,
+    course: &Course<'_, G>,
     station: &Station<L>,
     mut seat: Seat<L>,
     counting: Counting<'_, N>,
     from: K,
 ) -> Rested<L, N> {
-    if !shared.comes(rt) {
+    if !course.comes(rt) {
         return counting.into_rested(seat);
     }
     let Counting {
@@ -231,19 +231,19 @@ impl<L: Room, N: Named, P: Lead + Drop, Q: Link + Drop> Duty<'_, L, N, P, Q> {
         self,
         rt: &R,
         alloc: Global,
-        shared: &Shared<'_, G>,
+        course: &Course<'_, G>,
         station: &Station<L>,
     ) -> Rested<L, N> {
         match self {
-            Duty::Serve(backend, worker) => serve_clients(rt, alloc, shared, backend, worker),
+            Duty::Serve(clerk, worker) => serve_clients(rt, alloc, course, clerk, worker),
             Duty::Gossip(seat, counting, peers) => gossip(
-                rt, alloc, shared, station, seat, counting, peers,
+                rt, alloc, course, station, seat, counting, peers,
             ),
             Duty::Maintain(seat, counting) => {
-                counting.into_rested(maintain(rt, alloc, shared, station, seat))
+                counting.into_rested(maintain(rt, alloc, course, station, seat))
             }
             Duty::Receive(seat, counting, from) => hear_out(
-                rt, alloc, shared, station, seat, counting, from,
+                rt, alloc, course, station, seat, counting, from,
             ),
         }
     }

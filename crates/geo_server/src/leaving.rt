@@ -1,5 +1,5 @@
 //! Connections that are over, whose clients may still send.
-use crate::socket::{Drained, Socket};
+use geo_socket::{Drained, Socket};
 use std::alloc::Global;
 use std::rt::Clock;
 use std::time::{Duration, Instant};

@@ -8,38 +8,25 @@
 #![tactic(auto)]
 
 mod accept;
-mod answering;
+mod adding;
 mod apart;
 mod attended;
 mod clock;
 mod cluster;
 mod counting;
 mod duty;
-mod fault;
-mod frames;
-mod guest;
-mod keepalive;
-mod lead;
 mod leaving;
 mod mailbox;
 mod operator;
-mod outbound;
-mod porter;
-mod putting;
 mod registrar;
 mod report;
-mod road;
 mod site;
-mod socket;
 mod start;
-mod tcp;
-mod telling;
 mod threads;
-mod wires;
 mod worker;
 
 pub use apart::run_apart;
 pub use clock::SystemClock;
 pub use cluster::run_cluster;
-pub use fault::ClusterFault;
+pub use geo_wires::ClusterFault;
 pub use operator::Operator;

@@ -1,7 +1,7 @@
 //! What is told when all has ended.
-use crate::fault::ClusterFault;
 use geo_audit::Verdict;
 use geo_grammar::Device;
+use geo_wires::ClusterFault;
 use std::alloc::Global;
 use std::io::Write;
 

@@ -4,10 +4,9 @@ ghost use Rattle.std.specs.List.{All};
 ghost use Rattle.geo_tally.specs.Counts.{all_together, in_order};
 ghost use Rattle.geo_history.specs.Stories.{IsNew};
 
+use crate::adding::add;
 use crate::counting::{Clerk, Counting, Named, Rested};
 use crate::duty::Duty;
-use crate::fault::{ClusterFault, add};
-use crate::lead::Lead;
 use crate::mailbox::Mailbox;
 use crate::registrar::Registrar;
 use crate::start::Start;
@@ -19,6 +18,7 @@ use geo_link::Link;
 use geo_session::Gate;
 use geo_station::{Room, Seat, Station, Unopened};
 use geo_tally::{Tally, TallySeat};
+use geo_wires::{ClusterFault, Lead};
 use mio::{Poll, Waker};
 use std::alloc::Global;
 use std::marker::{Brand, PhantomData};
@@ -31,7 +31,7 @@ use std::{io, rt};
 
 /// What the threads of all sites share.
 #[derive(Drop)]
-pub(crate) struct Shared<'a, G> {
+pub(crate) struct Course<'a, G> {
     /// What all sessions pass.
     pub(crate) gate: &'a G,
     /// By which all threads begin together.
@@ -50,7 +50,7 @@ pub(crate) struct Shared<'a, G> {
     pub(crate) fills: bool,
 }
 
-impl<G> Shared<'_, G> {
+impl<G> Course<'_, G> {
     /// A thread has come. Whether it is to begin, once all have.
     pub(crate) fn comes<R: Wait>(&self, rt: &R) -> bool {
         self.start.comes(rt, self.stop)
@@ -113,7 +113,7 @@ pub(crate) trait Door {
         self,
         rt: &R,
         alloc: Global,
-        shared: &Shared<'_, G>,
+        course: &Course<'_, G>,
         registrar: &mut Registrar<'_, L>,
         mailboxes: &[Mailbox],
     );
@@ -140,7 +140,7 @@ pub(crate) struct Crew<P, Q> {
 
 /// What is known of a site once its threads have ended.
 #[derive(Drop)]
-pub(crate) struct Ended {
+pub(crate) struct Summary {
     /// What was done at it; none where the seats tell another story.
     pub(crate) history: Option<History>,
     /// The sums of its tally, in the counters' order.
@@ -277,7 +277,7 @@ fn work<
 >(
     rt: &R,
     alloc: Global,
-    shared: &Shared<'_, G>,
+    course: &Course<'_, G>,
     station: &Station<L>,
     roles: Roles<'_, L, N, P, Q>,
     door: D,
@@ -292,13 +292,13 @@ fn work<
     let mut rested = run_all(
         rt,
         alloc,
-        &shared.start,
-        shared.stop,
+        &course.start,
+        course.stop,
         duties,
-        &|duty: Duty<'_, L, N, P, Q>| -> Rested<L, N> { duty.run(rt, alloc, shared, station) },
+        &|duty: Duty<'_, L, N, P, Q>| -> Rested<L, N> { duty.run(rt, alloc, course, station) },
         || {
-            if shared.comes(rt) {
-                door.attend(rt, alloc, shared, &mut registrar, mailboxes);
+            if course.comes(rt) {
+                door.attend(rt, alloc, course, &mut registrar, mailboxes);
             }
         },
     )?;
@@ -416,7 +416,7 @@ fn run_counted<
 >(
     rt: &R,
     alloc: Global,
-    shared: &Shared<'_, G>,
+    course: &Course<'_, G>,
     station: &Station<L>,
     tally: &Tally,
     counts: Vec<TallySeat>,
@@ -429,7 +429,7 @@ fn run_counted<
     let Plan { crew, posts, door } = job;
     let Crew { peers, froms, .. } = crew;
     let Posts { polls, mailboxes } = posts;
-    let workers = workers_of(alloc, polls, mailboxes.as_slice(), &shared.closing)?;
+    let workers = workers_of(alloc, polls, mailboxes.as_slice(), &course.closing)?;
     let given: Duties<'_, L, N, P, Q> = Duties {
         station,
         tally,
@@ -441,7 +441,7 @@ fn run_counted<
     let rested = work(
         rt,
         alloc,
-        shared,
+        course,
         station,
         roles,
         door,
@@ -469,11 +469,11 @@ fn run_named<
 >(
     rt: &R,
     alloc: Global,
-    shared: &Shared<'_, G>,
+    course: &Course<'_, G>,
     unopened: Unopened,
     seats: usize,
     job: Plan<P, Q, D>,
-) -> Result<Ended, ClusterFault>
+) -> Result<Summary, ClusterFault>
     requires name { unopened.name ≡ L.name }
     requires parts { unopened.parts ≡ L.parts }
     requires table { unopened.table ≡ L.table }
@@ -486,12 +486,12 @@ fn run_named<
         return Err(ClusterFault::Memory);
     };
     let left = run_counted::<R, L, Brand, P, Q, D, G>(
-        rt, alloc, shared, &station, &tally, counts, job,
+        rt, alloc, course, &station, &tally, counts, job,
     )?;
     let Left { seats, counts } = left;
     let sums = sums_of(tally, counts)?;
     let history = station.close(seats).ok();
-    Ok(Ended { history, sums })
+    Ok(Summary { history, sums })
 }
 
 /// Runs a site from its first client until the cluster stops. Where it can't be put together no site begins.
@@ -501,7 +501,12 @@ pub(crate) fn run_site<
     Q: Link + Send + Drop,
     D: Door + Drop,
     G: Gate,
->(rt: &R, alloc: Global, shared: &Shared<'_, G>, job: Job<P, Q, D>) -> Result<Ended, ClusterFault> {
+>(
+    rt: &R,
+    alloc: Global,
+    course: &Course<'_, G>,
+    job: Job<P, Q, D>,
+) -> Result<Summary, ClusterFault> {
     let seats = seats_of(&job);
     let Job {
         fresh,
@@ -513,12 +518,12 @@ pub(crate) fn run_site<
     let plan = Plan { crew, posts, door };
     let ended = match Unopened::new(alloc, kept, seats as u64) {
         Ok(unopened) => {
-            run_named::<R, Brand, P, Q, D, G>(rt, alloc, shared, unopened, seats, plan)
+            run_named::<R, Brand, P, Q, D, G>(rt, alloc, course, unopened, seats, plan)
         }
         Err(_) => Err(ClusterFault::Memory),
     };
     if ended.is_err() {
-        shared.abandon();
+        course.abandon();
     }
     ended
 }

@@ -1,6 +1,7 @@
 //! Threads that have all to be there before any of them begins.
-use crate::fault::{ClusterFault, add};
+use crate::adding::add;
 use crate::start::Start;
+use geo_wires::ClusterFault;
 use std::alloc::Global;
 use std::sync::Wait;
 use std::sync::atomic::AtomicU64;

@@ -1,9 +1,9 @@
 //! A thread that carries clients' connections.
 use crate::leaving::Leaving;
 use crate::mailbox::Mailbox;
-use crate::socket::Socket;
 use geo_crowd::{Carried, Crowd, Passed, Polling, Ready};
 use geo_session::{Backend, Gate};
+use geo_socket::Socket;
 use mio::{Events, Interest, Poll, Token};
 use std::alloc::{AllocError, Global};
 use std::net::TcpStream;

@@ -1,8 +1,8 @@
 //! What no clause says: that turns succeed where there is memory, how a connection stands after them, and that each gets its own.
-use geo_crowd::{Accepted, Carried, Crowd, Given, Passed, Ready, Standing, Stream};
-use geo_grammar::{Reply, Request};
+use geo_crowd::{Accepted, Carried, Crowd, Given, Passed, Polling, Ready, Standing, Stream};
+use geo_requests::{Reply, Request};
 use geo_session::{Backend, OpenGate, SessionEnd, SessionFault};
-use std::alloc::Global;
+use std::alloc::{AllocError, Global};
 use std::rt::Clock;
 use std::sync::Wait;
 use std::test::Fail;
@@ -250,5 +250,174 @@ fn an_end_that_is_told_with_the_last_bytes_is_read(rt: HostRuntime) -> Result<()
     let Passed { ended: early, .. } = crowd.pass(&rt, &mut Idle, &OpenGate);
     let Passed { ended, .. } = crowd.pass(&rt, &mut Idle, &OpenGate);
     assert_eq!(rt; (early, ended), (0, 1));
+    Ok(())
+}
+
+/// A connection that gives as much as a read has room for, after so many reads that give none, and takes all.
+#[derive(Drop)]
+struct Lines<'a> {
+    input: &'a [u8],
+    late: usize,
+}
+
+impl Stream for Lines<'_> {
+    ghost use Rattle.std.specs.Prelude.{Some, None};
+
+    ghost remaining = { λ s. Some s.input.now };
+
+    ghost contents = { λ _. None };
+
+    fn read(&mut self, buffer: &mut [u8]) -> Given {
+        if self.late > 0 {
+            self.late -= 1;
+            return Given::Later;
+        }
+        let count = self.input.len().min(buffer.len());
+        if count == 0 {
+            return Given::Later;
+        }
+        let (piece, rest) = self.input.split_at(count);
+        let (front, _) = buffer.split_at_mut(count);
+        front.copy_from_slice(piece);
+        self.input = rest;
+        Given::Bytes(count)
+    }
+
+    fn write(&mut self, bytes: &[u8]) -> Accepted {
+        if bytes.is_empty() {
+            return Accepted::Later;
+        }
+        Accepted::Bytes(bytes.len())
+    }
+}
+
+/// A backend that answers each request so, and notes the keys that gets ask for.
+#[derive(Drop)]
+struct Noting {
+    asked: Vec<u8>,
+}
+
+impl Backend for Noting {
+    ghost answers = { λ old request reply new. Unit {0} };
+
+    ghost refuses = { λ old request new. Unit {0} };
+
+    fn act<R: Wait + Clock>(&mut self, _rt: &R, _alloc: Global, request: Request) -> Option<Reply> {
+        if let Request::Fetch { keys, .. } = &request {
+            for key in keys.as_slice().iter() {
+                if self.asked.extend_from_slice(key.bytes()).is_err() {
+                    return None;
+                }
+            }
+        }
+        Some(Reply::Stored)
+    }
+}
+
+/// What tells of the same connections each time.
+#[derive(Drop)]
+struct Told {
+    ready: Vec<Ready>,
+}
+
+impl Polling for Told {
+    ghost told = { λ t. t.ready.items };
+
+    fn wait(&mut self, _at_once: bool) {}
+
+    fn ready(&self) -> &[Ready] {
+        self.ready.as_slice()
+    }
+}
+
+/// More lines than one read brings.
+const MANY: usize = 4000;
+
+/// The byte at a place, 0 where there is none.
+fn byte_at(bytes: &[u8], place: usize) -> u8 {
+    match bytes.get(place) {
+        Some(byte) => *byte,
+        None => 0,
+    }
+}
+
+/// So many lines that ask for a key of one letter.
+fn lines_of(alloc: Global, line: &[u8]) -> Result<Vec<u8>, AllocError> {
+    let mut text = Vec::new(alloc);
+    for _line in 0..MANY {
+        text.extend_from_slice(line)?;
+    }
+    Ok(text)
+}
+
+#[test]
+fn of_those_that_go_on_one_has_a_turn_in_a_round(rt: HostRuntime) -> Result<(), Fail> {
+    let alloc = rt.alloc();
+    let (one, two) = (
+        lines_of(alloc, b"get a\r\n")?,
+        lines_of(alloc, b"get b\r\n")?,
+    );
+    let mut crowd = Crowd::new(alloc)?;
+    for text in [one.as_slice(), two.as_slice()] {
+        let lines = Lines {
+            input: text,
+            late: 0,
+        };
+        let _goes_on = crowd.add(Carried::new(alloc, lines))?;
+    }
+    let mut backend = Noting {
+        asked: Vec::new(alloc),
+    };
+    let mut told = Told {
+        ready: Vec::new(alloc),
+    };
+    let mut runs = Vec::new(alloc);
+    // each has its bytes in two reads
+    for round in 0..4 {
+        let before = backend.asked.len();
+        let passed = crowd.round(&rt, &mut told, &mut backend, &OpenGate);
+        assert_eq!(rt; passed.goes_on, round < 3);
+        let (_, asked) = backend.asked.as_slice().split_at(before);
+        let first = byte_at(asked, 0);
+        assert!(rt; asked.iter().all(|key| *key == first));
+        runs.push(first)?;
+    }
+    assert_eq!(rt; runs.as_slice(), b"abab".as_slice());
+    Ok(())
+}
+
+#[test]
+fn who_asks_anew_comes_before_those_that_go_on(rt: HostRuntime) -> Result<(), Fail> {
+    let alloc = rt.alloc();
+    let text = lines_of(alloc, b"get a\r\n")?;
+    let mut crowd = Crowd::new(alloc)?;
+    let long = Lines {
+        input: text.as_slice(),
+        late: 0,
+    };
+    let _goes_on = crowd.add(Carried::new(alloc, long))?;
+    let short = Lines {
+        input: b"get b\r\n",
+        late: 1,
+    };
+    let anew = crowd.add(Carried::new(alloc, short))?;
+    let mut backend = Noting {
+        asked: Vec::new(alloc),
+    };
+    let mut told = Told {
+        ready: Vec::new(alloc),
+    };
+    // each of the two waits for its first turn
+    let _first = crowd.round(&rt, &mut told, &mut backend, &OpenGate);
+    let _second = crowd.round(&rt, &mut told, &mut backend, &OpenGate);
+    let before = backend.asked.len();
+    assert!(rt; 0 < before && before < MANY);
+    told.ready.push(ready(anew, false))?;
+    let _third = crowd.round(&rt, &mut told, &mut backend, &OpenGate);
+    let asked = backend.asked.as_slice();
+    let last = byte_at(asked, before.saturating_sub(1));
+    let next = byte_at(asked, before);
+    let then = byte_at(asked, before.saturating_add(1));
+    assert_eq!(rt; (last, next, then), (b'a', b'b', b'a'));
     Ok(())
 }

@@ -1,6 +1,6 @@
 //! Clients that ask for much: what they are owed at most, and that all of it comes in the end, in its order.
 use geo_crowd::{Accepted, Carried, Crowd, Given, Passed, Ready, Standing, Stream};
-use geo_grammar::{Found, Reply, Request, Shared, Shown};
+use geo_requests::{Found, Reply, Request, Shared, Shown};
 use geo_session::{Backend, OpenGate, Session, SessionEnd, SessionFault};
 use geo_versions::Key;
 use std::alloc::{AllocError, Global};

@@ -5,7 +5,8 @@ mod devices;
 mod shared;
 mod talks;
 
-use geo_grammar::{Device, Reply, Request};
+use geo_grammar::Device;
+use geo_requests::{Reply, Request};
 use geo_session::{Backend, Bare, Gate, SessionEnd, SessionFault, serve};
 use geo_site::{Setup, Site};
 use std::alloc::Global;

@@ -1,9 +1,9 @@
 -- What a connection is told stands in the one history of its site.
 use Rattle.std.proofs.Common.{◌≡◌, ◌⊎◌, inl, inr, ℕ, Bool, true, false, List, [], ◌∷◌, ◌++◌, Ok, refl, sym, ap, subst, ◌∙◌, append_assoc, append-nil}
 use Rattle.geo_grammar.specs.declared.fault.Fault.{Fault}
-use Rattle.geo_grammar.specs.declared.reply.Reply.{Reply}
-use Rattle.geo_grammar.specs.declared.reply.Reply.TheVariants.{OutOfMemory}
-use Rattle.geo_grammar.specs.declared.request.Request.{Request}
+use Rattle.geo_requests.specs.declared.reply.Reply.{Reply}
+use Rattle.geo_requests.specs.declared.reply.Reply.TheVariants.{OutOfMemory}
+use Rattle.geo_requests.specs.declared.request.Request.{Request}
 use Rattle.geo_history.specs.declared.step.Step.{Step}
 use Rattle.geo_journal.specs.Marks.{Noted, Marked, with_step, marked_with}
 use Rattle.geo_site.specs.declared.event.Event.{Event}
@@ -12,7 +12,7 @@ use Rattle.geo_site.specs.declared.event.Answer.{Answer}
 use Rattle.geo_site.specs.declared.event.Answer.TheVariants.{Replied, Ticked}
 use Rattle.geo_station.specs.Wholes.{Adds, AddsFlush, AddsReply, NotesOne, NotesNone, NotesReply, TicksOnce, Within}
 use Rattle.geo_session.specs.Chains.{IsFlush, Flushes, IsTold, Tells, TellAll, GoesOnWith}
-use Rattle.geo_session.specs.Exchanges.{Exchange, Asked, Told, Runs}
+use Rattle.geo_dialogue.specs.Exchanges.{Exchange, Asked, Told, Runs}
 use Rattle.geo_session.specs.Seats.{Asker, AnswersCounted}
 
 -- a seat's own steps, behind one that is noted

@@ -1,5 +1,2 @@
-pub mod Lists
-pub mod Talks
-pub mod Pieces
-pub mod Going
+pub mod Answered
 pub mod Chains

@@ -1,7 +1,7 @@
 -- A site that answers at one moment.
 use Rattle.std.specs.Prelude.{◌≡◌, ℕ}
-use Rattle.geo_grammar.specs.declared.reply.Reply.{Reply}
-use Rattle.geo_grammar.specs.declared.request.Request.{Request}
+use Rattle.geo_requests.specs.declared.reply.Reply.{Reply}
+use Rattle.geo_requests.specs.declared.request.Request.{Request}
 use Rattle.geo_site.specs.Sites.{ActDoes}
 use Rattle.geo_site.specs.declared.site.Site.{Site}
 use Rattle.geo_session.specs.declared.bare.Bare.{Bare}

@@ -1,13 +1,13 @@
 -- What a connection is told stands in the one history of its site.
 use Rattle.std.specs.Prelude.{◌≡◌, ◌⊎◌, ℕ, true, List, [], ◌∷◌, ◌++◌}
-use Rattle.geo_grammar.specs.declared.reply.Reply.{Reply}
-use Rattle.geo_grammar.specs.declared.reply.Reply.TheVariants.{OutOfMemory}
-use Rattle.geo_grammar.specs.declared.request.Request.{Request}
+use Rattle.geo_requests.specs.declared.reply.Reply.{Reply}
+use Rattle.geo_requests.specs.declared.reply.Reply.TheVariants.{OutOfMemory}
+use Rattle.geo_requests.specs.declared.request.Request.{Request}
 use Rattle.geo_history.specs.declared.step.Step.{Step}
 use Rattle.geo_journal.specs.Marks.{Marked}
 use Rattle.geo_site.specs.declared.event.Event.TheVariants.{Command, Tick}
 use Rattle.geo_site.specs.declared.event.Answer.TheVariants.{Replied, Ticked}
-use Rattle.geo_session.specs.Exchanges.{Exchange, Asked, Told}
+use Rattle.geo_dialogue.specs.Exchanges.{Exchange, Asked, Told}
 
 -- a due flush
 pub record IsFlush (step : Step) : Type 0 where

@@ -1,9 +1,3 @@
-pub mod Closings
-pub mod Exchanges
-pub mod Connections
-pub mod Pendings
-pub mod Sessions
-pub mod Batches
 pub mod Bares
 pub mod Seats
 pub mod Chains

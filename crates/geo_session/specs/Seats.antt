@@ -1,8 +1,8 @@
 -- A seat at a shared site, with a seat of a tally.
 use Rattle.std.specs.Prelude.{◌≡◌, ◌⊎◌, ◌≤◌, ◌^◌, ℕ, max, Result, Ok, Err, IfOk}
-use Rattle.geo_grammar.specs.declared.reply.Reply.{Reply}
-use Rattle.geo_grammar.specs.declared.reply.Reply.TheVariants.{OutOfMemory}
-use Rattle.geo_grammar.specs.declared.request.Request.{Request}
+use Rattle.geo_requests.specs.declared.reply.Reply.{Reply}
+use Rattle.geo_requests.specs.declared.reply.Reply.TheVariants.{OutOfMemory}
+use Rattle.geo_requests.specs.declared.request.Request.{Request}
 use Rattle.geo_station.specs.Calls.{ActsBy}
 use Rattle.geo_station.specs.Receipts.{IsAnswer}
 use Rattle.geo_station.specs.Seats.{Seated, trimmed}

@@ -1,8 +1,8 @@
 //! A site of one session alone.
 ghost use Rattle.std.specs.Prelude.{◌≡◌, ◌≤◌, ◌^◌};
 
-use crate::backend::Backend;
-use geo_grammar::{Reply, Request};
+use geo_dialogue::Backend;
+use geo_requests::{Reply, Request};
 use geo_site::Site;
 use std::alloc::Global;
 use std::rt::Clock;

@@ -1,11 +1,12 @@
 //! A seat at a shared site, whose requests are counted.
-ghost use Rattle.std.specs.Prelude.{◌≡◌, ◌≤◌, ◌^◌};
-ghost use Rattle.geo_session.specs.Seats.{CountsOne, asker};
+ghost use Rattle.std.specs.Prelude.{◌≡◌, ◌≤◌, ◌^◌, IfNone, IfSome};
+ghost use Rattle.geo_session.specs.Seats.{AnswersCounted, CountsOne, RefusesCounted, asker};
+ghost use Rattle.geo_station.specs.declared.refusal.SeatSpent.{SeatSpent};
 
-use crate::backend::Backend;
 use crate::clock::Clock;
-use geo_grammar::{Reply, Request};
-use geo_station::{Room, Seat, Station};
+use geo_dialogue::Backend;
+use geo_requests::{Reply, Request};
+use geo_station::{Hold, Room, Seat, Station};
 use geo_tally::{Counter, Tally, TallySeat};
 use std::alloc::Global;
 use std::rt;
@@ -60,6 +61,30 @@ impl<'a, L: Room, C: Clock> Counted<'a, L, C> {
         let _ = self.tally.add(&mut self.counts, counter);
     }
 
+    /// Answers a request as [`Backend::act`] does, by a thread's hold of the station, which may stay with it until the next.
+    pub fn act_by<R: Wait + rt::Clock>(
+        &mut self,
+        rt: &R,
+        alloc: Global,
+        hold: &mut Hold<'a, L>,
+        request: Request,
+    ) -> Option<Reply>
+        ensures clock { self.new.clock ≡ self.old.clock }
+        ensures some { IfSome result (λ reply. AnswersCounted (C.shows self.old.clock.now)
+            (asker self.old.seat self.old.last self.old.counts) (asker self.new.seat self.new.last self.new.counts) request reply) }
+        ensures none { IfNone result ((spent : SeatSpent) × RefusesCounted (C.shows self.old.clock.now)
+            (asker self.old.seat self.old.last self.old.counts) (asker self.new.seat self.new.last self.new.counts) request spent) }
+    {
+        self.count(Counter::Requests);
+        self.seat.trim();
+        let now = self.clock.now(rt).max(self.last);
+        self.last = now;
+        match hold.act(rt, self.station, alloc, &mut self.seat, now, request) {
+            Ok(reply) => Some(reply),
+            Err(_) => None,
+        }
+    }
+
     /// Both seats, as the sessions have left them.
     pub fn into_seats(self) -> (Seat<L>, TallySeat)
         ensures seat { result.0 ≡ self.entry.seat }
@@ -86,13 +111,7 @@ impl<L: Room, C: Clock> Backend for Counted<'_, L, C> {
         alloc: Global,
         request: Request,
     ) -> Option<Reply> {
-        self.count(Counter::Requests);
-        self.seat.trim();
-        let now = self.clock.now(rt).max(self.last);
-        self.last = now;
-        match self.station.act(rt, alloc, &mut self.seat, now, request) {
-            Ok(reply) => Some(reply),
-            Err(_) => None,
-        }
+        let mut hold = Hold::none();
+        self.act_by(rt, alloc, &mut hold, request)
     }
 }

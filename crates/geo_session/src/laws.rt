@@ -1,7 +1,7 @@
 //! What holds of all sessions. The laws run nothing: a caller names them for their contract.
 ghost use Rattle.std.specs.Prelude.{List};
 ghost use Rattle.geo_session.specs.Chains.{GoesOnWith};
-ghost use Rattle.geo_session.specs.Exchanges.{Exchange, Runs};
+ghost use Rattle.geo_dialogue.specs.Exchanges.{Exchange, Runs};
 ghost use Rattle.geo_session.specs.Seats.{Asker, AnswersCounted};
 
 use crate::clock::Clock;

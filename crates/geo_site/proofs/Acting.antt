@@ -7,13 +7,13 @@ use Rattle.geo_records.specs.Operations.{Record, version_in}
 use Rattle.geo_versions.specs.Maps.{has_register}
 use Rattle.geo_records.specs.Operations.Act.{Write}
 use Rattle.geo_records.specs.Operations.{Act as issues}
-use Rattle.geo_grammar.specs.declared.request.Request.{Request}
-use Rattle.geo_grammar.specs.declared.reply.Reply.{Reply}
-use Rattle.geo_grammar.specs.declared.reply.Reply.TheVariants as reply
+use Rattle.geo_requests.specs.declared.request.Request.{Request}
+use Rattle.geo_requests.specs.declared.reply.Reply.{Reply}
+use Rattle.geo_requests.specs.declared.reply.Reply.TheVariants as reply
 use Rattle.geo_memcache.specs.Entries.{Entry}
 use Rattle.geo_memcache.specs.Decisions.{Verdict, stores, deletes, touches, counts, decision_of, decided, is_made}
 use Rattle.geo_memcache.specs.Asks.{request_of}
-use Rattle.geo_grammar.specs.Requests.{is_of_one_key}
+use Rattle.geo_requests.specs.Requests.{is_of_one_key}
 use Rattle.geo_memcache.specs.declared.ask.Ask.{Ask}
 use Rattle.geo_memcache.specs.declared.ask.Ask.TheVariants.{Store, Fetch, FetchTouch, Delete, Touch, Arith}
 use Rattle.geo_memcache.specs.declared.decision.Answer.TheVariants as answer

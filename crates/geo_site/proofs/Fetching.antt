@@ -14,10 +14,10 @@ use Rattle.geo_site.proofs.Stocking.{state_path}
 use Rattle.geo_site.proofs.Verdicts.{none_some}
 use Rattle.geo_site.proofs.Acting.{and_false}
 use Rattle.std.proofs.lemmas.List.{take_more, append-nil, length-append}
-use Rattle.geo_grammar.specs.declared.reply.Found.{Found}
-use Rattle.geo_grammar.specs.declared.reply.Reply.{Reply}
-use Rattle.geo_grammar.specs.declared.reply.Reply.TheVariants.{Values, MapFull, ClockEnded}
-use Rattle.geo_grammar.specs.declared.request.Request.TheVariants.{Fetch, FetchTouch}
+use Rattle.geo_requests.specs.declared.reply.Found.{Found}
+use Rattle.geo_requests.specs.declared.reply.Reply.{Reply}
+use Rattle.geo_requests.specs.declared.reply.Reply.TheVariants.{Values, MapFull, ClockEnded}
+use Rattle.geo_requests.specs.declared.request.Request.TheVariants.{Fetch, FetchTouch}
 use Rattle.geo_versions.specs.Maps.{has_register}
 use Rattle.geo_memcache.specs.Entries.{Entry, is_live, expiry_at}
 use Rattle.geo_records.specs.Keys.{same_key}

@@ -8,8 +8,8 @@ use Rattle.geo_records.specs.Operations.Act.{Flush}
 use Rattle.geo_site.specs.Entries.{Held, named_by, flushes_now, flush_acts, is_done}
 use Rattle.geo_site.specs.declared.site.Site.{Site}
 use Rattle.geo_site.specs.Sites.{FirstVictimFits, HasIssuedAfter, IssuesAs}
-use Rattle.geo_grammar.specs.declared.reply.Reply.{Reply}
-use Rattle.geo_grammar.specs.declared.reply.Reply.TheVariants.{Done}
+use Rattle.geo_requests.specs.declared.reply.Reply.{Reply}
+use Rattle.geo_requests.specs.declared.reply.Reply.TheVariants.{Done}
 use Rattle.geo_values.specs.Stock.{Stock}
 use Rattle.geo_values.specs.Stock as stocks
 use Rattle.geo_site.proofs.Stocking.{stock_kept}

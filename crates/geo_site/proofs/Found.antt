@@ -1,7 +1,7 @@
 -- One key more is looked up.
 use Rattle.std.proofs.Common.{◌≡◌, ℕ, zero, suc, ◌+◌, ◌<◌, Bool, true, refl, true≢false, arith, List, [], ◌∷◌, ◌++◌, length, take, sym, ap, ◌∙◌, get_or, append_assoc}
 use Rattle.std.proofs.lemmas.List.{take_more, append-nil, map-append}
-use Rattle.geo_grammar.specs.declared.reply.Found.{Found}
+use Rattle.geo_requests.specs.declared.reply.Found.{Found}
 use Rattle.geo_values.specs.Stock.{Stock, hit_at}
 use Rattle.geo_values.specs.Stock as stocks
 use Rattle.geo_site.specs.Entries.{Visible, found_at, found_of, keys_found, is_some_found}

@@ -5,20 +5,25 @@ use Rattle.geo_records.specs.Keys.{same_key}
 use Rattle.geo_records.specs.Operations.{Record, above_both, record_joined, version_in}
 use Rattle.geo_records.proofs.Above.{joined_none}
 use Rattle.geo_versions.specs.Maps.{Rec, rec_means, listed_at}
+use Rattle.geo_delta.specs.declared.changes.Changes.{Changes}
 use Rattle.geo_delta.specs.Changes.{Ring, KnowsBut, Traced, noted, emptied, nothing_pending}
+use Rattle.geo_delta.specs.Telling.{Tells}
+use Rattle.geo_delta.specs.Trails.{Path, Trailed}
+use Rattle.geo_delta.proofs.Told.{tells_on}
 use Rattle.geo_delta.proofs.Tracing.{traced_on, traced_noted, traced_emptied}
+use Rattle.geo_delta.proofs.Trailing.{trailed_on}
 use Rattle.geo_site.specs.Entries.{Held, names}
 use Rattle.geo_site.specs.Machine.{knows_record, Covers, EndsFrom, Settled}
 use Rattle.geo_site.specs.Noting.{is_key, is_listed}
 use Rattle.geo_site.proofs.Flushing.{knows_above}
 
 -- a change of one key
-pub traced_put : (key : List ℕ) (map new : List ℕ → Record) (ring : Ring) → ((q : List ℕ) → same_key q key ≡ false → new q ≡ map q) → Traced nothing_pending map ring → Traced (is_key key) new ring
-traced_put key map new ring same = traced_on nothing_pending (is_key key) map new ring (λ q apart. (refl, λ v h. ap (knows_record v) (same q apart) ∙ h))
+pub traced_put : (key : List ℕ) (map new : List ℕ → Record) (changes : Changes) → ((q : List ℕ) → same_key q key ≡ false → new q ≡ map q) → Tells nothing_pending map changes → Tells (is_key key) new changes
+traced_put key map new changes same = tells_on nothing_pending (is_key key) map new changes (λ q apart. (refl, λ v h. ap (knows_record v) (same q apart) ∙ h))
 
 -- a floor that rises brings nothing new
-pub traced_above : (floor : Option Moment) (map new : List ℕ → Record) (ring : Ring) → ((q : List ℕ) → new q ≡ above_both floor (map q)) → Traced nothing_pending map ring → Traced nothing_pending new ring
-traced_above floor map new ring is = traced_on nothing_pending nothing_pending map new ring (λ q none. (refl, λ v h. ap (knows_record v) (is q) ∙ knows_above v floor (map q) h))
+pub traced_above : (floor : Option Moment) (map new : List ℕ → Record) (changes : Changes) → ((q : List ℕ) → new q ≡ above_both floor (map q)) → Tells nothing_pending map changes → Tells nothing_pending new changes
+traced_above floor map new changes is = tells_on nothing_pending nothing_pending map new changes (λ q none. (refl, λ v h. ap (knows_record v) (is q) ∙ knows_above v floor (map q) h))
 
 -- records that have nothing at a key
 listed_none : (records : List (List ℕ × Rec)) (q : List ℕ) → is_listed records q ≡ false → listed_at records q ≡ (None, None)
@@ -30,16 +35,16 @@ listed_none (e ∷ es) q h = by (same_key q e.0) (listed_none es q) h
     by false rec h = rec h
 
 -- records that are joined
-pub traced_joined : (floor : Option Moment) (records : List (List ℕ × Rec)) (map new : List ℕ → Record) (ring : Ring) → ((q : List ℕ) → new q ≡ above_both floor (record_joined (map q) (listed_at records q))) → Traced nothing_pending map ring → Traced (is_listed records) new ring
-traced_joined floor records map new ring is = traced_on nothing_pending (is_listed records) map new ring (λ q apart. (
+pub traced_joined : (floor : Option Moment) (records : List (List ℕ × Rec)) (map new : List ℕ → Record) (changes : Changes) → ((q : List ℕ) → new q ≡ above_both floor (record_joined (map q) (listed_at records q))) → Tells nothing_pending map changes → Tells (is_listed records) new changes
+traced_joined floor records map new changes is = tells_on nothing_pending (is_listed records) map new changes (λ q apart. (
   refl,
   λ v h.
       ap (knows_record v) (is q ∙ ap (λ r. above_both floor (record_joined (map q) r)) (listed_none records q apart) ∙ ap (above_both floor) (joined_none (map q))) ∙ knows_above v floor (map q) h,
 ))
 
 -- the same records
-pub traced_same : (map new : List ℕ → Record) (ring : Ring) → ((q : List ℕ) → new q ≡ map q) → Traced nothing_pending map ring → Traced nothing_pending new ring
-traced_same map new ring same = traced_on nothing_pending nothing_pending map new ring (λ q none. (refl, λ v h. ap (knows_record v) (same q) ∙ h))
+pub traced_same : (map new : List ℕ → Record) (changes : Changes) → ((q : List ℕ) → new q ≡ map q) → Tells nothing_pending map changes → Tells nothing_pending new changes
+traced_same map new changes same = tells_on nothing_pending nothing_pending map new changes (λ q none. (refl, λ v h. ap (knows_record v) (same q) ∙ h))
 
 module _ (map new : List ℕ → Record) (same : (q : List ℕ) → new q ≡ map q) where
   pub covers_same : (v : List ℕ) → Covers v map → Covers v new
@@ -65,3 +70,6 @@ first_false false h = refl
 -- one key alone
 pub traced_one : (map : List ℕ → Record) (key : List ℕ) (ring : Ring) → Traced (is_key key) map ring → Traced (λ q. same_key q key || nothing_pending q) map ring
 traced_one map key ring = traced_on (is_key key) (λ q. same_key q key || nothing_pending q) map map ring (λ q apart. (first_false (same_key q key) apart, λ v h. h))
+
+pub trailed_one : (map : List ℕ → Record) (key : List ℕ) (path : Path) → Trailed (is_key key) map path → Trailed (λ q. same_key q key || nothing_pending q) map path
+trailed_one map key path = trailed_on (is_key key) (λ q. same_key q key || nothing_pending q) map map path (λ q apart. (first_false (same_key q key) apart, λ v h. h))

@@ -1,7 +1,7 @@
 -- What records outdate of a stock, when they are joined one after the other.
 use Rattle.std.proofs.Common.{◌≡◌, ℕ, suc, ◌+◌, ◌<◌, Bool, true, false, cond, not, filter, List, [], ◌∷◌, length, take, Option, None, Some, refl, sym, ap, ◌∙◌, arith, get_or}
 use Rattle.std.specs.Cmp.Lexicographic.{same_text}
-use Rattle.geo_lattice.proofs.Entries.{slice_get_from_get_or}
+use Rattle.geo_maps.proofs.Entries.{slice_get_from_get_or}
 use Rattle.geo_stamp.specs.Stamps.{Moment}
 use Rattle.geo_records.specs.Keys.{same_key}
 use Rattle.geo_records.specs.Operations.{Record, record_joined, above_both, version_in}

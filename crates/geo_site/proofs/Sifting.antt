@@ -8,7 +8,7 @@ use Rattle.std.specs.Ordering.{ordering_then, is_lt, is_gt, nat_cmp}
 use Rattle.std.specs.Map.{lookup}
 use Rattle.std.proofs.lemmas.List.Sums.{sum_by-cons}
 use Rattle.geo_laws.specs.Registers.{newer, by_both, by_order}
-use Rattle.geo_lattice.specs.Maps.{missing}
+use Rattle.geo_maps.specs.Maps.{missing}
 use Rattle.geo_stamp.specs.Stamps.{Moment, stamp_cmp}
 use Rattle.geo_records.proofs.Above.{lt_gt, newer_none}
 use Rattle.geo_records.specs.Bodies.{body_cmp}
@@ -16,8 +16,10 @@ use Rattle.geo_records.specs.Keys.{same_key}
 use Rattle.geo_records.specs.Operations.{Record, Register, record_joined, version_in}
 use Rattle.geo_versions.specs.Maps.{Rec, rec_means, listed_at, has_register, is_unknown, is_old, recent, recent_both, sifted, is_over, remaining}
 use Rattle.geo_versions.specs.Records.{rec_recent}
-use Rattle.geo_delta.specs.Changes.{Ring, Traced, nothing_pending}
-use Rattle.geo_delta.proofs.Tracing.{traced_on}
+use Rattle.geo_delta.specs.declared.changes.Changes.{Changes}
+use Rattle.geo_delta.specs.Changes.{nothing_pending}
+use Rattle.geo_delta.specs.Telling.{Tells}
+use Rattle.geo_delta.proofs.Told.{tells_on}
 use Rattle.geo_site.specs.Entries.{Held, names}
 use Rattle.geo_site.specs.Machine.{knows_record, knows_floor, Covers, EndsFrom, Settled}
 use Rattle.geo_delta.specs.declared.parcel.Parcel.{Parcel}
@@ -26,7 +28,7 @@ use Rattle.geo_site.specs.Sites.{knows_all, is_sound, brings_new}
 use Rattle.geo_site.specs.declared.site.Site.{Site}
 use Rattle.geo_versions.specs.declared.versions.Versions.{Versions}
 use Rattle.geo_versions.specs.Maps.{record_in, HasRoomFor}
-use Rattle.geo_lattice.specs.Maps.{meaning_or}
+use Rattle.geo_maps.specs.Maps.{meaning_or}
 use Rattle.std.specs.List.{list_any}
 use Rattle.geo_site.proofs.Times.{time_of}
 
@@ -191,8 +193,8 @@ module _ (h : ℕ) (map new : List ℕ → Record) (is : (q : List ℕ) → new 
   pub removed_covers : (v : List ℕ) → Covers v map → Covers v new
   removed_covers v covers q = ap (knows_record v) (is q) ∙ knows_remaining v (map q) (covers q)
 
-  pub removed_traced : (ring : Ring) → Traced nothing_pending map ring → Traced nothing_pending new ring
-  removed_traced ring = traced_on nothing_pending nothing_pending map new ring (λ q none. (refl, λ v k. ap (knows_record v) (is q) ∙ knows_remaining v (map q) k))
+  pub removed_traced : (changes : Changes) → Tells nothing_pending map changes → Tells nothing_pending new changes
+  removed_traced changes = tells_on nothing_pending nothing_pending map new changes (λ q none. (refl, λ v k. ap (knows_record v) (is q) ∙ knows_remaining v (map q) k))
 
   pub removed_ends : (least : ℕ) → EndsFrom least map → EndsFrom least new
   removed_ends least ends q s e at ne = by (is_over h (map q)) (sym (ap (λ (r : Record). r.1) (is q)) ∙ at)

@@ -2,8 +2,8 @@
 use Rattle.std.proofs.Common.{◌≡◌, ℕ, ℤ, Bool, true, false, cond, List, [], ◌∷◌, Option, None, Some, refl, sym, ap, ◌∙◌, subst, true≢false}
 use Rattle.std.specs.Prelude.{Result, Ok, Err, IfOk}
 use Rattle.std.specs.declared.alloc.AllocError.{AllocError}
-use Rattle.geo_grammar.specs.declared.request.Request.{Request}
-use Rattle.geo_grammar.specs.declared.reply.Reply.TheVariants.{ClockEnded}
+use Rattle.geo_requests.specs.declared.request.Request.{Request}
+use Rattle.geo_requests.specs.declared.reply.Reply.TheVariants.{ClockEnded}
 use Rattle.geo_records.specs.Operations.{Act}
 use Rattle.geo_records.specs.Operations.Act.{Flush}
 use Rattle.geo_memcache.specs.Entries.{Entry}

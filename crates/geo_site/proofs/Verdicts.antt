@@ -5,11 +5,11 @@ use Rattle.std.specs.Str.{all_ascii_digits}
 use Rattle.std.specs.Str.Parse.{digits_value_after}
 use Rattle.std.proofs.lemmas.Bool.Decides.{nat_tests}
 use Rattle.std.proofs.lemmas.Fmt.{length-decimal-le}
-use Rattle.geo_grammar.specs.Limits.{longest_value, most_number}
-use Rattle.geo_grammar.specs.Words.{number_of}
-use Rattle.geo_grammar.specs.declared.request.Verb.{Verb}
-use Rattle.geo_grammar.specs.declared.request.Verb.TheVariants.{Set, Add, Replace, Append, Prepend, Cas}
-use Rattle.geo_grammar.specs.declared.reply.Reply.TheVariants.{Stored, TooLarge}
+use Rattle.geo_requests.specs.Limits.{longest_value, most_number}
+use Rattle.geo_requests.specs.Numbers.{number_of}
+use Rattle.geo_requests.specs.declared.request.Verb.{Verb}
+use Rattle.geo_requests.specs.declared.request.Verb.TheVariants.{Set, Add, Replace, Append, Prepend, Cas}
+use Rattle.geo_requests.specs.declared.reply.Reply.TheVariants.{Stored, TooLarge}
 use Rattle.geo_memcache.specs.Entries.{Entry, expiry_at}
 use Rattle.geo_memcache.specs.Decisions.{Verdict, unless_long, keeps, makes, is_seen, stores, deletes, touches, number_in, counted, counts_from, counts}
 use Rattle.geo_memcache.specs.declared.decision.Effect.TheVariants.{Nothing, Keep, Made, Renew, Tomb}
@@ -54,7 +54,7 @@ stores_plain Prepend flags exptime seen bytes now (Some e) = makes_plain e (Ratt
 stores_plain Cas flags exptime seen bytes now None = record { silent = refl; done = refl; short = tt }
 stores_plain Cas flags exptime seen bytes now (Some e) = by (is_seen seen e.unique)
   where
-    by : (t : Bool) → Plain (cond {A = Verdict} t (keeps flags exptime bytes now) (Rattle.geo_grammar.specs.declared.reply.Reply.TheVariants.Exists, Nothing)) bytes
+    by : (t : Bool) → Plain (cond {A = Verdict} t (keeps flags exptime bytes now) (Rattle.geo_requests.specs.declared.reply.Reply.TheVariants.Exists, Nothing)) bytes
     by true = keeps_plain flags exptime bytes now
     by false = record { silent = refl; done = refl; short = tt }
 
@@ -94,7 +94,7 @@ stores_fixed Prepend flags exptime seen bytes now (Some e) = let made = Rattle.s
 stores_fixed Cas flags exptime seen bytes now None = refl
 stores_fixed Cas flags exptime seen bytes now (Some e) = by (is_seen seen e.unique)
   where
-    by : (t : Bool) → is_renewal (cond {A = Verdict} t (keeps flags exptime bytes now) (Rattle.geo_grammar.specs.declared.reply.Reply.TheVariants.Exists, Nothing)).1 ≡ false
+    by : (t : Bool) → is_renewal (cond {A = Verdict} t (keeps flags exptime bytes now) (Rattle.geo_requests.specs.declared.reply.Reply.TheVariants.Exists, Nothing)).1 ≡ false
     by true = unless_long_fixed bytes (Stored, Keep flags (expiry_at exptime now)) refl
     by false = refl
 

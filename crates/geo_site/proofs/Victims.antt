@@ -3,9 +3,9 @@ use Rattle.std.proofs.Common.{◌≡◌, ℕ, ℤ, Bool, true, false, cond, List
 use Rattle.std.specs.Prelude.{IfSome}
 use Rattle.geo_records.specs.Operations.{Act}
 use Rattle.geo_records.specs.Operations.Act.{Write, Delete, Touch, Flush}
-use Rattle.geo_grammar.specs.declared.request.Request.{Request}
-use Rattle.geo_grammar.specs.declared.request.Request.TheVariants as request
-use Rattle.geo_grammar.specs.declared.reply.Found.{Found}
+use Rattle.geo_requests.specs.declared.request.Request.{Request}
+use Rattle.geo_requests.specs.declared.request.Request.TheVariants as request
+use Rattle.geo_requests.specs.declared.reply.Found.{Found}
 use Rattle.geo_memcache.specs.Entries.{Entry, expiry_at}
 use Rattle.geo_memcache.specs.Decisions.{stores, deletes, touches, counts}
 use Rattle.geo_memcache.specs.declared.decision.Effect.{Effect}

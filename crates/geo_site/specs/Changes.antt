@@ -3,15 +3,15 @@ use Rattle.std.specs.Prelude.{◌≡◌, ◌⊎◌, ℕ, ◌+◌, ◌≤◌, ◌
 use Rattle.std.specs.List.{list_any}
 use Rattle.geo_stamp.specs.Stamps.{Moment, last_time}
 use Rattle.geo_versions.specs.Maps.{has_register}
-use Rattle.geo_grammar.specs.declared.reply.Reply.{Reply}
-use Rattle.geo_grammar.specs.declared.reply.Reply.TheVariants as reply
+use Rattle.geo_requests.specs.declared.reply.Reply.{Reply}
+use Rattle.geo_requests.specs.declared.reply.Reply.TheVariants as reply
 use Rattle.geo_memcache.specs.declared.ask.Ask.{Ask}
 use Rattle.geo_memcache.specs.declared.ask.Ask.TheVariants.{Store, Fetch, FetchTouch, Delete, Touch, Arith}
 use Rattle.geo_memcache.specs.declared.decision.Decision.{Decision}
 use Rattle.geo_memcache.specs.declared.decision.Answer.TheVariants as answer
 use Rattle.geo_memcache.specs.declared.decision.Effect.{Effect}
 use Rattle.geo_memcache.specs.declared.decision.Effect.TheVariants.{Nothing, Keep, Made, Renew, Tomb}
-use Rattle.geo_grammar.specs.Limits.{longest_value}
+use Rattle.geo_requests.specs.Limits.{longest_value}
 use Rattle.geo_site.specs.declared.site.Site.{Site}
 use Rattle.geo_site.specs.declared.acted.Acted.{Acted}
 use Rattle.geo_site.specs.declared.acted.Beside.{Beside}

@@ -8,13 +8,13 @@ use Rattle.geo_records.specs.Keys.{same_key}
 use Rattle.geo_records.specs.Operations.{Act}
 use Rattle.geo_records.specs.Operations.Act.{Write, Delete, Touch, Flush}
 use Rattle.geo_records.specs.declared.version.Version.{Version}
-use Rattle.geo_grammar.specs.Limits.{most_number}
-use Rattle.geo_grammar.specs.declared.request.Request.{Request}
-use Rattle.geo_grammar.specs.declared.request.Request.TheVariants as request
-use Rattle.geo_grammar.specs.declared.reply.Reply.{Reply}
-use Rattle.geo_grammar.specs.declared.reply.Reply.TheVariants as reply
-use Rattle.geo_grammar.specs.declared.reply.Found.{Found}
-use Rattle.geo_grammar.specs.declared.stats.Stats.{Stats}
+use Rattle.geo_requests.specs.Limits.{most_number}
+use Rattle.geo_requests.specs.declared.request.Request.{Request}
+use Rattle.geo_requests.specs.declared.request.Request.TheVariants as request
+use Rattle.geo_requests.specs.declared.reply.Reply.{Reply}
+use Rattle.geo_requests.specs.declared.reply.Reply.TheVariants as reply
+use Rattle.geo_requests.specs.declared.reply.Found.{Found}
+use Rattle.geo_requests.specs.declared.stats.Stats.{Stats}
 use Rattle.geo_memcache.specs.Entries.{Entry, expiry_at, is_live}
 use Rattle.geo_memcache.specs.Decisions.{stores, deletes, touches, counts}
 use Rattle.geo_memcache.specs.declared.decision.Effect.{Effect}

@@ -1,6 +1,6 @@
 -- A value that a line shows more than once.
 use Rattle.std.specs.Prelude.{◌≡◌, ℕ, Bool, List, [], ◌∷◌}
-use Rattle.geo_grammar.specs.declared.reply.Found.{Found}
+use Rattle.geo_requests.specs.declared.reply.Found.{Found}
 use Rattle.geo_site.specs.Entries.{Visible, found_at}
 
 -- what is found is what is visible of its key

@@ -14,8 +14,8 @@ use Rattle.geo_versions.specs.Maps.{Rec, rec_means, listed_at, since, Rising}
 use Rattle.geo_versions.specs.Maps.{floor_in, record_in, count_in, has_register}
 use Rattle.geo_delta.specs.Ranges.{InRange}
 use Rattle.geo_delta.specs.declared.parcel.Parcel.{Parcel}
-use Rattle.geo_grammar.specs.declared.request.Request.{Request}
-use Rattle.geo_grammar.specs.declared.stats.Stats.{Stats}
+use Rattle.geo_requests.specs.declared.request.Request.{Request}
+use Rattle.geo_requests.specs.declared.stats.Stats.{Stats}
 use Rattle.geo_stamp.specs.Stamps.{Moment, most_sites}
 use Rattle.geo_records.specs.Operations.{Act, version_in}
 use Rattle.geo_site.specs.declared.site.Site.{Site}
@@ -37,9 +37,9 @@ use Rattle.geo_site.specs.declared.refusal.TakeError.TheVariants.{NotForMe, Unkn
 use Rattle.geo_site.specs.declared.refusal.TakeError.TheVariants as takes
 use Rattle.geo_site.specs.declared.refusal.RetireError.{RetireError}
 use Rattle.geo_site.specs.declared.refusal.RetireError.TheVariants as retires
-use Rattle.geo_grammar.specs.declared.reply.Reply.{Reply}
-use Rattle.geo_grammar.specs.declared.reply.Reply.TheVariants.{Values, ClockEnded, OutOfMemory}
-use Rattle.geo_grammar.specs.declared.reply.Found.{Found}
+use Rattle.geo_requests.specs.declared.reply.Reply.{Reply}
+use Rattle.geo_requests.specs.declared.reply.Reply.TheVariants.{Values, ClockEnded, OutOfMemory}
+use Rattle.geo_requests.specs.declared.reply.Found.{Found}
 use Rattle.geo_site.specs.Entries.{Basis, Counts, none_counted, counted_on, counted, evicted_on, accesses, keys_found, issued, found_of, touched_of, touches_of, waits_after, lacks, is_some_found, due_acts, waits_on, flushes_due, is_stuck, is_reapable, reap_acts, Answers, is_done, made_on}
 use Rattle.geo_site.specs.Machine.{SiteState, Delta, accessed, with_stock, victim_by, VictimFits, Same, fresh, issue_all, take, sifted_delta, removed, clock_of, visible_in, knows_record, knows_floor, IsRecordCount, IsHeldCount}
 

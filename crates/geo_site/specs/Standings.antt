@@ -8,7 +8,7 @@ use Rattle.geo_values.specs.Held.{digest_of, digest_at}
 use Rattle.geo_versions.specs.Maps.{has_register, listed_at}
 use Rattle.geo_records.specs.Operations.{Act, Record, version_in}
 use Rattle.geo_delta.specs.declared.parcel.Parcel.{Parcel}
-use Rattle.geo_grammar.specs.declared.request.Request.{Request}
+use Rattle.geo_requests.specs.declared.request.Request.{Request}
 use Rattle.geo_site.specs.declared.setup.Setup.{Setup}
 use Rattle.geo_site.specs.declared.setup.Limits.{Limits}
 use Rattle.geo_site.specs.declared.site.Site.{Site}

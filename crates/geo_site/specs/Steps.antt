@@ -7,9 +7,9 @@ use Rattle.geo_stamp.specs.Retired.{is_in}
 use Rattle.geo_stamp.specs.Vectors.{vector_joined}
 use Rattle.geo_versions.specs.Maps.{Rising, listed_at, rec_means, since}
 use Rattle.geo_delta.specs.declared.parcel.Parcel.{Parcel}
-use Rattle.geo_grammar.specs.declared.request.Request.{Request}
-use Rattle.geo_grammar.specs.declared.reply.Reply.{Reply}
-use Rattle.geo_grammar.specs.declared.reply.Reply.TheVariants.{ClockEnded}
+use Rattle.geo_requests.specs.declared.request.Request.{Request}
+use Rattle.geo_requests.specs.declared.reply.Reply.{Reply}
+use Rattle.geo_requests.specs.declared.reply.Reply.TheVariants.{ClockEnded}
 use Rattle.geo_site.specs.declared.site.Site.{Site}
 use Rattle.geo_site.specs.declared.acted.Acted.{Acted}
 use Rattle.geo_site.specs.declared.fill.Filled.{Filled}

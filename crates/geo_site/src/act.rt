@@ -12,8 +12,8 @@ ghost use Rattle.geo_site.specs.Changes.{is_change, bytes_in, refusal_reply, Cha
 use crate::acted::Acted;
 use crate::refusal::WriteError;
 use crate::site::Site;
-use geo_grammar::{Reply, Request, Stats, Verb};
 use geo_memcache::{Answer, Ask, Decision, Entry, ask_of, decide, expiry_of, live};
+use geo_requests::{Reply, Request, Stats, Verb};
 use geo_versions::Key;
 use std::alloc::{AllocError, Global};
 

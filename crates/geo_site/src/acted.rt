@@ -1,11 +1,11 @@
 //! What a command leaves beside its reply.
 ghost use Rattle.std.specs.Prelude.{◌≡◌, ◌≢◌, [], true, None, IfOk, IfErr};
-ghost use Rattle.geo_grammar.specs.Replies.{is_short};
-ghost use Rattle.geo_grammar.specs.declared.reply.Reply.TheVariants.{Values, OutOfMemory};
+ghost use Rattle.geo_requests.specs.Replies.{is_short};
+ghost use Rattle.geo_requests.specs.declared.reply.Reply.TheVariants.{Values, OutOfMemory};
 ghost use Rattle.geo_site.specs.Sites.{twice, TellsPlain};
 
-use geo_grammar::{Found, Reply, Shared};
 use geo_lattice::Twin;
+use geo_requests::{Found, Reply, Shared};
 use geo_versions::{Digest, Key};
 use std::alloc::{AllocError, Global};
 

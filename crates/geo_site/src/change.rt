@@ -1,6 +1,6 @@
 //! What a site writes and deletes.
 ghost use Rattle.std.specs.Prelude.{◌≡◌, ◌≤◌, ◌<◌, ◌+◌, ℕ, List, length, OnOk, OnErr, IsOk, IfOk, IfErr, MatchResult, cond, Some, None, Option};
-ghost use Rattle.geo_grammar.specs.Limits.{longest_value};
+ghost use Rattle.geo_requests.specs.Limits.{longest_value};
 ghost use Rattle.geo_versions.specs.Maps.{rec_means};
 ghost use Rattle.geo_records.specs.Operations.Act.{Write, Delete};
 ghost use Rattle.std.specs.Prelude.{[], ◌∷◌};

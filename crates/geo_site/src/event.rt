@@ -3,7 +3,7 @@ use crate::boxed::BoxedParcel;
 use crate::exchange::Taken;
 use crate::fill::Filled;
 use crate::refusal::{ReapError, RetireError, SendError, TakeError};
-use geo_grammar::{Reply, Request, ValueBytes};
+use geo_requests::{Reply, Request, ValueBytes};
 use geo_versions::Key;
 
 /// What was asked of a site. Moments are in seconds, 1 to 2^40.

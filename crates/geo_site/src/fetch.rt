@@ -10,7 +10,7 @@ use crate::acted::{Acted, twice_values};
 use crate::places::Places;
 use crate::repeats::Findings;
 use crate::site::Site;
-use geo_grammar::{Found, Shared};
+use geo_requests::{Found, Shared};
 use geo_versions::Key;
 use std::alloc::{AllocError, Global};
 

@@ -1,7 +1,7 @@
 //! Flushes: at once, and those that wait for their moment.
 ghost use Rattle.std.specs.Prelude.{◌≡◌, ◌≤◌, ◌<◌, ◌+◌, ◌^◌, [], ◌∷◌, cond, MatchOption, None, Some};
 ghost use Rattle.geo_stamp.specs.Stamps.{last_time};
-ghost use Rattle.geo_grammar.specs.declared.reply.Reply.TheVariants.{Done};
+ghost use Rattle.geo_requests.specs.declared.reply.Reply.TheVariants.{Done};
 ghost use Rattle.geo_memcache.specs.Entries.{expiry_at};
 ghost use Rattle.geo_records.specs.Operations.Act.{Flush};
 ghost use Rattle.geo_site.specs.Entries.{is_due, is_done, flushes_now, flush_acts};
@@ -12,8 +12,8 @@ ghost use Rattle.geo_site.specs.Changes.{next_stamp_of};
 
 use crate::exchange::keep_named;
 use crate::site::Site;
-use geo_grammar::Reply;
 use geo_memcache::expiry_of;
+use geo_requests::Reply;
 use geo_stamp::Stamp;
 
 impl Site {

@@ -6,9 +6,9 @@ ghost use Rattle.geo_site.specs.Entries.{found_at};
 ghost use Rattle.geo_site.specs.Repeats.{Agrees};
 
 use crate::places::Places;
-use geo_grammar::{Found, Shown};
 use geo_lattice::Twin;
 use geo_memcache::Entry;
+use geo_requests::{Found, Shown};
 use geo_versions::Key;
 use std::alloc::{AllocError, Global};
 use std::collections::HashMap;

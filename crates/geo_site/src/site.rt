@@ -6,13 +6,15 @@ ghost use Rattle.geo_values.specs.Held.{stock_in};
 ghost use Rattle.geo_records.specs.Keys.{same_key};
 ghost use Rattle.geo_records.specs.Operations.{version_in};
 ghost use Rattle.geo_versions.specs.Maps.{floor_in, record_in};
-ghost use Rattle.geo_delta.specs.Changes.{Traced, nothing_pending};
-ghost use Rattle.geo_delta.proofs.Facts.{traced_prop};
+ghost use Rattle.geo_delta.specs.Changes.{nothing_pending};
+ghost use Rattle.geo_delta.specs.Telling.{Tells};
+ghost use Rattle.geo_delta.proofs.Told.{tells_prop};
 ghost use Rattle.geo_site.specs.Machine.{Numbered, HasRows, Covers, Settled, EndsFrom, knows_floor};
 
+use crate::notes::kept_behind;
 use crate::refusal::SetupError;
 use crate::setup::{Limits, MOST_RECORDS, Setup};
-use geo_delta::Buffer;
+use geo_delta::Changes;
 use geo_slabs::{CLASSES, MOST_PAGES, Slabs};
 use geo_stamp::{Acks, MOST_SITES, Stamp, Vector};
 use geo_values::Values;
@@ -32,8 +34,8 @@ pub struct Site {
     /// What it last heard of each site, which sites it holds for gone for good, and the greatest horizon that it kept.
     pub(crate) heard: Acks,
     pub(crate) versions: Versions,
-    /// The keys whose records changed last, with what it knew then.
-    pub(crate) changes: Buffer,
+    /// The keys whose records changed last, with what it knew then, and those further back.
+    pub(crate) changes: Changes,
     pub(crate) values: Values,
     pub(crate) hits: u64,
     pub(crate) misses: u64,
@@ -46,7 +48,7 @@ pub struct Site {
     ghost rows: { HasRows (length vector) heard },
     ghost floor_known: { knows_floor vector (floor_in versions) ≡ true },
     ghost covered: { Covers vector (record_in versions) },
-    ghost traced: { Traced nothing_pending (record_in versions) changes } by { traced_prop nothing_pending (record_in versions) changes },
+    ghost traced: { Tells nothing_pending (record_in versions) changes } by { tells_prop nothing_pending (record_in versions) changes },
     ghost ends: { EndsFrom earliest (record_in versions) },
     ghost named: { Settled (record_in versions) (stock_in values).held },
 }
@@ -91,7 +93,8 @@ impl Site {
         let Ok(hasher) = setup.hasher.clone() else {
             return Err(SetupError::Memory);
         };
-        let Ok(changes) = Buffer::new(alloc, setup.sites as usize) else {
+        let behind = kept_behind(setup.max_records);
+        let Ok(changes) = Changes::new(alloc, setup.sites as usize, behind) else {
             return Err(SetupError::Memory);
         };
         let Ok(values) = fresh_values(alloc, hasher, setup.pages as usize) else {

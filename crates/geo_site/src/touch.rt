@@ -3,7 +3,7 @@ ghost use Rattle.std.specs.Prelude.{◌≡◌, ◌≤◌, ◌+◌, ℕ, Bool, Li
 ghost use Rattle.std.specs.List.{All};
 ghost use Rattle.geo_stamp.specs.Stamps.{last_time};
 ghost use Rattle.geo_memcache.specs.Entries.{is_live};
-ghost use Rattle.geo_grammar.specs.declared.reply.Found.{Found as FoundOf};
+ghost use Rattle.geo_requests.specs.declared.reply.Found.{Found as FoundOf};
 ghost use Rattle.geo_records.specs.Operations.Act.{Touch};
 ghost use Rattle.geo_site.specs.Entries.{touches_of, found_after};
 ghost use Rattle.geo_site.specs.Passing.{HasPassed};
@@ -18,8 +18,8 @@ use crate::places::Places;
 use crate::reap::earlier;
 use crate::repeats::Findings;
 use crate::site::Site;
-use geo_grammar::{Found, Reply, Shared};
 use geo_memcache::live;
+use geo_requests::{Found, Reply, Shared};
 use geo_stamp::{LAST_TIME, Stamp};
 use geo_versions::Key;
 use std::alloc::{AllocError, Global};

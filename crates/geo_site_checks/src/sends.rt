@@ -1,5 +1,5 @@
 //! What a send costs: behind few changes it is made of these, however many records there are. No clause speaks of it.
-use geo_grammar::{Reply, Request};
+use geo_requests::{Reply, Request};
 use geo_site::{Setup, Site};
 use geo_versions::Key;
 use std::alloc::Global;
@@ -16,8 +16,17 @@ const FEW: usize = 30;
 
 const MANY: usize = 30_000;
 
+/// More records, for a send behind more changes than are noted with what was known after each.
+const MORE: usize = 60_000;
+
+/// So many changes of one key.
+const BEHIND: usize = 5_000;
+
 /// How many times as long a send may take where there are a thousand times as many records.
 const MOST_RATIO: u128 = 20;
+
+/// How many times as long a send behind many changes may take where there are two thousand times as many records.
+const MOST_RATIO_BEHIND: u128 = 6;
 
 /// One site of three.
 fn opened(alloc: Global, hasher: &RandomState, site: u8) -> Result<Site, Fail> {
@@ -127,5 +136,35 @@ fn a_send_behind_a_change_passes_over_no_other_records(rt: HostRuntime) -> Resul
     let taken = few.1.as_nanos().saturating_mul(MOST_RATIO);
     assert!(rt; many.0.as_nanos() < own, "{:?} and {:?}", few.0, many.0);
     assert!(rt; many.1.as_nanos() < taken, "{:?} and {:?}", few.1, many.1);
+    Ok(())
+}
+
+/// The shortest time of a send behind many changes of one key, at a site of so many records.
+fn time_behind<R: Clock>(
+    rt: &R,
+    alloc: Global,
+    hasher: &RandomState,
+    records: usize,
+) -> Result<Duration, Fail> {
+    let mut one = opened(alloc, hasher, 1)?;
+    let mut three = opened(alloc, hasher, 3)?;
+    fill(alloc, hasher, &mut one, &mut three, records)?;
+    for _change in 0..BEHIND {
+        delete(alloc, &mut one, 0)?;
+    }
+    let mut least = Duration::from_secs(60);
+    for _try in 0..TRIES {
+        least = least.min(send_time(rt, alloc, &one)?);
+    }
+    Ok(least)
+}
+
+#[test]
+fn a_send_behind_many_changes_passes_over_no_other_records(rt: HostRuntime) -> Result<(), Fail> {
+    let hasher = RandomState::new(&rt)?;
+    let few = time_behind(&rt, rt.alloc(), &hasher, FEW)?;
+    let many = time_behind(&rt, rt.alloc(), &hasher, MORE)?;
+    let most = few.as_nanos().saturating_mul(MOST_RATIO_BEHIND);
+    assert!(rt; many.as_nanos() < most, "{few:?} and {many:?}");
     Ok(())
 }

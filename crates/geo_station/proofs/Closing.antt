@@ -7,9 +7,9 @@ use Rattle.geo_site.specs.Standings.{who_of, standing_in}
 use Rattle.geo_history.specs.Keeping.{Keeps, Story}
 use Rattle.geo_history.specs.declared.kept.Kept.{Kept}
 use Rattle.geo_history.specs.Sizes.{fills}
-use Rattle.geo_grammar.specs.declared.request.Request.{Request}
-use Rattle.geo_grammar.specs.declared.reply.Reply.{Reply}
-use Rattle.geo_grammar.specs.declared.reply.Reply.TheVariants.{OutOfMemory}
+use Rattle.geo_requests.specs.declared.request.Request.{Request}
+use Rattle.geo_requests.specs.declared.reply.Reply.{Reply}
+use Rattle.geo_requests.specs.declared.reply.Reply.TheVariants.{OutOfMemory}
 use Rattle.geo_site.specs.declared.event.Event.TheVariants.{Command}
 use Rattle.geo_site.specs.declared.event.Answer.TheVariants.{Replied}
 use Rattle.geo_history.specs.declared.step.Step.{Step}

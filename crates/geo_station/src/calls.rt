@@ -3,9 +3,9 @@ ghost use Rattle.std.specs.Prelude.{◌≡◌, ◌<◌, [], true, false, OnOk, I
 ghost use Rattle.geo_station.specs.Seats.{call_of, calls_bytes, is_long, kept_with};
 
 use crate::call::Call;
-use geo_grammar::Request;
 use geo_history::{answer_bytes, event_bytes};
 use geo_lattice::Twin;
+use geo_requests::Request;
 use geo_site::{Answer, Event};
 use std::alloc::{AllocError, Global};
 

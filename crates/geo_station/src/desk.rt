@@ -2,7 +2,7 @@
 ghost use Rattle.std.specs.Prelude.{◌≡◌, ◌≢◌, ◌+◌, ◌≤◌, ◌<◌, ◌^◌, ℕ, [], true, false, cond, length, vec_capacity, option_map, ◌⊎◌, Result, Ok, IfOk, IfErr, IfSome, IfNone};
 ghost use Rattle.sha2.specs.Sha256.{sha256};
 ghost use Rattle.geo_delta.specs.Ranges.{InRange};
-ghost use Rattle.geo_grammar.specs.declared.reply.Reply.TheVariants.{OutOfMemory};
+ghost use Rattle.geo_requests.specs.declared.reply.Reply.TheVariants.{OutOfMemory};
 ghost use Rattle.geo_site.specs.Sites.{state_in};
 ghost use Rattle.geo_values.specs.Stock.{with_digest};
 ghost use Rattle.geo_history.specs.Keeping.{most_steps, made_by, made_in_all, is_flush_due, IsKept, TickForDoes, ActForDoes, RetireForDoes};
@@ -20,9 +20,9 @@ use crate::calls::Calls;
 use crate::refusal::{CallError, NoSeat, Returned};
 use crate::seat::Seat;
 use geo_delta::Parcel;
-use geo_grammar::{Reply, Request, ValueBytes};
 use geo_history::{History, Kept};
 use geo_journal::{Journal, Room};
+use geo_requests::{Reply, Request, ValueBytes};
 use geo_site::{BoxedParcel, Filled, Refused, RetireError, SendError, TakeError, Taken};
 use geo_versions::{Digest, Key};
 use std::alloc::{AllocError, Global};
@@ -47,7 +47,7 @@ pub struct Desk<L: Room> {
 /// What became of the era with a call: the history that ended, where its steps kept as many bytes as they may; Err where memory for a
 /// new era was wanted. Whoever lets go of it holds up no other once the lock is free. A history is large, and mostly there is none: so it
 /// is a list of at most one.
-pub(crate) type Ended = Result<Vec<History>, AllocError>;
+pub(crate) type EndedEras = Result<Vec<History>, AllocError>;
 
 /// Why a call was not made.
 #[derive(Clone, Copy)]
@@ -59,7 +59,7 @@ pub enum Unmade {
 }
 
 /// What a new era answers, with the history that ended in a list that has room for it.
-fn listed(mut room: Vec<History>, ended: Result<Option<History>, AllocError>) -> Ended
+fn listed(mut room: Vec<History>, ended: Result<Option<History>, AllocError>) -> EndedEras
     requires empty { room.items ≡ [] }
     requires room { 1 ≤ vec_capacity room }
     ensures { ended_by result ≡ ended }
@@ -353,7 +353,7 @@ impl<L: Room> Desk<L> {
     ghost use Rattle.geo_station.specs.Wholes.{AddsAnswer, AddsParcels, AddsTake, AddsFill, AddsRetire};
 
     /// Begins a new era, where the steps of this one keep as many bytes as they may, and hands out the history that ends.
-    fn end_era(&mut self, alloc: Global) -> Ended
+    fn end_era(&mut self, alloc: Global) -> EndedEras
         requires full { is_full self.old.kept ≡ true }
         ensures ends { EndsWhereFull self.new.kept (ended_by result) }
         ensures journal { self.new.journal ≡ self.old.journal }
@@ -363,7 +363,7 @@ impl<L: Room> Desk<L> {
     }
 
     /// Begins a new era where the steps of this one keep as many bytes as they may, and hands out the history that ends.
-    pub(crate) fn end_full(&mut self, alloc: Global) -> Ended
+    pub(crate) fn end_full(&mut self, alloc: Global) -> EndedEras
         ensures ends { EndsWhereFull self.new.kept (ended_by result) }
         ensures journal { self.new.journal ≡ self.old.journal }
     {
@@ -380,7 +380,7 @@ impl<L: Room> Desk<L> {
         account: &mut Account<L>,
         now: u64,
         request: Request,
-        ended: &mut Ended,
+        ended: &mut EndedEras,
     ) -> Result<(Reply, Reply), Unmade>
         requires moment { now ≤ 2 ^ 40 }
         ensures made { IfOk result (λ replies. (flushes : ℕ) × (flushes ≤ 1) × (account.new.count ≡ account.old.count + (flushes + 1))) }
@@ -403,7 +403,7 @@ impl<L: Room> Desk<L> {
         alloc: Global,
         account: &mut Account<L>,
         to: u8,
-        ended: &mut Ended,
+        ended: &mut EndedEras,
     ) -> Result<(Parcel, BoxedParcel), CallError<SendError>>
         ensures made { IfOk result (λ parcels. (account.new.count ≡ account.old.count + 1) × (parcels.1 ≡ parcels.0)) }
         ensures addressee { IfOk result (λ parcels. parcels.0.to ≡ to) }
@@ -426,7 +426,7 @@ impl<L: Room> Desk<L> {
         account: &mut Account<L>,
         parcel: Parcel,
         copy: BoxedParcel,
-        ended: &mut Ended,
+        ended: &mut EndedEras,
     ) -> Result<Taken, Returned>
         requires copy { copy ≡ parcel }
         ensures made { IfOk result (λ _. account.new.count ≡ account.old.count + 1) }
@@ -449,7 +449,7 @@ impl<L: Room> Desk<L> {
         account: &mut Account<L>,
         key: &Key,
         bytes: ValueBytes,
-        ended: &mut Ended,
+        ended: &mut EndedEras,
     ) -> Result<Filled, CallError<AllocError>>
         ensures made { IfOk result (λ _. account.new.count ≡ account.old.count + 1) }
         ensures unmade { IfErr result (λ _. account.new.count ≡ account.old.count) }
@@ -469,7 +469,7 @@ impl<L: Room> Desk<L> {
         alloc: Global,
         account: &mut Account<L>,
         other: u8,
-        ended: &mut Ended,
+        ended: &mut EndedEras,
     ) -> Result<bool, CallError<RetireError>>
         ensures made { IfOk result (λ _. account.new.count ≡ account.old.count + 1) }
         ensures unmade { IfErr result (λ why. account.new.count ≡ account.old.count + retires_made why) }

@@ -5,7 +5,7 @@ ghost use Rattle.geo_slabs.specs.Storage.{class_count};
 ghost use Rattle.geo_history.specs.Stories.{story_in};
 
 use crate::account::Account;
-use crate::desk::{Desk, Ended};
+use crate::desk::{Desk, EndedEras};
 use crate::refusal::SeatSpent;
 use geo_journal::Room;
 use geo_lattice::Twin;
@@ -229,7 +229,7 @@ impl<L: Room> Desk<L> {
         alloc: Global,
         account: &mut Account<L>,
         now: u64,
-        ended: &mut Ended,
+        ended: &mut EndedEras,
     ) -> Result<Maintained, SeatSpent>
         ensures ok { IfOk result (Maintains account.old.count account.new.count) }
         ensures err { IfErr result (λ _. account.new.count ≡ account.old.count) }

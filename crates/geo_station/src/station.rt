@@ -10,16 +10,16 @@ ghost use Rattle.geo_station.specs.declared.refusal.CallError.TheVariants as ref
 use crate::account::Account;
 use crate::bygone::Bygone;
 use crate::close::{Unclosed, Unlocked, merge_all, open_for};
-use crate::desk::{Desk, Unmade};
+use crate::desk::{Desk, EndedEras, Unmade};
 use crate::maintain::Maintained;
 use crate::missing::Missing;
 use crate::refusal::{CallError, NoSeat, Returned, SeatSpent, StationError};
 use crate::seat::Seat;
 use crate::unopened::Unopened;
 use geo_delta::Parcel;
-use geo_grammar::{Reply, Request, ValueBytes};
 use geo_history::History;
 use geo_journal::Room;
+use geo_requests::{Reply, Request, ValueBytes};
 use geo_site::{Answer, BoxedParcel, Event, Filled, RetireError, SendError, TakeError, Taken};
 use geo_versions::{Digest, Key};
 use std::alloc::{AllocError, Global};
@@ -95,7 +95,7 @@ impl<L: Room> Station<L> {
     }
 
     /// What lies under the lock, once no other has it.
-    fn held(&self, rt: &impl Wait) -> MutexGuard<'_, Desk<L>> {
+    pub(crate) fn held(&self, rt: &impl Wait) -> MutexGuard<'_, Desk<L>> {
         for _try in 0..TRIES {
             if let Some(desk) = self.desk.try_lock() {
                 return desk;
@@ -105,6 +105,11 @@ impl<L: Room> Station<L> {
             }
         }
         self.desk.lock(rt)
+    }
+
+    /// Leaves a history that ended with a call for whoever maintains the site.
+    pub(crate) fn leave(&self, rt: &impl Wait, ended: EndedEras) {
+        self.bygone.leave(rt, ended);
     }
 
     /// A seat that was not given yet, by rising number from 0; NoSeat where all were given. It keeps its calls where the history is
@@ -118,7 +123,7 @@ impl<L: Room> Station<L> {
 
 impl<L: Room> Station<L> {
     ghost use Rattle.sha2.specs.Sha256.{sha256};
-    ghost use Rattle.geo_grammar.specs.declared.reply.Reply.TheVariants.{OutOfMemory};
+    ghost use Rattle.geo_requests.specs.declared.reply.Reply.TheVariants.{OutOfMemory};
     ghost use Rattle.geo_station.specs.Calls.{ActsBy, SendsBy, TakesBy, FillsBy, RetiresBy, MaintainsBy, sends_made, takes_made};
     ghost use Rattle.geo_station.specs.Receipts.{IsAnswer, IsFilling, IsRetirement, LacksLeast, LacksFirst, HoldsOf};
     ghost use Rattle.geo_station.specs.Wholes.{AddsReply, AddsParcels, AddsSend, AddsTake, AddsFill, AddsRetire, AddsCare};

@@ -2,8 +2,9 @@
 ghost use Rattle.std.specs.Prelude.{◌≤◌, ◌^◌};
 
 use geo_delta::Parcel;
-use geo_grammar::{Item, Reader, Request, ValueBytes, Verb, push_reply};
+use geo_grammar::{Item, Reader, push_reply};
 use geo_history::Kept;
+use geo_requests::{Request, ValueBytes, Verb};
 use geo_versions::Key;
 use std::alloc::Global;
 use std::test::Fail;

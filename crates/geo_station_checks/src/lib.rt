@@ -11,6 +11,8 @@ mod fetches;
 #[cfg(test)]
 mod histories;
 #[cfg(test)]
+mod holds;
+#[cfg(test)]
 mod links;
 #[cfg(test)]
 mod pairs;

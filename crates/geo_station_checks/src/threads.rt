@@ -3,8 +3,8 @@ ghost use Rattle.std.specs.Prelude.{◌≡◌};
 
 use crate::stations::{act, closed, with_seats};
 use geo_fixtures::opened;
-use geo_grammar::{Reply, Request};
 use geo_history::{History, Kept};
+use geo_requests::{Reply, Request};
 use geo_site::{Answer, Event};
 use geo_station::{Call, Room, Seat, Station, Unopened};
 use std::alloc::Global;

@@ -15,7 +15,7 @@ use Rattle.geo_records.specs.Keys.{same_key}
 use Rattle.geo_versions.specs.Maps.{Rising}
 use Rattle.geo_versions.proofs.Listed.{rising_from_sorted}
 use Rattle.geo_slabs.specs.Storage.{Storage, held_in}
-use Rattle.geo_lattice.proofs.Listing.{shown_of, shown_more, one_shown, shown_distinct, shown_at, reordered_distinct, reordered_at, rises}
+use Rattle.geo_maps.proofs.Listing.{shown_of, shown_more, one_shown, shown_distinct, shown_at, reordered_distinct, reordered_at, rises}
 use Rattle.geo_values.specs.Held.{digest_of, by_key, digest_at}
 use Rattle.geo_values.specs.Links.{bytes_of, IsItem}
 use Rattle.geo_values.specs.declared.parts.Item.{Item}

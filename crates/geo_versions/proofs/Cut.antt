@@ -4,7 +4,7 @@ use Rattle.std.specs.Ordering.{nat_cmp}
 use Rattle.std.specs.Cmp.Lexicographic.{nat_list_eq_equiv}
 use Rattle.geo_laws.specs.Registers.{by_both}
 use Rattle.std.specs.Option.{option_and_then}
-use Rattle.geo_lattice.specs.Maps.{meaning_or, all_joined}
+use Rattle.geo_maps.specs.Maps.{meaning_or, all_joined}
 use Rattle.geo_stamp.specs.Stamps.{Moment, stamp_cmp}
 use Rattle.geo_records.proofs.Above.{newer_none, above_both_joined, above_both_twice, joined_above}
 use Rattle.geo_records.specs.Bodies.{body_cmp}

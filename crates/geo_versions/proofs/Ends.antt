@@ -1,7 +1,7 @@
 -- The column of ends beside the records.
 use Rattle.std.proofs.Common.{◌≡◌, ℕ, List, [], Some, sym, subst, slice_get}
-use Rattle.geo_lattice.specs.Maps.{IsColumn}
-use Rattle.geo_lattice.proofs.Entries.{some_none}
+use Rattle.geo_maps.specs.Maps.{IsColumn}
+use Rattle.geo_maps.proofs.Entries.{some_none}
 
 -- no measures are a column beside any entries
 pub forgotten : {K V : Type 0} (measured : V → ℕ) (es : List (K × V)) (cs : List ℕ) → cs ≡ [] → IsColumn measured es cs

@@ -6,7 +6,7 @@ use Rattle.std.specs.declared.cmp.Ordering.TheVariants.{Less, Equal, Greater}
 use Rattle.std.specs.Ordering.{nat_cmp, is_lt}
 use Rattle.std.specs.List.{IsAllAdjacentAnswer}
 use Rattle.std.specs.Cmp.Lexicographic.{slice_cmp, same_text, nat_list_eq_equiv}
-use Rattle.geo_lattice.proofs.Entries.{some_same, some_none}
+use Rattle.geo_maps.proofs.Entries.{some_same, some_none}
 use Rattle.geo_records.specs.Keys.{same_key}
 use Rattle.geo_records.specs.Operations.{Record, record_joined}
 use Rattle.geo_versions.specs.Records.{Rec, rec_means, listed_at, Above, Rising}

@@ -8,7 +8,7 @@ use Rattle.std.specs.Cmp.Lexicographic.{same_text}
 use Rattle.std.specs.declared.cmp.Ordering.{Ordering}
 use Rattle.std.specs.declared.cmp.Ordering.TheVariants.{Less, Equal, Greater}
 use Rattle.std.specs.Ordering.{nat_cmp, ordering_then, MatchOrdering}
-use Rattle.geo_lattice.specs.Maps.{meaning_or, all_joined}
+use Rattle.geo_maps.specs.Maps.{meaning_or, all_joined}
 use Rattle.geo_laws.specs.Registers.{newer, by_both, by_order, greater}
 use Rattle.geo_stamp.specs.Stamps.{Moment, stamp_cmp}
 use Rattle.geo_records.proofs.Above.{newer_none}

@@ -11,9 +11,9 @@ use Rattle.std.proofs.Common.{Result, Ok, Err}
 use Rattle.std.proofs.lemmas.Map.Keys.{sorted_head, sorted_tail}
 use Rattle.std.proofs.lemmas.Map.Entries.{lookup_from_place}
 use Rattle.std.proofs.lemmas.Map.Made.{is_some-lookup}
-use Rattle.geo_lattice.specs.Maps.{meaning_or, EachFound}
-use Rattle.geo_lattice.proofs.Entries.{some_same, some_none, slice_get_from_get_or}
-use Rattle.geo_lattice.proofs.Listed.{all_joined_unique}
+use Rattle.geo_maps.specs.Maps.{meaning_or, EachFound}
+use Rattle.geo_maps.proofs.Entries.{some_same, some_none, slice_get_from_get_or}
+use Rattle.geo_maps.proofs.Listed.{all_joined_unique}
 use Rattle.geo_records.specs.Keys.{same_key}
 use Rattle.geo_records.specs.Operations.{Record, record_joined}
 use Rattle.geo_versions.specs.Records.{Rec, rec_means, rec_since, since, is_unknown, listed_at, has_register, Rising}

@@ -1,7 +1,7 @@
 -- What a removal leaves of records, and what a take leaves out of them.
 use Rattle.std.proofs.Common.{◌≡◌, ◌&&◌, ℕ, Bool, true, false, cond, List, [], ◌∷◌, Option, None, Some, refl, ap, ◌∙◌, subst}
 use Rattle.std.specs.List.Retain.{RetainsInTurn}
-use Rattle.geo_lattice.specs.Maps.{meaning_or}
+use Rattle.geo_maps.specs.Maps.{meaning_or}
 use Rattle.geo_stamp.specs.Stamps.{Moment}
 use Rattle.geo_records.specs.Operations.{Record, above_both}
 use Rattle.geo_versions.specs.Records.{Rec, rec_means, rec_recent, rec_remaining, has_register, sifted, is_over, remaining}

@@ -2,7 +2,7 @@
 use Rattle.std.specs.Prelude.{ℕ, List, Option, length}
 use Rattle.std.specs.Map.{keys_of}
 pub use Rattle.geo_versions.specs.Records.{Rec, rec_means, record_at, listed_at, has_register, is_unknown, since, has_ended, is_old, recent, recent_both, sifted, is_over, remaining, Above, Rising}
-use Rattle.geo_lattice.specs.Maps.{HasRoomForList}
+use Rattle.geo_maps.specs.Maps.{HasRoomForList}
 use Rattle.geo_stamp.specs.Stamps.{Moment}
 use Rattle.geo_records.specs.Keys.{same_key}
 use Rattle.geo_records.specs.Operations.{Record, State}

@@ -3,8 +3,8 @@ use Rattle.std.specs.Prelude.{◌≡◌, ℕ, Bool, true, false, cond, not, ◌&
 use Rattle.std.specs.Ordering.{nat_cmp}
 use Rattle.std.specs.Cmp.Lexicographic.{slice_cmp}
 use Rattle.std.specs.declared.cmp.Ordering.TheVariants.{Less}
-use Rattle.geo_lattice.specs.Maps.{get, meaning_or, all_joined}
-use Rattle.geo_lattice.specs.declared.map_of.MapOf.{MapOf}
+use Rattle.geo_maps.specs.Maps.{get, meaning_or, all_joined}
+use Rattle.geo_maps.specs.declared.map_of.MapOf.{MapOf}
 use Rattle.geo_lattice.specs.declared.lww.Lww.{Lww}
 use Rattle.geo_lattice.specs.declared.pair.Pair.{Pair}
 use Rattle.geo_stamp.specs.Stamps.{Moment}

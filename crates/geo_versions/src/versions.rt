@@ -1,6 +1,6 @@
 //! The floor, and what is kept of each key.
 ghost use Rattle.std.specs.Prelude.{◌≡◌, List, ℕ};
-ghost use Rattle.geo_lattice.specs.Maps.{IsColumn};
+ghost use Rattle.geo_maps.specs.Maps.{IsColumn};
 ghost use Rattle.geo_versions.specs.Records.{Rec, record_at, LastsTo, mark_in, lasting_of, rec_means};
 ghost use Rattle.geo_records.specs.Normal.{IsNormal};
 ghost use Rattle.geo_records.proofs.Normal.{normal_prop};
@@ -8,7 +8,8 @@ ghost use Rattle.geo_records.proofs.Normal.{normal_prop};
 use crate::floor::{AboveFloor, counts, later};
 use crate::removal::{Lasting, Over};
 use crate::shown::{EndOf, Ended, Shown, UnknownTo, Whole, copied};
-use geo_lattice::{Bottom, Change, Column, Lattice, Lww, MapOf, Measure, Pair};
+use geo_lattice::{Bottom, Change, Lattice, Lww, Measure, Pair};
+use geo_maps::{Column, MapOf};
 use geo_records::{Body, Key, Rec, Version, shown_version};
 use geo_stamp::{Stamp, Vector};
 use std::alloc::{AllocError, Global};
@@ -34,7 +35,7 @@ impl Versions {
     ghost use Rattle.std.specs.Prelude.{◌≡◌, ◌+◌, ◌↔◌, List, ℕ, None, Some, IsSome, IfSome, IsOk, OnOk, OnErr, IfOk, MatchOption, slice_get, option_map, true, false, cond, option_copied, length, Bool};
     ghost use Rattle.std.specs.List.{All, IsDistinct, list_any};
     ghost use Rattle.std.specs.Map.{lookup};
-    ghost use Rattle.geo_lattice.specs.Maps.{meaning_or};
+    ghost use Rattle.geo_maps.specs.Maps.{meaning_or};
     ghost use Rattle.geo_records.specs.Keys.{same_key};
     ghost use Rattle.geo_records.specs.Operations.{above_both, record_joined, floor_joined, version_in};
     ghost use Rattle.geo_versions.specs.Maps.{floor_in, record_in, keys_in, count_in, has_register, HasRoomFor, rec_means, listed_at, since, has_ended, remaining, Rising};
@@ -301,7 +302,7 @@ impl Versions {
 }
 
 impl Lattice for Versions {
-    ghost use Rattle.geo_lattice.specs.Maps.{missing};
+    ghost use Rattle.geo_maps.specs.Maps.{missing};
     ghost use Rattle.geo_records.specs.Keys.{same_key};
     ghost use Rattle.geo_versions.specs.Maps.{state_in};
     ghost use Rattle.geo_records.specs.Normal.{Normal};

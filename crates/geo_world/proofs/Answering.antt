@@ -9,9 +9,9 @@ use Rattle.geo_records.specs.declared.version.Version.{Version}
 use Rattle.geo_records.specs.Operations.{Act, latest, version_in, version_of}
 use Rattle.geo_records.specs.Operations.Act.{Delete}
 use Rattle.geo_delta.specs.declared.parcel.Parcel.{Parcel}
-use Rattle.geo_grammar.specs.declared.request.Request.{Request}
-use Rattle.geo_grammar.specs.declared.reply.Reply.{Reply}
-use Rattle.geo_grammar.specs.declared.reply.Reply.TheVariants.{OutOfMemory}
+use Rattle.geo_requests.specs.declared.request.Request.{Request}
+use Rattle.geo_requests.specs.declared.reply.Reply.{Reply}
+use Rattle.geo_requests.specs.declared.reply.Reply.TheVariants.{OutOfMemory}
 use Rattle.geo_site.specs.declared.site.Site.{Site}
 use Rattle.geo_world.specs.declared.event.Event.TheVariants.{Command, Evict, Remove, Tick, Reap, Fill}
 use Rattle.geo_world.specs.declared.event.Trace.TheVariants.{Replied, Evicted, Removed, Ticked, Reaped, ReapRefused, Filled as FilledAs, FillRefused}

@@ -5,8 +5,8 @@ use Rattle.std.proofs.lemmas.Option.{slice_get_within}
 use Rattle.std.proofs.Math.Seq.{get_or-append_seam}
 use Rattle.geo_records.specs.Operations.{Act, latest}
 use Rattle.geo_delta.specs.declared.parcel.Parcel.{Parcel}
-use Rattle.geo_grammar.specs.declared.request.Request.{Request}
-use Rattle.geo_grammar.specs.declared.reply.Reply.{Reply}
+use Rattle.geo_requests.specs.declared.request.Request.{Request}
+use Rattle.geo_requests.specs.declared.reply.Reply.{Reply}
 use Rattle.geo_site.specs.declared.site.Site.{Site}
 use Rattle.geo_site.specs.declared.setup.Limits.{Limits}
 use Rattle.geo_world.specs.declared.event.Event.TheVariants.{Command, Tick, Reap, Retire}

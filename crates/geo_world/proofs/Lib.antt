@@ -11,11 +11,6 @@ pub mod Changing
 pub mod Answering
 pub mod Exchanging
 pub mod Running
-pub mod Knowing
-pub mod Meeting
-pub mod Requesting
-pub mod Touching
-pub mod Happening
 pub mod Horizon
 pub mod Moving
 pub mod Alone

@@ -17,8 +17,8 @@ use Rattle.geo_world.specs.declared.event.Trace.TheVariants.{Replied, Evicted, T
 use Rattle.geo_site.specs.declared.refusal.ReapError.{ReapError}
 use Rattle.geo_site.specs.declared.refusal.ReapError.TheVariants.{ClockEnded, Memory}
 use Rattle.geo_site.specs.declared.refusal.RetireError.TheVariants as retire
-use Rattle.geo_grammar.specs.declared.request.Request.{Request}
-use Rattle.geo_grammar.specs.declared.reply.Reply.{Reply}
+use Rattle.geo_requests.specs.declared.request.Request.{Request}
+use Rattle.geo_requests.specs.declared.reply.Reply.{Reply}
 use Rattle.std.specs.Prelude.{Result}
 use Rattle.geo_site.specs.Entries.{names, is_done, is_stuck, due_acts, accesses}
 use Rattle.geo_site.specs.Machine.{SiteState, fresh, Same, visible_in, with_stock, take, sifted_delta, removed, class_from, class_for, act_stock, hit_all, accessed, issue, issue_all}

@@ -13,13 +13,13 @@ use Rattle.geo_records.specs.Operations.Act.{Write, Touch, Flush, Delete}
 use Rattle.geo_records.specs.declared.body.Body.{Body}
 use Rattle.geo_records.specs.declared.body.Body.TheVariants.{Gone, Value}
 use Rattle.geo_records.specs.declared.version.Version.{Version}
-use Rattle.geo_grammar.specs.declared.request.Request.{Request}
-use Rattle.geo_grammar.specs.declared.request.Request.TheVariants.{Store, Fetch, FetchTouch, Arith, FlushAll, ShowVersion, Verbosity, Quit}
-use Rattle.geo_grammar.specs.declared.request.Request.TheVariants as request
-use Rattle.geo_grammar.specs.declared.reply.Reply.{Reply}
-use Rattle.geo_grammar.specs.declared.reply.Reply.TheVariants.{MapFull, ClockEnded}
-use Rattle.geo_grammar.specs.declared.reply.Found.{Found}
-use Rattle.geo_grammar.specs.declared.stats.Stats.{Stats}
+use Rattle.geo_requests.specs.declared.request.Request.{Request}
+use Rattle.geo_requests.specs.declared.request.Request.TheVariants.{Store, Fetch, FetchTouch, Arith, FlushAll, ShowVersion, Verbosity, Quit}
+use Rattle.geo_requests.specs.declared.request.Request.TheVariants as request
+use Rattle.geo_requests.specs.declared.reply.Reply.{Reply}
+use Rattle.geo_requests.specs.declared.reply.Reply.TheVariants.{MapFull, ClockEnded}
+use Rattle.geo_requests.specs.declared.reply.Found.{Found}
+use Rattle.geo_requests.specs.declared.stats.Stats.{Stats}
 use Rattle.geo_memcache.specs.Entries.{Entry, is_live, expiry_at}
 use Rattle.geo_memcache.specs.Decisions.{stores, deletes, touches, counts}
 use Rattle.geo_world.specs.declared.event.Event.{Event}

@@ -16,8 +16,8 @@ use Rattle.geo_site.specs.declared.fill.Filled.{Filled as FilledAs}
 use Rattle.geo_site.specs.declared.fill.Filled.TheVariants.{NotNamed, Full, Done}
 use Rattle.geo_site.specs.declared.fill.Filled.TheVariants as filled
 use Rattle.geo_site.specs.declared.setup.Limits.{Limits}
-use Rattle.geo_grammar.specs.declared.request.Request.{Request}
-use Rattle.geo_grammar.specs.declared.reply.Reply.{Reply}
+use Rattle.geo_requests.specs.declared.request.Request.{Request}
+use Rattle.geo_requests.specs.declared.reply.Reply.{Reply}
 use Rattle.geo_site.specs.Entries.{Held, Counts, counted, evicted_on, names, named_by, waits_after, due_acts, waits_on, is_done}
 use Rattle.geo_site.specs.Machine.{act_held, held_with, is_victim, without}
 use Rattle.geo_world.specs.Schedule.{Sending, Known, never_sent, nothing_known, still_held, settles, new_operation, issues, learns, carried, told_retired, holds_retired, issues_on, counts_keys, lets_go, evicts, carries_out, happens, waits, flushed, visible, reaps_on, fills, FilledIn, Lawful}

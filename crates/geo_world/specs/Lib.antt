@@ -8,6 +8,5 @@ pub mod Bounds
 pub mod Agreement
 pub mod Doing
 pub mod Tables
-pub mod Plain
 pub mod Running
 pub mod Surviving

@@ -4,8 +4,8 @@ use Rattle.sha2.specs.Sha256.{sha256}
 use Rattle.geo_records.specs.Operations.{Operation, Among, version_of}
 use Rattle.geo_records.specs.Operations.Act.{Write}
 use Rattle.geo_records.specs.declared.version.Version.{Version}
-use Rattle.geo_grammar.specs.declared.reply.Reply.{Reply}
-use Rattle.geo_grammar.specs.declared.reply.Found.{Found}
+use Rattle.geo_requests.specs.declared.reply.Reply.{Reply}
+use Rattle.geo_requests.specs.declared.reply.Found.{Found}
 use Rattle.geo_site.specs.Entries.{values_in}
 use Rattle.geo_world.specs.declared.event.Event.{Event}
 use Rattle.geo_world.specs.declared.event.Event.TheVariants.{Command, Fill}

@@ -1,5 +1,5 @@
 //! What can happen in a schedule, and what came of it.
-use geo_grammar::{Reply, Request, ValueBytes};
+use geo_requests::{Reply, Request, ValueBytes};
 use geo_site::{Filled, ReapError, RetireError, SendError, TakeError};
 use geo_versions::Key;
 

@@ -8,7 +8,6 @@
 pub mod event;
 mod open;
 mod outcome;
-pub mod plain;
 mod run;
 mod step;
 mod there;
@@ -17,6 +16,6 @@ mod world;
 pub use event::{Event, Trace};
 pub use open::are_good;
 pub use outcome::{Outcome, WorldError};
-pub use run::{are_in_time, run_schedule};
-pub use there::first_missing;
+pub use run::{are_in_time, is_in_time_event, run_schedule};
+pub use there::{first_missing, has_site, is_at_hand};
 pub use world::World;

@@ -21,7 +21,7 @@ use geo_site::{LAST_MOMENT, SendError, Setup, TakeError};
 use std::alloc::Global;
 
 /// Whether the moment of an event, if it has one, is one of a schedule.
-pub(crate) fn is_in_time_event(event: &Event) -> bool
+pub fn is_in_time_event(event: &Event) -> bool
     ensures { result ≡ is_in_time event.now }
 {
     match event {

@@ -5,14 +5,14 @@ ghost use Rattle.geo_world.specs.There.{is_site, is_there, made_by, FirstMissing
 use crate::event::Event;
 
 /// Whether a site of this number is among so many.
-pub(crate) fn has_site(sites: usize, number: u8) -> bool
+pub fn has_site(sites: usize, number: u8) -> bool
     ensures { result ≡ is_site sites number }
 {
     number >= 1 && number as usize <= sites
 }
 
 /// Whether the sites and the parcel that an event names are among so many.
-pub(crate) fn is_at_hand(sites: usize, parcels: usize, event: &Event) -> bool
+pub fn is_at_hand(sites: usize, parcels: usize, event: &Event) -> bool
     ensures { result ≡ is_there sites parcels event.now }
 {
     match event {

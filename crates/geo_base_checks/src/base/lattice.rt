@@ -1,12 +1,13 @@
 //! Values that join, and maps of them.
 ghost use Rattle.std.specs.Prelude.{◌≡◌, Option, None, Some, refl, false, nat_lt};
-ghost use Rattle.geo_lattice.specs.Maps.{meaning_or};
+ghost use Rattle.geo_maps.specs.Maps.{meaning_or};
 ghost use Rattle.geo_lattice.specs.declared.lww.Lww.{Lww};
 
 use crate::base::text::{Row, check, join, numbers, show_number, show_numbers};
 use geo_lattice::{
-    Bottom, Change, Glance, Items, Lattice, Lww, MapOf, Max, Measure, Pair, Show, Test, Twin,
+    Bottom, Change, Glance, Items, Lattice, Lww, Max, Measure, Pair, Show, Test, Twin,
 };
+use geo_maps::MapOf;
 use std::alloc::{AllocError, Global};
 use std::hash::RandomState;
 use std::process::Abort;

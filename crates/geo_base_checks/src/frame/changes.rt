@@ -1,10 +1,11 @@
 //! That the newest changes give what a scan of all records gives, and which parcels are cut of them.
 ghost use Rattle.std.specs.Prelude.{◌≡◌, true, IfOk, OnOk};
 ghost use Rattle.geo_versions.specs.Maps.{record_in};
-ghost use Rattle.geo_delta.specs.Changes.{KnowsBut, Traced, nothing_pending};
+ghost use Rattle.geo_delta.specs.Changes.{KnowsBut, nothing_pending};
+ghost use Rattle.geo_delta.specs.Telling.{Tells};
 
 use super::show::{frame, push_number, push_parcel};
-use geo_delta::{Buffer, Parcel, cut};
+use geo_delta::{Changes, Parcel, cut};
 use geo_frame::Message;
 use geo_lattice::Twin;
 use geo_stamp::{Retired, Stamp, Vector};
@@ -17,21 +18,24 @@ mod table;
 
 use table::Op;
 
+/// How many changes further back than the newest are kept.
+const BEHIND: usize = 8192;
+
 /// What a site of two keeps that notes each change.
 #[derive(Drop)]
 struct Site {
     versions: Versions,
-    changes: Buffer,
+    changes: Changes,
     vector: Vector,
 }
 
 fn new_site(rt: &HostRuntime) -> Result<Site, Fail>
-    ensures { IfOk result (λ s. Traced nothing_pending (record_in s.versions) s.changes) }
+    ensures { IfOk result (λ s. Tells nothing_pending (record_in s.versions) s.changes) }
 {
     let alloc = rt.alloc();
     Ok(Site {
         versions: Versions::new(alloc, RandomState::new(rt)?),
-        changes: Buffer::new(alloc, 2)?,
+        changes: Changes::new(alloc, 2, BEHIND)?,
         vector: Vector::new(2),
     })
 }
@@ -46,15 +50,18 @@ fn knows_all(versions: &Versions, vector: &Vector, alloc: Global) -> Result<bool
 
 /// Writes a key and notes it.
 fn write(site: &mut Site, alloc: Global, key: &Key, stamp: Stamp, body: Body) -> Result<(), Fail>
-    requires { Traced nothing_pending (record_in site.old.versions) site.old.changes }
-    ensures { OnOk result (Traced nothing_pending (record_in site.new.versions) site.new.changes) }
+    requires { Tells nothing_pending (record_in site.old.versions) site.old.changes }
+    ensures { OnOk result (Tells nothing_pending (record_in site.new.versions) site.new.changes) }
 {
     site.versions.write(alloc, key, stamp, body, 0)?;
     site.vector.raise(stamp.site(), stamp.time());
     if !knows_all(&site.versions, &site.vector, alloc)? {
         return Err("not known".into());
     }
-    if !site.changes.note(key, &site.vector) {
+    if !site.changes.newest.note(key, &site.vector) {
+        return Err("no memory".into());
+    }
+    if !site.changes.trail.note(key, &site.vector) {
         return Err("no memory".into());
     }
     Ok(())
@@ -62,12 +69,13 @@ fn write(site: &mut Site, alloc: Global, key: &Key, stamp: Stamp, body: Body) ->
 
 /// Keeps no change, but what is known.
 fn lose(site: &mut Site, alloc: Global) -> Result<(), Fail>
-    ensures { OnOk result (Traced nothing_pending (record_in site.new.versions) site.new.changes) }
+    ensures { OnOk result (Tells nothing_pending (record_in site.new.versions) site.new.changes) }
 {
     if !knows_all(&site.versions, &site.vector, alloc)? {
         return Err("not known".into());
     }
-    site.changes.lose(&site.vector);
+    site.changes.newest.lose(&site.vector);
+    site.changes.trail.lose();
     Ok(())
 }
 
@@ -90,8 +98,8 @@ fn write_at(
     time: u64,
     body: Body,
 ) -> Result<(), Fail>
-    requires { Traced nothing_pending (record_in site.old.versions) site.old.changes }
-    ensures { OnOk result (Traced nothing_pending (record_in site.new.versions) site.new.changes) }
+    requires { Tells nothing_pending (record_in site.old.versions) site.old.changes }
+    ensures { OnOk result (Tells nothing_pending (record_in site.new.versions) site.new.changes) }
 {
     let stamp = Stamp::new(time, by).ok_or("no stamp")?;
     let key = key(alloc, number)?;
@@ -100,8 +108,8 @@ fn write_at(
 
 /// Deletes the keys of so many numbers, one after the other.
 fn delete_many(site: &mut Site, alloc: Global, many: usize) -> Result<(), Fail>
-    requires { Traced nothing_pending (record_in site.old.versions) site.old.changes }
-    ensures { OnOk result (Traced nothing_pending (record_in site.new.versions) site.new.changes) }
+    requires { Tells nothing_pending (record_in site.old.versions) site.old.changes }
+    ensures { OnOk result (Tells nothing_pending (record_in site.new.versions) site.new.changes) }
 {
     for number in 0..many {
         write_at(site, alloc, number, 1, number as u64 + 1, Body::Gone)?;
@@ -134,7 +142,7 @@ fn retired() -> Retired {
 
 /// The parcel that the changes give from a base.
 fn parcel(site: &Site, alloc: Global, base: &Vector) -> Result<Parcel, AllocError>
-    requires { Traced nothing_pending (record_in site.now.versions) site.now.changes }
+    requires { Tells nothing_pending (record_in site.now.versions) site.now.changes }
 {
     cut(
         alloc,
@@ -159,7 +167,7 @@ fn are_same(one: &[(Key, Rec)], other: &[(Key, Rec)]) -> bool {
 
 /// Whether a parcel from this base has the records that a scan of all finds.
 fn cuts_as_a_scan(site: &Site, alloc: Global, base: &Vector) -> Result<bool, AllocError>
-    requires { Traced nothing_pending (record_in site.now.versions) site.now.changes }
+    requires { Tells nothing_pending (record_in site.now.versions) site.now.changes }
 {
     let all = site.versions.since(alloc, base)?;
     let parcel = parcel(site, alloc, base)?;
@@ -173,20 +181,35 @@ fn push_recent(
     alloc: Global,
     base: &Vector,
 ) -> Result<(), AllocError>
-    requires { Traced nothing_pending (record_in site.now.versions) site.now.changes }
+    requires { Tells nothing_pending (record_in site.now.versions) site.now.changes }
 {
     if !cuts_as_a_scan(site, alloc, base)? {
         out.extend_from_slice(b"unlike a scan ")?;
     }
-    match site.changes.recent(alloc, &site.versions, base)? {
+    match site.changes.newest.recent(alloc, &site.versions, base)? {
         Some(all) => push_number(out, all.len() as u64, b" "),
         None => out.extend_from_slice(b"none "),
     }
 }
 
+/// How many records the changes further back give, `none` where they tell of no vector that the base covers.
+fn push_behind(
+    out: &mut Vec<u8>,
+    site: &Site,
+    alloc: Global,
+    base: &Vector,
+) -> Result<(), AllocError>
+    requires { Tells nothing_pending (record_in site.now.versions) site.now.changes }
+{
+    match site.changes.trail.recent(alloc, &site.versions, base)? {
+        Some(all) => push_number(out, all.len() as u64, b" behind "),
+        None => out.extend_from_slice(b"none behind "),
+    }
+}
+
 /// The parcel from a base, a copy of it, and how long its frame is.
 fn push_cut(out: &mut Vec<u8>, site: &Site, alloc: Global, base: &Vector) -> Result<(), Fail>
-    requires { Traced nothing_pending (record_in site.now.versions) site.now.changes }
+    requires { Tells nothing_pending (record_in site.now.versions) site.now.changes }
 {
     let parcel = parcel(site, alloc, base)?;
     push_parcel(out, &parcel)?;
@@ -201,8 +224,8 @@ fn push_cut(out: &mut Vec<u8>, site: &Site, alloc: Global, base: &Vector) -> Res
 }
 
 fn step(site: &mut Site, alloc: Global, op: Op, out: &mut Vec<u8>) -> Result<(), Fail>
-    requires { Traced nothing_pending (record_in site.old.versions) site.old.changes }
-    ensures { OnOk result (Traced nothing_pending (record_in site.new.versions) site.new.changes) }
+    requires { Tells nothing_pending (record_in site.old.versions) site.old.changes }
+    ensures { OnOk result (Tells nothing_pending (record_in site.new.versions) site.new.changes) }
 {
     match op {
         Op::Delete(number, by, time) => write_at(site, alloc, number, by, time, Body::Gone),
@@ -210,18 +233,19 @@ fn step(site: &mut Site, alloc: Global, op: Op, out: &mut Vec<u8>) -> Result<(),
         Op::Value(number) => write_at(site, alloc, number, 1, 1, empty_value()),
         Op::Lose => lose(site, alloc),
         Op::Recent(first, second) => Ok(push_recent(out, site, alloc, &clocks(first, second))?),
+        Op::Behind(first, second) => Ok(push_behind(out, site, alloc, &clocks(first, second))?),
         Op::Cut(first, second) => push_cut(out, site, alloc, &clocks(first, second)),
     }
 }
 
 fn follow(site: &mut Site, alloc: Global, ops: &[Op], out: &mut Vec<u8>) -> Result<(), Fail>
-    requires { Traced nothing_pending (record_in site.old.versions) site.old.changes }
+    requires { Tells nothing_pending (record_in site.old.versions) site.old.changes }
 {
     for op in ops {
         step(site, alloc, *op, out)?;
     }
     out.extend_from_slice(b"reach ")?;
-    Ok(push_number(out, site.changes.reach().entry(1), b"")?)
+    Ok(push_number(out, site.changes.newest.reach().entry(1), b"")?)
 }
 
 /// What a new site shows that does all of this.

@@ -1,10 +1,8 @@
 //! The texts of answers and of faults, from memcached's protocol.txt.
 use super::show::{items_of, push_bytes, push_number, value};
-use geo_grammar::{
-    Found, Item, Reply, Request, Shared, Shown, ValueBytes, fault_text, push_answer, push_reply,
-    render,
-};
+use geo_grammar::{Item, fault_text, push_answer, push_reply, render};
 use geo_lattice::Twin;
+use geo_requests::{Found, Reply, Request, Shared, Shown, ValueBytes};
 use geo_versions::Key;
 use std::alloc::{AllocError, Global};
 use std::process::Abort;

@@ -2,7 +2,8 @@
 ghost use Rattle.std.specs.Prelude.{◌≤◌};
 
 use super::show::push_items;
-use geo_grammar::{Item, Reader, Request, read_all};
+use geo_grammar::{Item, Reader, read_all};
+use geo_requests::Request;
 use geo_versions::Digest;
 use std::alloc::{AllocError, Global};
 use std::process::Abort;

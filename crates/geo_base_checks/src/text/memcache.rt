@@ -1,7 +1,8 @@
 //! What is decided of one entry, worked out by hand from memcached's protocol.txt.
 use super::show::{items_of, push_bytes, push_number};
-use geo_grammar::{Item, Request, ValueBytes, Verb, push_reply};
+use geo_grammar::{Item, push_reply};
 use geo_memcache::{Answer, Ask, Effect, Entry, ask_of, decide, expiry_of, live};
+use geo_requests::{Request, ValueBytes, Verb};
 use std::alloc::{AllocError, Global};
 use std::process::Abort;
 use std::test::Fail;

@@ -1,6 +1,7 @@
 //! Values as texts, so that one comparison of texts compares all of them.
-use geo_grammar::{Fault, Item, Reader, Request, ValueBytes, Verb};
+use geo_grammar::{Fault, Item, Reader};
 use geo_lattice::Items;
+use geo_requests::{Request, ValueBytes, Verb};
 use geo_versions::Key;
 use std::alloc::{AllocError, Global};
 

@@ -1,7 +1,8 @@
 //! Values that a reply shows more than once, and a reply that is told piece by piece.
 use super::show::{push_bytes, push_number};
-use geo_grammar::{Found, Reply, Shared, Shown, begin_reply};
+use geo_grammar::begin_reply;
 use geo_lattice::Twin;
+use geo_requests::{Found, Reply, Shared, Shown};
 use geo_versions::Key;
 use std::alloc::{AllocError, Global};
 use std::test::Fail;

@@ -1,7 +1,7 @@
 //! The client of a site: the bytes that it sends, and its answers.
 ghost use Rattle.std.specs.Prelude.{◌≡◌, ◌≢◌, ◌≤◌, ◌∷◌, ◌++◌, [], IfErr, IfOk, OnOk};
 ghost use Rattle.geo_grammar.specs.Replies.{answer_bytes};
-ghost use Rattle.geo_grammar.specs.declared.reply.Reply.TheVariants.{OutOfMemory};
+ghost use Rattle.geo_requests.specs.declared.reply.Reply.TheVariants.{OutOfMemory};
 ghost use Rattle.geo_grammar.specs.declared.item.Item.TheVariants as item;
 ghost use Rattle.geo_cluster.specs.Sayings.{SaysClient};
 ghost use Rattle.geo_cluster.specs.Standing.{AnswersFor, LineDoes};
@@ -9,7 +9,8 @@ ghost use Rattle.geo_cluster.specs.Wants.{WantsFor};
 
 use crate::script::cluster::Cluster;
 use crate::script::texts::answer_line;
-use geo_grammar::{Item, Reply, Request, fault_text, push_answer};
+use geo_grammar::{Item, fault_text, push_answer};
+use geo_requests::{Reply, Request};
 use geo_world::{Event, Trace};
 use std::alloc::{AllocError, Global};
 

@@ -8,7 +8,7 @@ use crate::script::connection::Connection;
 use crate::script::line::ScriptLine;
 use crate::script::listing::versions_lines;
 use crate::script::setups::{connections, opened, told};
-use geo_grammar::ValueBytes;
+use geo_requests::ValueBytes;
 use geo_world::{Event, World};
 use std::alloc::{AllocError, Global};
 use std::hash::RandomState;

@@ -9,7 +9,7 @@ ghost use Rattle.geo_cluster.specs.Wants.{has_text, CarriesAt};
 use crate::script::escape::{spelling, unescape};
 use crate::script::line::ScriptLine;
 use crate::script::split::split_at;
-use geo_grammar::number;
+use geo_requests::number;
 use geo_site::{LAST_MOMENT, MOST_RECORDS};
 use geo_slabs::{CLASSES, MOST_PAGES};
 use geo_stamp::MOST_SITES;

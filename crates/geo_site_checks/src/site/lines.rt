@@ -4,7 +4,8 @@ use crate::site::shown::{
 };
 use crate::site::told::told;
 use geo_delta::Parcel;
-use geo_grammar::{Item, Reader, Request, ValueBytes, Verb, fault_text, push_answer};
+use geo_grammar::{Item, Reader, fault_text, push_answer};
+use geo_requests::{Request, ValueBytes, Verb};
 use geo_site::{ReapError, RetireError, SendError, Site};
 use geo_versions::Key;
 use std::alloc::{AllocError, Global};
@@ -25,7 +26,7 @@ pub fn cut(text: &str) -> (&str, &str) {
 
 /// What a word of digits says, 0 where it is none.
 pub fn number(word: &str) -> u64 {
-    geo_grammar::number(word.as_bytes(), u64::MAX).unwrap_or(0)
+    geo_requests::number(word.as_bytes(), u64::MAX).unwrap_or(0)
 }
 
 /// A site's number, or a number of sites.

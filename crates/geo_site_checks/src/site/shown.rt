@@ -1,6 +1,7 @@
 //! What lines append.
 use geo_delta::Parcel;
-use geo_grammar::{Request, push_answer};
+use geo_grammar::push_answer;
+use geo_requests::Request;
 use geo_site::{Acted, Refused, Site, TakeError, Taken};
 use geo_stamp::{Retired, Vector};
 use geo_versions::{Digest, Version};

@@ -3,8 +3,8 @@ ghost use Rattle.std.specs.Prelude.{◌≤◌};
 
 use super::dice::{Dice, EVENTS};
 use super::key;
-use geo_grammar::{Request, ValueBytes, Verb};
 use geo_lattice::{Items, Twin};
+use geo_requests::{Request, ValueBytes, Verb};
 use geo_versions::Key;
 use geo_world::Event;
 use std::alloc::Global;

@@ -2,14 +2,14 @@
 ghost use Rattle.std.specs.Prelude.{◌≤◌, ◌^◌};
 
 use geo_equal::Equal;
-use geo_grammar::{Found, Reply, Request, Stats};
 use geo_lattice::Twin;
 use geo_memcache::{Answer, Ask, Decision, Effect, ask_of, expiry_of};
+use geo_plain::knowledge::Knowledge;
+use geo_plain::meaning::{is_on, latest};
+use geo_plain::operation::Act;
+use geo_requests::{Found, Reply, Request, Stats};
 use geo_stamp::Stamp;
 use geo_versions::Key;
-use geo_world::plain::knowledge::Knowledge;
-use geo_world::plain::meaning::{is_on, latest};
-use geo_world::plain::operation::Act;
 use std::alloc::Global;
 use std::test::Fail;
 

@@ -1,8 +1,8 @@
 //! What the plain program says of what a store evicts.
-use geo_grammar::{Reply, Request};
 use geo_memcache::{Ask, Effect, ask_of};
+use geo_plain::knowledge::Knowledge;
+use geo_requests::{Reply, Request};
 use geo_versions::Key;
-use geo_world::plain::knowledge::Knowledge;
 use std::alloc::Global;
 use std::test::Fail;
 

@@ -3,13 +3,13 @@ ghost use Rattle.std.specs.Prelude.{◌≤◌};
 
 use super::due::{Table, replies_as_due};
 use super::evicts::evicts_as_due;
-use geo_grammar::{Reply, Request, ValueBytes};
+use geo_plain::knowledge::Knowledge;
+use geo_plain::known::{Known, known_after};
+use geo_plain::meaning::latest;
+use geo_requests::{Reply, Request, ValueBytes};
 use geo_site::{Filled, RetireError, SendError, Setup, Site, TakeError};
 use geo_stamp::Retired;
 use geo_versions::Key;
-use geo_world::plain::knowledge::Knowledge;
-use geo_world::plain::known::{Known, known_after};
-use geo_world::plain::meaning::latest;
 use geo_world::{Event, Outcome, Trace};
 use std::alloc::Global;
 use std::test::Fail;

@@ -1,5 +1,6 @@
 //! Events as lines: a site's number, a word, and what the word wants. What comes of them is shown as text.
-use geo_grammar::{Item, Reader, Request, push_reply};
+use geo_grammar::{Item, Reader, push_reply};
+use geo_requests::Request;
 use geo_site::{RetireError, SendError, Site, TakeError};
 use geo_versions::Key;
 use geo_world::{Event, Outcome, Trace, WorldError};
@@ -12,7 +13,7 @@ fn cut(text: &str) -> (&str, &str) {
 
 /// What a word of digits says, 0 where it is none.
 fn number(word: &str) -> u64 {
-    geo_grammar::number(word.as_bytes(), u64::MAX).unwrap_or(0)
+    geo_requests::number(word.as_bytes(), u64::MAX).unwrap_or(0)
 }
 
 /// A site's number.

@@ -5,7 +5,7 @@ use super::drawn::schedule;
 use super::due::Table;
 use super::follow::named;
 use super::{Plan, key, run, setups};
-use geo_grammar::Reply;
+use geo_requests::Reply;
 use geo_site::{SendError, TakeError};
 use geo_versions::Key;
 use geo_world::{Event, Trace};

@@ -1,6 +1,6 @@
 //! A column beside a map: the same rows as without one, and what is found by it is what is found without it.
 ghost use Rattle.std.specs.Prelude.{ℕ, nat_lt, ◌&&◌, false, None, Some};
-ghost use Rattle.geo_lattice.specs.Maps.{IsColumn, meaning_or};
+ghost use Rattle.geo_maps.specs.Maps.{IsColumn, meaning_or};
 ghost use Rattle.geo_lattice.specs.declared.lww.Lww.{Lww};
 
 use crate::base::lattice::table::{MAPS, MapRow, Step};
@@ -8,7 +8,8 @@ use crate::base::lattice::{
     After, AsItIs, Map, Name, Register, StampOf, list_of, numbers, register, show_map, step,
 };
 use crate::base::text::check;
-use geo_lattice::{Column, MapOf, Test};
+use geo_lattice::Test;
+use geo_maps::{Column, MapOf};
 use std::alloc::{AllocError, Global};
 use std::hash::RandomState;
 use std::process::Abort;

@@ -1,12 +1,13 @@
 //! What a removal drops one by one beside a column, and in a pass over all as it was done before there were columns: the same is left,
 //! and the same is found first.
 ghost use Rattle.std.specs.Prelude.{ℕ, None, cond, nat_le, nat_lt, nat_eq, ◌&&◌, ◌%◌, false};
-ghost use Rattle.geo_lattice.specs.Maps.{IsColumn, meaning_or};
+ghost use Rattle.geo_maps.specs.Maps.{IsColumn, meaning_or};
 ghost use Rattle.geo_lattice.specs.declared.lww.Lww.{Lww};
 
 use crate::base::lattice::{After, AsItIs, Map, Name, Register, StampOf, register};
 use crate::base::random::Random;
-use geo_lattice::{Change, Column, Lww, MapOf, Measure, Test};
+use geo_lattice::{Change, Lww, Measure, Test};
+use geo_maps::{Column, MapOf};
 use std::alloc::{AllocError, Global};
 use std::hash::RandomState;
 use std::process::Abort;

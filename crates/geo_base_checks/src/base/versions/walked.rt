@@ -5,7 +5,8 @@ ghost use Rattle.geo_versions.specs.Records.{has_ended, is_old, rec_above, rec_m
 
 use crate::base::random::Random;
 use crate::base::versions::body;
-use geo_lattice::{Bottom, Change, Exact, Lattice, Lww, MapOf, Pair, Test, Twin};
+use geo_lattice::{Bottom, Change, Exact, Lattice, Lww, Pair, Test, Twin};
+use geo_maps::MapOf;
 use geo_records::shown_version;
 use geo_stamp::Stamp;
 use geo_versions::{Body, Key, Rec, Versions};

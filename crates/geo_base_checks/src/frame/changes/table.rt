@@ -14,6 +14,8 @@ pub enum Op {
     Lose,
     /// Shows how many records the changes give to one who knows these clocks of both sites.
     Recent(u32, u32),
+    /// Shows how many records the changes further back give to one who knows these clocks of both sites.
+    Behind(u32, u32),
     /// Shows the parcel to one who knows these clocks of both sites, a copy of it, and how long its frame is.
     Cut(u32, u32),
 }
@@ -33,6 +35,34 @@ pub const ROWS: &[(&[Op], &[u8])] = &[
             Op::Recent(1, 0),
         ],
         b"none 4096 reach 1",
+    ),
+    // Behind them are found those that came after what was known at the first change, or 64 changes later.
+    (
+        &[
+            Op::DeleteMany(MOST_CHANGES + 200),
+            Op::Recent(64, 0),
+            Op::Behind(0, 0),
+            Op::Behind(1, 0),
+            Op::Behind(64, 0),
+            Op::Behind(65, 0),
+            Op::Behind(4296, 0),
+        ],
+        b"none none behind 4295 behind 4232 behind 4231 behind 0 behind reach 200",
+    ),
+    // A key that changed twice is listed once, further back too; what was kept and is lost tells of nothing.
+    (
+        &[
+            Op::Delete(7, 1, 1),
+            Op::Delete(8, 1, 2),
+            Op::Delete(8, 1, 3),
+            Op::Behind(1, 0),
+            Op::Lose,
+            Op::Behind(1, 0),
+            Op::Delete(9, 1, 4),
+            Op::Delete(9, 1, 5),
+            Op::Behind(4, 0),
+        ],
+        b"1 behind none behind 1 behind reach 3",
     ),
     // A key that changed twice is listed once.
     (

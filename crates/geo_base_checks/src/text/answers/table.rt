@@ -1,5 +1,6 @@
 //! Replies, faults and requests, with the texts of their answers.
-use geo_grammar::{Fault, Reply, Stats};
+use geo_grammar::Fault;
+use geo_requests::{Reply, Stats};
 
 const STATS: Stats = Stats {
     curr_items: 1,

@@ -1,6 +1,6 @@
 //! Asks of one entry, and what is decided of them at the moment 100: what is answered, and behind it what becomes of the entry;
 //! first where there is none, and behind a bar where there is one, with flags 7, expiry 150 and number 257.
-use geo_grammar::{LONGEST_VALUE, Verb};
+use geo_requests::{LONGEST_VALUE, Verb};
 
 /// A storage command, the number that the client saw, and what is decided.
 type Store = (Verb, Option<u64>, &'static [u8]);

@@ -1,5 +1,5 @@
 use Rattle.std.proofs.Common.{◌∙◌}
-use Rattle.geo_session.proofs.Pieces.{Sends-then}
+use Rattle.geo_dialogue.proofs.Pieces.{Sends-then}
 use Rattle.geo_crowd.proofs.carried.send.Goals as goal
 
 pub loop-stream-preserved : goal.loop-stream-preserved

@@ -1,5 +1,5 @@
 use Rattle.std.proofs.Common.{◌≡◌, length}
-use Rattle.geo_session.specs.Sessions.{Sends}
+use Rattle.geo_dialogue.specs.Sessions.{Sends}
 use Rattle.geo_crowd.proofs.carried.send.Given as goal
 
 abbrev pub invariant-loop-stream : goal.invariant-loop-stream

@@ -9,7 +9,7 @@ use Rattle.geo_records.specs.Operations.{Record}
 use Rattle.geo_delta.specs.Heads.{keys_under}
 use Rattle.geo_delta.proofs.Heads.{keys_push}
 use Rattle.geo_delta.proofs.News.{news, found_is_news, one_more, none_more, news_rise, news_at, news_filled}
-use Rattle.geo_lattice.proofs.Showing.{rest_more, rest_none}
+use Rattle.geo_maps.proofs.Showing.{rest_more, rest_none}
 use Rattle.geo_delta.proofs.buffer.looked_up.Goals as goal
 
 pub loop-headed-preserved-in_ok-push : goal.loop-headed-preserved-in_ok-push

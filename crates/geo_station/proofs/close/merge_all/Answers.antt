@@ -2,7 +2,7 @@ use Rattle.std.proofs.Common.{◌≡◌, ◌+◌, [], ◌∷◌, ◌++◌, sym, 
 use Rattle.std.specs.List.{All}
 use Rattle.std.proofs.lemmas.List.Elements.{All-push}
 use Rattle.std.proofs.lemmas.List.Sums.{sum_by-cons}
-use Rattle.geo_lattice.proofs.Showing.{rest_more, rest_none}
+use Rattle.geo_maps.proofs.Showing.{rest_more, rest_none}
 use Rattle.geo_journal.specs.Marks.{Noted, Marked, Agree}
 use Rattle.geo_station.specs.Seats.{Seated}
 use Rattle.geo_station.proofs.close.merge_all.Goals as goal

@@ -1,6 +1,7 @@
 use Rattle.geo_versions.specs.Maps.{record_in}
-use Rattle.geo_delta.specs.Changes.{Traced, nothing_pending}
+use Rattle.geo_delta.specs.Changes.{nothing_pending}
+use Rattle.geo_delta.specs.Telling.{Tells}
 use Rattle.geo_base_checks.proofs.frame.changes.delete_many.Given as goal
 
 abbrev pub invariant-loop-number : goal.invariant-loop-number
-invariant-loop-number l = Traced nothing_pending (record_in l.site.versions) l.site.changes
+invariant-loop-number l = Tells nothing_pending (record_in l.site.versions) l.site.changes

@@ -15,8 +15,8 @@ invariant_of-self g c =
       outcome = c.self.inside.outcome;
     } in
     let here : CanGoOn old = subst CanGoOn (sym c.self.view_is) can in
-    carries_gone g.B.Backend.answers g.B.Backend.refuses (g.S.Stream.contents c.self.inside.stream) c.self.inside.session c.go_on-gone.new.self c.self.inside.outcome c.args.backend.now c.go_on-gone.new.backend c.self.invariant here.waits
-    c.go_on-gone.result c.outcome_behind-self-inside.result c.go_on-gone.ensures.ok c.go_on-gone.ensures.err c.outcome_behind-self-inside.ensures
+    carries_gone g.B.Backend.answers g.B.Backend.refuses (g.S.Stream.contents c.self.inside.stream) c.self.inside.session c.go_along-gone.new.self c.self.inside.outcome c.args.backend.now c.go_along-gone.new.backend c.self.invariant here.waits
+    c.go_along-gone.result c.outcome_behind-self-inside.result c.go_along-gone.ensures.ok c.go_along-gone.ensures.err c.outcome_behind-self-inside.ensures
 
 pub returns : goal.returns
 returns g c =
@@ -29,15 +29,15 @@ returns g c =
       session = c.self.inside.session;
       outcome = c.self.inside.outcome;
     } in
-    let new : Carriage = record old { session = c.go_on-gone.new.self; outcome = c.outcome_behind-self-inside.result } in
+    let new : Carriage = record old { session = c.go_along-gone.new.self; outcome = c.outcome_behind-self-inside.result } in
     let here : CanGoOn old = subst CanGoOn (sym c.self.view_is) can in
-    let proceeds : Proceeds g.B.Backend.answers g.B.Backend.refuses old new c.args.backend.now c.go_on-gone.new.backend = record {
+    let proceeds : Proceeds g.B.Backend.answers g.B.Backend.refuses old new c.args.backend.now c.go_along-gone.new.backend = record {
       can = here;
-      gone = gone_by g.B.Backend.answers g.B.Backend.refuses c.go_on-gone.result old new c.args.backend.now c.go_on-gone.new.backend c.go_on-gone.ensures.ok c.go_on-gone.ensures.far c.go_on-gone.ensures.err c.outcome_behind-self-inside.ensures;
+      gone = gone_by g.B.Backend.answers g.B.Backend.refuses c.go_along-gone.result old new c.args.backend.now c.go_along-gone.new.backend c.go_along-gone.ensures.ok c.go_along-gone.ensures.far c.go_along-gone.ensures.err c.outcome_behind-self-inside.ensures;
       left = refl;
       written = refl;
       given = refl;
       accepted = refl;
     } in
-    let step : MayGoOn g.B.Backend.answers g.B.Backend.refuses old new c.args.backend.now c.go_on-gone.new.backend = inr proceeds in
-    subst (λ (v : Carriage). MayGoOn g.B.Backend.answers g.B.Backend.refuses v new c.args.backend.now c.go_on-gone.new.backend) c.self.view_is step
+    let step : MayGoOn g.B.Backend.answers g.B.Backend.refuses old new c.args.backend.now c.go_along-gone.new.backend = inr proceeds in
+    subst (λ (v : Carriage). MayGoOn g.B.Backend.answers g.B.Backend.refuses v new c.args.backend.now c.go_along-gone.new.backend) c.self.view_is step

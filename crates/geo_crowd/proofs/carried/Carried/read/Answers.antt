@@ -1,5 +1,5 @@
 use Rattle.std.proofs.Common.{◌≡◌, true, sym, ap, subst, ◌∙◌, inr}
-use Rattle.geo_session.specs.Connections.{IsSettled}
+use Rattle.geo_dialogue.specs.Connections.{IsSettled}
 use Rattle.geo_crowd.specs.Carrying.{Carriage, Hears, IsCarried, MayHear, MayRead}
 use Rattle.geo_crowd.proofs.Moves.{carries_read}
 use Rattle.geo_crowd.proofs.carried.Carried.read.Goals as goal

@@ -2,7 +2,7 @@ use Rattle.std.proofs.Common.{true, ◌≡◌, ◌+◌, ◌≤◌, ◌++◌, ◌
 use Rattle.geo_history.specs.Keeping.{Story, story_of, made_by, flush_count, most_steps, ActsFor, DoesNothing, step_with}
 use Rattle.geo_site.specs.declared.event.Event.TheVariants.{Command}
 use Rattle.geo_site.specs.declared.event.Answer.TheVariants.{Replied}
-use Rattle.geo_grammar.specs.declared.request.Request.{Request}
+use Rattle.geo_requests.specs.declared.request.Request.{Request}
 use Rattle.geo_history.proofs.Calls.{refused_act, acts_for, made_after, few_flushes, two_copies}
 use Rattle.geo_history.proofs.parts.Parts.act_for.Goals as goal
 

@@ -1,30 +1,18 @@
-use Rattle.std.proofs.Common.{◌≡◌, ◌⊎◌, Ok, ℕ, max, ap, subst, ◌∙◌, rules}
-use Rattle.geo_grammar.specs.declared.reply.Reply.TheVariants.{OutOfMemory}
-use Rattle.geo_station.specs.Calls.{ActsBy}
-use Rattle.geo_station.specs.Receipts.{IsAnswer}
-use Rattle.geo_journal.specs.Marks.{Marked}
-use Rattle.geo_station.specs.Seats.{Seated, trimmed}
-use Rattle.geo_station.specs.Wholes.{AddsReply}
-use Rattle.geo_station.proofs.Closing.{mark_stays}
+use Rattle.std.proofs.Common.{◌≡◌}
+use Rattle.geo_requests.specs.declared.reply.Reply.{Reply}
+use Rattle.geo_station.specs.declared.refusal.SeatSpent.{SeatSpent}
+use Rattle.geo_session.specs.Seats.{AnswersCounted, RefusesCounted, asker}
+use Rattle.geo_session.proofs.Answered.{answer_beside, refusal_beside}
 use Rattle.geo_session.proofs.counted.CountedBackend.act.Goals as goal
 
-pub returns-in-Ok-clause-some : goal.returns-in-Ok-clause-some
-returns-in-Ok-clause-some g c =
-    let seat_is : c.trim.new.self ≡ trimmed c.args.self.now.seat = c.trim.ensures ∙ ap trimmed c.count.ensures.seat in (
-      c.count.ensures.clock,
-      record {
-        acts = record {
-          clock = record {
-            seen = c.now.result;
-            shown = (search rules);
-            later = c.max-now.ensures ∙ ap (λ (n : ℕ). max c.now.result n) c.count.ensures.last;
-          };
-          least = (search rules);
-          most = (search rules);
-          acts = subst (λ (s : Seated). ActsBy s c.act.new.seat c.max-now.result c.args.request (Ok c.in-Ok.reply)) seat_is c.in-Ok.ensures.acts;
-          adds = subst (λ (m : Marked). AddsReply m c.act.new.seat.mark c.max-now.result c.args.request (Ok c.in-Ok.reply)) (mark_stays c.args.self.now.seat) (subst (λ (s : Seated). AddsReply s.mark c.act.new.seat.mark c.max-now.result c.args.request (Ok c.in-Ok.reply)) seat_is c.in-Ok.ensures.adds);
-          answered = subst (λ (s : Seated). (c.in-Ok.reply ≡ OutOfMemory) ⊎ IsAnswer s.mark.number c.max-now.result c.args.request c.in-Ok.reply) seat_is c.in-Ok.ensures.answered;
-        };
-        counted = c.count.ensures.counts;
-      },
-    )
+pub returns-clause-some : goal.returns-clause-some
+returns-clause-some g c =
+    answer_beside (c.act_by.new.self.clock ≡ c.args.self.now.clock)
+    (λ (r : Reply). AnswersCounted (g.C.Clock.shows c.args.self.now.clock.now) (asker c.args.self.now.seat c.args.self.now.last c.args.self.now.counts)
+    (asker c.act_by.new.self.seat c.act_by.new.self.last c.act_by.new.self.counts) c.args.request r) c.act_by.result c.act_by.ensures.clock c.act_by.ensures.some
+
+pub returns-clause-none : goal.returns-clause-none
+returns-clause-none g c =
+    refusal_beside (c.act_by.new.self.clock ≡ c.args.self.now.clock)
+    (λ (spent : SeatSpent). RefusesCounted (g.C.Clock.shows c.args.self.now.clock.now) (asker c.args.self.now.seat c.args.self.now.last c.args.self.now.counts)
+    (asker c.act_by.new.self.seat c.act_by.new.self.last c.act_by.new.self.counts) c.args.request spent) c.act_by.result c.act_by.ensures.clock c.act_by.ensures.none

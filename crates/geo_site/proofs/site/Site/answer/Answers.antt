@@ -2,13 +2,12 @@ use Rattle.std.proofs.Common.{rules, ◌≡◌, ℕ, List, [], Bool, true, false
 use Rattle.std.specs.Prelude.{IfOk}
 use mir.Syntax.{w64}
 use mir.Val.{to_z, of_z}
-use Rattle.geo_grammar.specs.Requests.{is_of_one_key}
-use Rattle.geo_grammar.specs.Replies.{is_noreply}
-use Rattle.geo_grammar.specs.declared.request.Request.{Request}
+use Rattle.geo_requests.specs.Requests.{is_of_one_key, is_noreply}
+use Rattle.geo_requests.specs.declared.request.Request.{Request}
 use Rattle.geo_memcache.specs.Entries.{expiry_at}
 use Rattle.geo_memcache.specs.Asks.{request_of}
 use Rattle.geo_site.specs.Entries.{Answers, Counts, accesses, counted, evicted_on, flush_acts, is_done, touches_of, made_on}
-use Rattle.geo_grammar.specs.declared.reply.Reply.TheVariants.{Done}
+use Rattle.geo_requests.specs.declared.reply.Reply.TheVariants.{Done}
 use Rattle.geo_site.specs.Machine.{visible_in}
 use Rattle.geo_site.specs.Sites.{state_in, basis_in, counts_in, issued_in, touched_in, victim_in, reply_in, TellsBeside, FirstVictimFits, HasIssuedAfter, IssuesAs, FetchDoes, FetchTouchDoes}
 use Rattle.geo_site.specs.Changes.{is_change}

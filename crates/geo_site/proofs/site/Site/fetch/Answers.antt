@@ -1,8 +1,8 @@
 use Rattle.std.proofs.Common.{◌≡◌, ◌+◌, ◌-◌, List, arith, ap, ◌∙◌, subst, inl, length}
 use Rattle.std.specs.Prelude.{min}
-use Rattle.geo_grammar.specs.Limits.{most_number}
-use Rattle.geo_grammar.specs.declared.reply.Found.{Found}
-use Rattle.geo_grammar.specs.declared.reply.Reply.TheVariants.{Values}
+use Rattle.geo_requests.specs.Limits.{most_number}
+use Rattle.geo_requests.specs.declared.reply.Found.{Found}
+use Rattle.geo_requests.specs.declared.reply.Reply.TheVariants.{Values}
 use Rattle.geo_site.specs.Entries.{keys_found}
 use Rattle.geo_site.specs.Machine.{visible_in, Same, accessed}
 use Rattle.geo_site.specs.Sites.{state_in, fetched}

@@ -2,9 +2,9 @@ use Rattle.std.proofs.Common.{◌≡◌, ℕ, ◌+◌, ◌≤◌, List, length, 
 use Rattle.std.specs.List.{All}
 use Rattle.geo_stamp.specs.Vectors.{greatest_of}
 use Rattle.geo_stamp.specs.Stamps.{last_time}
-use Rattle.geo_grammar.specs.declared.reply.Found.{Found}
+use Rattle.geo_requests.specs.declared.reply.Found.{Found}
 use Rattle.geo_records.specs.Operations.{Record}
-use Rattle.geo_grammar.specs.declared.reply.Reply.TheVariants.{Values}
+use Rattle.geo_requests.specs.declared.reply.Reply.TheVariants.{Values}
 use Rattle.geo_site.specs.Entries.{keys_found, touches_of}
 use Rattle.geo_site.specs.Machine.{Same, accessed, issue_all}
 use Rattle.geo_site.proofs.Stocking.{issue_all_from}

@@ -1,7 +1,7 @@
 use Rattle.std.proofs.Common.{List, take, sym, subst, arith}
 use Rattle.std.specs.List.{All}
 use Rattle.std.proofs.lemmas.Result.{err_from_is_err_and}
-use Rattle.geo_grammar.specs.declared.reply.Found.{Found}
+use Rattle.geo_requests.specs.declared.reply.Found.{Found}
 use Rattle.geo_site.specs.Machine.{visible_in}
 use Rattle.geo_site.specs.Repeats.{Shows}
 use Rattle.geo_site.specs.Sites.{state_in}

@@ -1,7 +1,7 @@
 use Rattle.std.proofs.Common.{◌≡◌, ℕ, ◌++◌, cond, take, List, [], ap, ◌∙◌, sym, subst}
 use Rattle.std.specs.List.{All}
 use Rattle.std.proofs.lemmas.List.{append-nil}
-use Rattle.geo_grammar.specs.declared.reply.Found.{Found}
+use Rattle.geo_requests.specs.declared.reply.Found.{Found}
 use Rattle.geo_site.specs.Entries.{found_at, found_after, touched_of}
 use Rattle.geo_site.specs.Machine.{visible_in}
 use Rattle.geo_site.specs.Repeats.{Shows}

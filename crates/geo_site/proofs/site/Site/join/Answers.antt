@@ -15,7 +15,7 @@ use Rattle.geo_site.proofs.Writing.{knows_joined, knows_floors, knows_more, know
 use Rattle.geo_site.proofs.Taking.{left_rises, right_rises, all_listed}
 use Rattle.geo_site.proofs.Noting.{traced_joined}
 use Rattle.geo_site.specs.Noting.{is_listed}
-use Rattle.geo_delta.specs.Changes.{Traced}
+use Rattle.geo_delta.specs.Telling.{Tells}
 use Rattle.geo_site.proofs.Rows.{rows_on}
 use Rattle.geo_site.proofs.site.Site.join.Goals as goal
 
@@ -41,7 +41,7 @@ invariant_of-self c =
       rows = rows_on (length s.vector) _ s.heard many s.rows;
       floor_known = (λ i. knows_floor (vec i) (c.join_both.ensures.floor i)) ∙ knows_floors new f g (knows_floor_more v new up f s.floor_known) (knows_floor_more c.args.upto new other g c.requires.floor_known);
       covered = λ q. covered q;
-      traced = c.note_each.ensures (record_in c.join_both.new.versions) (λ q none. covered q) (subst (λ (es : List (List ℕ × Rec)). Traced (is_listed es) (record_in c.join_both.new.versions) s.changes) (sym c.as_slice-2.ensures)
+      traced = c.note_each.ensures (record_in c.join_both.new.versions) (λ q none. covered q) (subst (λ (es : List (List ℕ × Rec)). Tells (is_listed es) (record_in c.join_both.new.versions) s.changes) (sym c.as_slice-2.ensures)
           (traced_joined (floor_in c.join_both.new.versions) c.args.records (record_in s.versions) (record_in c.join_both.new.versions) s.changes c.join_both.ensures.records s.traced));
       ends = ends_joined s.earliest c.earliest_in-self.result (floor_in c.join_both.new.versions) (record_in s.versions) (listed_at c.args.records) (record_in c.join_both.new.versions) s.ends c.earliest_in-self.ensures.least
           (listed_ends c.earliest_in-self.result c.args.records (subst (λ (es : List (List ℕ × Rec)). All (EndFrom c.earliest_in-self.result) es) c.as_slice.ensures c.earliest_in-self.ensures.ends))

@@ -1,5 +1,5 @@
 use Rattle.std.proofs.Common.{◌∙◌, ap, arith, List, ℕ}
-use Rattle.geo_lattice.specs.Maps.{missing}
+use Rattle.geo_maps.specs.Maps.{missing}
 use Rattle.geo_records.specs.Keys.{same_key}
 use Rattle.geo_versions.specs.Maps.{Rec, rec_means}
 use Rattle.geo_site.specs.Machine.{knows_record}

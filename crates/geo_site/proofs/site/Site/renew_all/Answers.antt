@@ -1,5 +1,5 @@
 use Rattle.std.proofs.Common.{◌≡◌, ◌+◌, take, refl, sym, ap, ◌∙◌, subst, arith}
-use Rattle.geo_grammar.specs.declared.reply.Found.{Found}
+use Rattle.geo_requests.specs.declared.reply.Found.{Found}
 use Rattle.geo_records.specs.Operations.{Record}
 use Rattle.geo_records.specs.Operations.Act.{Touch}
 use Rattle.geo_stamp.specs.Vectors.{greatest_of}

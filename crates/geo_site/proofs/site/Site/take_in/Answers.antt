@@ -4,7 +4,7 @@ use Rattle.geo_site.specs.Sites.{state_in, delta_of, horizon_in, knows_all}
 use Rattle.geo_site.proofs.Stocking.{stock_same}
 use Rattle.geo_site.proofs.Taking.{take_from_same, take_alike}
 use Rattle.geo_versions.specs.Maps.{record_in, listed_at, HasRoomFor, Rec}
-use Rattle.geo_lattice.specs.Maps.{missing}
+use Rattle.geo_maps.specs.Maps.{missing}
 use Rattle.geo_records.specs.Keys.{same_key}
 use Rattle.geo_records.specs.Operations.{Record, record_joined}
 use Rattle.geo_site.proofs.Noting.{traced_same, covers_same, ends_same, named_same}

@@ -2,7 +2,7 @@ use Rattle.std.proofs.Common.{rules, ◌≡◌, ◌∙◌, sym, ap, arith, true�
 use Rattle.std.proofs.lemmas.List.{take_all}
 use Rattle.std.proofs.lemmas.List.Sorted.{ranks_by, answers_always}
 use Rattle.std.proofs.lemmas.Cmp.{nat_list_cmp_total}
-use Rattle.geo_lattice.proofs.Listing.{shown_of}
+use Rattle.geo_maps.proofs.Listing.{shown_of}
 use Rattle.geo_values.specs.Held.{by_key}
 use Rattle.geo_values.specs.Links.{links_in}
 use Rattle.geo_values.proofs.Digests.{shows, listed-more, listed-rising, listed-at}

@@ -1,5 +1,5 @@
 use Rattle.std.proofs.Common.{◌≡◌, take}
-use Rattle.geo_lattice.proofs.Listing.{shown_of}
+use Rattle.geo_maps.proofs.Listing.{shown_of}
 use Rattle.geo_values.specs.Held.{by_key}
 use Rattle.geo_values.proofs.Digests.{shows}
 use Rattle.geo_values.proofs.parts.Parts.held.Given as goal

@@ -1,4 +1,4 @@
-use Rattle.geo_lattice.specs.Maps.{get}
+use Rattle.geo_maps.specs.Maps.{get}
 use Rattle.geo_records.specs.Keys.{same_key}
 use Rattle.geo_versions.proofs.Listed.{rising_from_sorted, listed_whole}
 use Rattle.geo_versions.proofs.versions.Versions.copies.Goals as goal

@@ -1,6 +1,6 @@
 use Rattle.std.proofs.Common.{rules, ◌≡◌, ◌≤◌, ◌∙◌, ap, sym, subst, List, ℕ, IfSome}
 use Rattle.std.specs.List.{All}
-use Rattle.geo_lattice.specs.Maps.{get, IsColumn}
+use Rattle.geo_maps.specs.Maps.{get, IsColumn}
 use Rattle.geo_records.specs.Keys.{same_key}
 use Rattle.geo_records.specs.Operations.{above_both, record_joined}
 use Rattle.geo_versions.specs.Records.{Rec, rec_means, record_at, listed_at, LastsTo, lasting_of}

@@ -1,5 +1,5 @@
 use Rattle.std.proofs.Common.{◌≤◌, ◌∙◌, ap, subst, List, ℕ, IfSome}
-use Rattle.geo_lattice.specs.Maps.{get, IsColumn}
+use Rattle.geo_maps.specs.Maps.{get, IsColumn}
 use Rattle.geo_records.specs.Keys.{same_key}
 use Rattle.geo_versions.specs.Records.{Rec, rec_means, record_at, lasting_of}
 use Rattle.geo_versions.proofs.Cut.{changed_above, cut_normal}

@@ -1,5 +1,5 @@
 use Rattle.std.proofs.Common.{◌≡◌, None, sym, subst, List, ℕ}
-use Rattle.geo_lattice.specs.Maps.{IsColumn, meaning_or}
+use Rattle.geo_maps.specs.Maps.{IsColumn, meaning_or}
 use Rattle.std.specs.Map.{lookup}
 use Rattle.geo_records.specs.Keys.{same_key}
 use Rattle.geo_versions.specs.Records.{Rec, rec_means, LastsTo, mark_in, lasting_of}

@@ -1,5 +1,5 @@
 use Rattle.std.proofs.Common.{◌≡◌, ◌∙◌, ap, sym, subst, List, ℕ, IfSome, ◌≤◌}
-use Rattle.geo_lattice.specs.Maps.{get, IsColumn}
+use Rattle.geo_maps.specs.Maps.{get, IsColumn}
 use Rattle.geo_records.specs.Keys.{same_key}
 use Rattle.geo_records.specs.Operations.{Record, above_both}
 use Rattle.geo_versions.specs.Records.{Rec, record_at, rec_means, lasting_of}

@@ -1,6 +1,6 @@
 use Rattle.std.proofs.Common.{◌∙◌, ap}
 use Rattle.std.specs.Option.{option_and_then}
-use Rattle.geo_lattice.specs.Maps.{get}
+use Rattle.geo_maps.specs.Maps.{get}
 use Rattle.geo_records.specs.Keys.{same_key}
 use Rattle.geo_versions.specs.Records.{rec_since}
 use Rattle.geo_versions.proofs.Listed.{rising_from_sorted, listed_since, all_filled}

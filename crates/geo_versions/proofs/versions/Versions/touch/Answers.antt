@@ -1,5 +1,5 @@
 use Rattle.std.proofs.Common.{◌≡◌, ◌∙◌, sym, ap, subst, cond}
-use Rattle.geo_lattice.specs.Maps.{IsColumn}
+use Rattle.geo_maps.specs.Maps.{IsColumn}
 use Rattle.geo_records.specs.Keys.{same_key}
 use Rattle.geo_records.specs.Operations.{Record, above_both, record_joined}
 use Rattle.geo_versions.specs.Records.{Rec, rec_means, record_at, lasting_of}

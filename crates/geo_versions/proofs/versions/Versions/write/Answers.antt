@@ -1,5 +1,5 @@
 use Rattle.std.proofs.Common.{◌≡◌, ◌≤◌, ◌∙◌, sym, ap, subst, Some, arith}
-use Rattle.geo_lattice.specs.Maps.{IsColumn}
+use Rattle.geo_maps.specs.Maps.{IsColumn}
 use Rattle.geo_records.specs.Operations.{Record, above_both}
 use Rattle.geo_versions.specs.Records.{Rec, rec_means, record_at, lasting_of}
 use Rattle.geo_versions.proofs.Cut.{one_joined_normal, none_joined_is, write_above, write_below}

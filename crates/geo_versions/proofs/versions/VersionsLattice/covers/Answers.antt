@@ -1,5 +1,5 @@
 use Rattle.std.proofs.Common.{rules, ◌≡◌, ◌∙◌, sym, ap, List, ℕ, true≢false}
-use Rattle.geo_lattice.specs.Maps.{get}
+use Rattle.geo_maps.specs.Maps.{get}
 use Rattle.geo_records.specs.Keys.{same_key}
 use Rattle.geo_records.proofs.Normal.{same_normal}
 use Rattle.geo_records.specs.Operations.{above_both, record_joined}

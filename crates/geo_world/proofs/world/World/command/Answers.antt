@@ -1,5 +1,5 @@
 use Rattle.std.proofs.Common.{◌-◌, None, length, refl, arith}
-use Rattle.geo_grammar.specs.declared.reply.Reply.TheVariants.{OutOfMemory}
+use Rattle.geo_requests.specs.declared.reply.Reply.TheVariants.{OutOfMemory}
 use Rattle.geo_world.proofs.Alone.{does_alone, commands}
 use Rattle.geo_world.proofs.Worlds.{there_is, read_is}
 use Rattle.geo_world.proofs.Answering.{command_lawful, command_agrees}

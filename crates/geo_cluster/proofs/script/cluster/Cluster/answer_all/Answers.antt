@@ -1,7 +1,7 @@
 use Rattle.std.proofs.Common.{arith, sym, ap, subst, ◌∙◌, ◌≡◌, ◌++◌, ◌∷◌, false, List, length}
 use Rattle.std.specs.Vec.Iter.{into_iter_items}
 use Rattle.geo_grammar.specs.declared.item.Item.{Item}
-use Rattle.geo_lattice.proofs.Showing.{rest_more}
+use Rattle.geo_maps.proofs.Showing.{rest_more}
 use Rattle.geo_cluster.specs.Standing.{AnswersFor}
 use Rattle.geo_cluster.proofs.Feeding.{answers_more, answers_fail}
 use Rattle.geo_cluster.proofs.script.cluster.Cluster.answer_all.Goals as goal

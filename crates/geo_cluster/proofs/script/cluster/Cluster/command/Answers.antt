@@ -1,6 +1,6 @@
 use Rattle.std.proofs.Common.{Some, refl, sym, ap, ◌∙◌, ◌≡◌, ◌++◌}
 use Rattle.geo_grammar.specs.Replies.{answer_bytes}
-use Rattle.geo_grammar.specs.declared.request.Request.{Request}
+use Rattle.geo_requests.specs.declared.request.Request.{Request}
 use Rattle.geo_cluster.proofs.Feeding.{replied, same_request}
 use Rattle.geo_cluster.proofs.script.cluster.Cluster.command.Goals as goal
 

@@ -1,0 +1,4 @@
+pub mod Lists
+pub mod Talks
+pub mod Pieces
+pub mod Going

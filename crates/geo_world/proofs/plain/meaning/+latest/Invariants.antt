@@ -1,5 +1,0 @@
-use Rattle.std.proofs.Common.{length}
-use Rattle.geo_world.proofs.plain.meaning.+latest.Given as goal
-
-abbrev pub decreases-latest : goal.decreases-latest
-decreases-latest l = length l.ops.now

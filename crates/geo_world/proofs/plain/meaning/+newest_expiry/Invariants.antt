@@ -1,5 +1,0 @@
-use Rattle.std.proofs.Common.{length}
-use Rattle.geo_world.proofs.plain.meaning.+newest_expiry.Given as goal
-
-abbrev pub decreases-newest_expiry : goal.decreases-newest_expiry
-decreases-newest_expiry l = length l.ops.now
